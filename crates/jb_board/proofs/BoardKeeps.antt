@@ -1,6 +1,7 @@
 -- Each kind of step keeps the rule of the board.
 use Rattle.std.proofs.Common.{◌≡◌, ℕ, ◌≤◌, ◌≢◌, List, [], ◌∷◌, ◌++◌, max, slice_index, slice_set, sym, refl, subst, ⊎_elim, le_refl, le_trans, arith}
 use Rattle.std.proofs.Math.Nat.{le-max_left, le-max_right, max-le}
+use Rattle.std.proofs.lemmas.List.{set-get_or}
 use mathlib.Core.Option.{some, none, some-ne-none}
 use lib.ListN.{get_elem?}
 use Rattle.atomic_table.specs.Table.{State, Me, keeps, step, Allows, Splits, Joins, Enters as Arrivals}
@@ -49,38 +50,32 @@ allows slots id me word f told goes s kept len at small =
       subst (λ ws. told (slice_index ws word) (g.view, me.1)) same g.tells,
     )
 
+-- a load leaves the counts, and lifts the seat's view within them
+loads : (slots id : ℕ) (me : Me (Unit {0}) Front) (word : ℕ) (told : ℕ → Me (Unit {0}) Front → Type 0)
+    → ((now : Front) → InOrder now → IsWithin me.0 now → (view : Front) × IsWithin view now × told (slice_index (words_of_counts now) word) (view, me.1))
+    → Allows Holds slots id me word (λ n. n) told
+loads slots id me word told sees = allows slots id me word (λ n. n) told (λ now ordered within.
+    let saw = sees now ordered within in record {
+      next = now;
+      view = saw.0;
+      counts = set-get_or (words_of_counts now) word 0;
+      ordered = ordered;
+      rises = (le_refl now.settled, le_refl now.taken, le_refl now.stopped);
+      within = saw.1;
+      tells = saw.2;
+    })
+
 pub loads_settled : (slots id : ℕ) (me : Me (Unit {0}) Front) → Allows Holds slots id me 2 (λ n. n) (SeesSettled (step slots 2 0 0 none) me)
-loads_settled slots id me = allows slots id me 2 (λ n. n) (SeesSettled (step slots 2 0 0 none) me) (λ now ordered within. record {
-  next = now;
-  view = saw_settled me.0 now.settled;
-  counts = refl;
-  ordered = ordered;
-  rises = (le_refl now.settled, le_refl now.taken, le_refl now.stopped);
-  within = (le_refl now.settled, max-le within.1 ordered.0, max-le within.2 (le_trans ordered.0 ordered.1));
-  tells = (within.0, refl);
-})
+loads_settled slots id me = loads slots id me 2 (SeesSettled (step slots 2 0 0 none) me) (λ now ordered within.
+    (saw_settled me.0 now.settled, (le_refl now.settled, max-le within.1 ordered.0, max-le within.2 (le_trans ordered.0 ordered.1)), (within.0, refl)))
 
 pub loads_taken : (slots id : ℕ) (me : Me (Unit {0}) Front) → Allows Holds slots id me 1 (λ n. n) (SeesTaken (step slots 1 0 0 none) me)
-loads_taken slots id me = allows slots id me 1 (λ n. n) (SeesTaken (step slots 1 0 0 none) me) (λ now ordered within. record {
-  next = now;
-  view = saw_taken me.0 now.taken;
-  counts = refl;
-  ordered = ordered;
-  rises = (le_refl now.settled, le_refl now.taken, le_refl now.stopped);
-  within = (within.0, le_refl now.taken, max-le within.2 ordered.1);
-  tells = (within.1, refl);
-})
+loads_taken slots id me = loads slots id me 1 (SeesTaken (step slots 1 0 0 none) me) (λ now ordered within.
+    (saw_taken me.0 now.taken, (within.0, le_refl now.taken, max-le within.2 ordered.1), (within.1, refl)))
 
 pub loads_stopped : (slots id : ℕ) (me : Me (Unit {0}) Front) → Allows Holds slots id me 0 (λ n. n) (SeesStopped (step slots 0 0 0 none) me)
-loads_stopped slots id me = allows slots id me 0 (λ n. n) (SeesStopped (step slots 0 0 0 none) me) (λ now ordered within. record {
-  next = now;
-  view = saw_stopped me.0 now.stopped;
-  counts = refl;
-  ordered = ordered;
-  rises = (le_refl now.settled, le_refl now.taken, le_refl now.stopped);
-  within = (within.0, within.1, le_refl now.stopped);
-  tells = (within.2, refl);
-})
+loads_stopped slots id me = loads slots id me 0 (SeesStopped (step slots 0 0 0 none) me) (λ now ordered within.
+    (saw_stopped me.0 now.stopped, (within.0, within.1, le_refl now.stopped), (within.2, refl)))
 
 -- where one count is raised to k, the larger of two counts stays the larger
 max_within : {a b : ℕ} (k : ℕ) → a ≤ b → max a k ≤ max b k

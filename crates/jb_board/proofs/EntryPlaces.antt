@@ -1,5 +1,8 @@
 -- Entries at their places, in histories that begin with others.
-use Rattle.std.proofs.Common.{◌≡◌, ℕ, zero, suc, ◌+◌, List, [], ◌∷◌, ◌++◌, length, Some, slice_get, sym, refl, ap, ◌∙◌, subst, arith, append_assoc, append-nil}
+use Rattle.std.proofs.Common.{All, ◌≡◌, ℕ, zero, suc, ◌+◌, List, [], ◌∷◌, ◌++◌, length, Some, slice_get, sym, refl, ap, ◌∙◌, subst, arith, append_assoc, append-nil}
+use Rattle.std.proofs.Math.Seq.{take-append_seam}
+use Rattle.std.proofs.lemmas.List.Elements.{All-take}
+use Rattle.std.proofs.lemmas.Option.{get_or_from_slice_get, slice_get_within}
 use mathlib.Core.List.{IsPrefix}
 use Rattle.jb_board.specs.HistoryRule.{with_places, StandsIn}
 
@@ -26,9 +29,14 @@ module _ {E : Type 0} where
   pub placed_on : (xs ys : List E) → IsPrefix xs ys → (e : ℕ × E) → StandsIn xs e → StandsIn ys e
   placed_on xs ys p e at = subst (λ l. slice_get l e.0 ≡ Some e.1) p.1 (get_before xs p.0 e.0 e.1 at)
 
-  placed_snoc : (n : ℕ) (es : List E) (e : E) → with_places n (es ++ e ∷ []) ≡ with_places n es ++ (n + length es, e) ∷ []
+  pub placed_snoc : (n : ℕ) (es : List E) (e : E) → with_places n (es ++ e ∷ []) ≡ with_places n es ++ (n + length es, e) ∷ []
   placed_snoc n [] e = ap (λ k. (k, e) ∷ []) (omega arith)
   placed_snoc n (x ∷ xs) e = ap (λ l. (n, x) ∷ l) (placed_snoc (suc n) xs e ∙ ap (λ k. with_places (suc n) xs ++ (k, e) ∷ []) (omega arith))
 
-  pub placed_end : (es : List E) (e : E) → with_places 0 (es ++ e ∷ []) ≡ with_places 0 es ++ (length es, e) ∷ []
-  placed_end es e = placed_snoc 0 es e ∙ ap (λ k. with_places 0 es ++ (k, e) ∷ []) (omega arith)
+  -- what holds of each holds of the one that stands at a place
+  pub at-place : (P : E → Type 0) (xs : List E) (k : ℕ) (x : E) → StandsIn xs (k, x) → All P xs → P x
+  at-place P xs k x stands each = subst P (get_or_from_slice_get xs k x x stands) (each k x (slice_get_within xs k x stands))
+
+  -- and of those of a first part
+  pub all-first : (P : E → Type 0) (xs ys : List E) → IsPrefix xs ys → All P ys → All P xs
+  all-first P xs ys p each = subst (All P) (take-append_seam xs p.0) (All-take P (length xs) (xs ++ p.0) (subst (All P) (sym p.1) each))

@@ -1,6 +1,7 @@
 -- Each kind of step keeps the rule of a history.
-use Rattle.std.proofs.Common.{All, Some, slice_get, ◌≡◌, ℕ, zero, suc, ◌+◌, ◌≢◌, ◌==◌, true, false, true≢false, List, [], ◌∷◌, ◌++◌, length, set, sym, refl, ap, ◌∙◌, subst, ⊎_elim, arith, length-append}
+use Rattle.std.proofs.Common.{All, Some, slice_get, ◌≡◌, ℕ, zero, suc, ◌+◌, ◌≢◌, ◌==◌, true, List, [], ◌∷◌, ◌++◌, length, set, sym, refl, ap, ◌∙◌, subst, ⊎_elim, arith, length-append}
 use Rattle.std.specs.List.{sum_by}
+use Rattle.std.proofs.lemmas.List.{nil_from_length}
 use Rattle.std.proofs.lemmas.List.Sums.{sum_by-append, sum_by-cons}
 use mathlib.Core.List.{IsPrefix}
 use mathlib.Core.Option.{some, none, some-ne-none, some-injective}
@@ -10,10 +11,10 @@ use Rattle.atomic_table.specs.Table.{State, Me, keeps, step, Allows, Splits, Joi
 use Rattle.atomic_table.proofs.Lists.{at_set, at_snoc, set_again}
 use Rattle.jb_board.specs.declared.view.View.{View}
 use Rattle.jb_board.specs.HistoryRule.{with_places, StandsIn, Knows, HasOneHistory}
-use Rattle.jb_board.proofs.EntryPlaces.{get_last, placed_end, placed_on, prefix_longer, prefix_nil, prefix_same}
+use Rattle.jb_board.proofs.EntryPlaces.{get_last, placed_on, placed_snoc, prefix_longer, prefix_nil, prefix_same}
 use Rattle.std.proofs.lemmas.List.Elements.{All-append, All-nil, All-push, All-weaker}
 use Rattle.jb_board.specs.HistorySteps.{AddsEntry, Looks, Sees}
-use Rattle.jb_board.specs.View.{view, writer, nobody, added, saw, without_mine, only_mine, only_seen, told_by}
+use Rattle.jb_board.specs.View.{writer, nobody, added, saw, without_mine, only_mine, only_seen, told_by}
 
 -- a sum over views of which one is another
 sum_set : {X : Type 0} (f : X → ℕ) (xs : List X) (i : ℕ) (v w : X) → get_elem? xs i ≡ some v → sum_by f (set xs i w) + f v ≡ sum_by f xs + f w
@@ -24,13 +25,6 @@ sum_set f (x ∷ xs) (suc i) v w at = let r = sum_set f xs i v w at in omega (ar
 ones : {X : Type 0} (xs : List X) → sum_by (λ (x : X). 1) xs ≡ length xs
 ones [] = refl
 ones (x ∷ xs) = let s = sum_by-cons (λ y. 1) x xs in let r = ones xs in omega (arith, s, r)
-
-none_left : {X : Type 0} (f : X → ℕ) (xs : List X) → length xs ≡ 0 → sum_by f xs ≡ 0
-none_left f [] is = refl
-none_left f (x ∷ xs) is = absurd (omega (arith, is))
-
-off : false ≡ true → ⊥
-off e = true≢false (sym e)
 
 module _ {E : Type 0} where
   -- ---- steps
@@ -47,19 +41,15 @@ module _ {E : Type 0} where
 
   -- what was made for all seats but one
   others : (views : List (View E)) (id : ℕ) (v : View E) → get_elem? views id ≡ some v → (rest : List (ℕ × E)) × ((h : ℕ × E → ℕ) → counted h v + sum_by h rest ≡ sum_by (counted h) views)
-  others [] id v at = absurd (some-ne-none v (sym at))
-  others (u ∷ us) zero v at =
-      let more = all_made us in
-      (more.0, λ h. let m = more.1 h in let s = sum_by-cons (counted h) u us in let e : counted h u ≡ counted h v = ap (counted h) (some-injective u v at) in omega (arith, m, s, e))
-  others (u ∷ us) (suc id) v at =
-      let more = others us id v at in
-      (u.mine ++ more.0, λ h. let a = sum_by-append h u.mine more.0 in let m = more.1 h in let s = sum_by-cons (counted h) u us in omega (arith, a, m, s))
+  others views id v at =
+      let more = all_made (set views id nobody) in
+      (more.0, λ h. let m = more.1 h in let s = sum_set (counted h) views id v nobody at in omega (arith, m, s))
 
   -- the seats fit where one view is another
-  knows_set : (keeper : ℕ) (log now : List E) (views : List (View E)) (id : ℕ) (w : View E)
+  knows_set : (keeper : ℕ) (now : List E) (views : List (View E)) (id : ℕ) (w : View E)
       → ((j : ℕ) (u : View E) → j ≢ id → get_elem? views j ≡ some u → Knows keeper now j u) → Knows keeper now id w
       → (j : ℕ) (u : View E) → get_elem? (set views id w) j ≡ some u → Knows keeper now j u
-  knows_set keeper log now views id w others mine j u e =
+  knows_set keeper now views id w others mine j u e =
       ⊎_elim
       (λ (x : (j ≡ id) × (w ≡ u)). subst (λ (y : ℕ × View E). Knows keeper now y.0 y.1) (λ i. (sym x.0 i, x.1 i)) mine)
       (λ (x : (j ≢ id) × (get_elem? views j ≡ some u)). others j u x.0 x.1)
@@ -71,7 +61,7 @@ module _ {E : Type 0} where
   same_made views id v w kept at fits made = record {
     keeper = kept.keeper;
     log = kept.log;
-    fits = knows_set kept.keeper kept.log kept.log views id w (λ j u apart e. kept.fits j u e) fits;
+    fits = knows_set kept.keeper kept.log views id w (λ j u apart e. kept.fits j u e) fits;
     made = λ h. let s = sum_set (counted h) views id v w at in let m = made h in let k = kept.made h in omega (arith, s, m, k);
   }
 
@@ -86,7 +76,7 @@ module _ {E : Type 0} where
       one (suc j) u e = absurd (some-ne-none u (sym e))
 
   nobody_fits : (keeper : ℕ) (log : List E) (j : ℕ) → Knows keeper log j nobody
-  nobody_fits keeper log j = record { seen = prefix_nil log; told = prefix_nil log; whole = λ k. absurd (off k); stands = All-nil _ }
+  nobody_fits keeper log j = record { seen = prefix_nil log; told = prefix_nil log; whole = λ k. absurd (cc); stands = All-nil _ }
 
   one_more : (views : List (View E)) (v : View E) (kept : HasOneHistory views) → ((j : ℕ) → Knows kept.keeper kept.log j v) → v.mine ≡ [] → HasOneHistory (views ++ v ∷ [])
   one_more views v kept fits empty = record {
@@ -113,7 +103,7 @@ module _ {E : Type 0} where
         record {
           keeper = kept.keeper;
           log = more;
-          fits = knows_set kept.keeper kept.log more s.views id w
+          fits = knows_set kept.keeper more s.views id w
               (λ j u apart e'. let f = kept.fits j u e' in record {
                 seen = prefix_longer _ _ (e ∷ []) f.seen;
                 told = prefix_longer _ _ (e ∷ []) f.told;
@@ -129,10 +119,10 @@ module _ {E : Type 0} where
           made = λ h.
               let s' = sum_set (counted h) s.views id v w at in
               let a = sum_by-append h v.mine ((length v.seen, e) ∷ []) in
-              let p : sum_by h (with_places 0 more) ≡ sum_by h (with_places 0 kept.log ++ (length kept.log, e) ∷ []) = ap (sum_by h) (placed_end kept.log e) in
-              let b = sum_by-append h (with_places 0 kept.log) ((length kept.log, e) ∷ []) in
+              let p = ap (sum_by h) (placed_snoc 0 kept.log e) in
+              let b = sum_by-append h (with_places 0 kept.log) ((0 + length kept.log, e) ∷ []) in
               let k = kept.made h in
-              let same : h (length v.seen, e) ≡ h (length kept.log, e) = ap (λ l. h (length l, e)) mine.1 in
+              let same : h (length v.seen, e) ≡ h (0 + length kept.log, e) = ap (λ k. h (k, e)) (omega (arith, ap length mine.1)) in
               omega (arith, s', a, p, b, k, same);
         },
         (e, refl, refl),
@@ -163,7 +153,7 @@ module _ {E : Type 0} where
 
   pub splits_sights : (id : ℕ) (v : View E) → Splits Holds id v v (only_seen v)
   splits_sights id v s kept at = subst (λ views. HasOneHistory (views ++ only_seen v ∷ [])) (sym (set_again s.views id v at))
-      (one_more s.views (only_seen v) kept (λ j. record { seen = (kept.fits id v at).seen; told = prefix_nil kept.log; whole = λ k. absurd (off k); stands = All-nil _ }) refl)
+      (one_more s.views (only_seen v) kept (λ j. record { seen = (kept.fits id v at).seen; told = prefix_nil kept.log; whole = λ k. absurd (cc); stands = All-nil _ }) refl)
 
   pub splits_entries : (id : ℕ) (v : View E) → Splits Holds id v (without_mine v) (only_mine v)
   splits_entries id v s kept at =
@@ -172,8 +162,8 @@ module _ {E : Type 0} where
         log = kept.log;
         fits = λ j u e.
             ⊎_elim
-            (knows_set kept.keeper kept.log kept.log s.views id (without_mine v) (λ i x apart e'. kept.fits i x e') record { seen = f.seen; told = f.told; whole = f.whole; stands = All-nil _ } j u)
-            (λ (same : only_mine v ≡ u). subst (λ x. Knows kept.keeper kept.log j x) same record { seen = prefix_nil kept.log; told = prefix_nil kept.log; whole = λ k. absurd (off k); stands = f.stands })
+            (knows_set kept.keeper kept.log s.views id (without_mine v) (λ i x apart e'. kept.fits i x e') record { seen = f.seen; told = f.told; whole = f.whole; stands = All-nil _ } j u)
+            (λ (same : only_mine v ≡ u). subst (λ x. Knows kept.keeper kept.log j x) same record { seen = prefix_nil kept.log; told = prefix_nil kept.log; whole = λ k. absurd (cc); stands = f.stands })
             (at_snoc (set s.views id (without_mine v)) (only_mine v) u j e);
         made = λ h.
             let a = sum_by-append (counted h) (set s.views id (without_mine v)) (only_mine v ∷ []) in
@@ -190,8 +180,8 @@ module _ {E : Type 0} where
       let g = kept.fits other w theirs in record {
         keeper = kept.keeper;
         log = kept.log;
-        fits = knows_set kept.keeper kept.log kept.log (set s.views id b) other nobody
-            (λ j u _ e. knows_set kept.keeper kept.log kept.log s.views id b (λ i x _ e'. kept.fits i x e') record { seen = f.seen; told = g.seen; whole = f.whole; stands = All-append (StandsIn kept.log) v.mine w.mine f.stands g.stands } j u e)
+        fits = knows_set kept.keeper kept.log (set s.views id b) other nobody
+            (λ j u _ e. knows_set kept.keeper kept.log s.views id b (λ i x _ e'. kept.fits i x e') record { seen = f.seen; told = g.seen; whole = f.whole; stands = All-append (StandsIn kept.log) v.mine w.mine f.stands g.stands } j u e)
             (nobody_fits kept.keeper kept.log other);
         made = λ h.
             let a = sum_set (counted h) s.views id v b at in
@@ -219,8 +209,8 @@ module _ {E : Type 0} where
       let e = length-append s.mine m.mine in
       let n : length s.mine ≡ 0 = ap length empty in
       let l : length s.seen ≡ length log = ap length same in
-      let left = none_left h sees.rest (omega (arith, number, a, b, c, d, e, n, l, many)) in
-      let own = none_left h s.mine n in
+      let left : sum_by h sees.rest ≡ 0 = ap (sum_by h) (nil_from_length sees.rest (omega (arith, number, a, b, c, d, e, n, l, many))) in
+      let own : sum_by h s.mine ≡ 0 = ap (sum_by h) empty in
       let both = sum_by-append h s.mine m.mine in
       let all = sees.made h in
       let to : sum_by h (with_places 0 s.seen) ≡ sum_by h (with_places 0 log) = ap (λ es. sum_by h (with_places 0 es)) same in

@@ -1,7 +1,6 @@
 -- Each call leaves the account sound.
-use Rattle.std.proofs.Common.{◌≡◌, ℕ, ◌+◌, ◌≤◌, Bool, List, ◌∷◌, [], length, sum, Some, ap, le_refl, arith, ◌-◌, ◌^◌, ◌<◌, true, false, nat_lt, ◌++◌, drop, All, None, is_some, sym, refl, subst, ◌∙◌, IfSome, unwrap_or, option_map, nat_cmp, drop_of_length-le, sum_by}
+use Rattle.std.proofs.Common.{vec_len, vec_capacity, ◌≡◌, ℕ, ◌+◌, ◌≤◌, Bool, List, ◌∷◌, [], length, sum, Some, ap, le_refl, arith, ◌-◌, ◌^◌, ◌<◌, true, false, nat_lt, ◌++◌, drop, All, None, is_some, sym, refl, subst, ◌∙◌, IfSome, unwrap_or, nat_cmp, drop_of_length-le, sum_by}
 use Rattle.std.proofs.lemmas.Map.Entries.{sum_by-remove_entry}
-use Rattle.std.specs.BTreeMap.{is_at}
 use Rattle.std.specs.Map.{lookup, remove_entry, values_of}
 use Rattle.std.proofs.lemmas.Bool.Decides.{nat_tests}
 use Rattle.std.proofs.lemmas.List.{length-append, length-drop, drop-append-le, drop-drop}
@@ -17,13 +16,17 @@ use Rattle.jb_handle.proofs.Tickets.{tickets-append}
 use Rattle.jb_cost.specs.Credits.{Covers}
 use Rattle.jb_cost.proofs.WithinCredits.{covers-append, covers-weight}
 use Rattle.jb_core.proofs.AcceptedEvents.{found-none, first-false, still-up}
-use Rattle.jb_core.proofs.MapEntries.{sum-insert, length-insert_entry, length-remove_entry}
+use Rattle.jb_core.proofs.MapEntries.{sum-insert, sum-remove, length-insert_entry, length-remove_entry}
 use Rattle.jb_deck.specs.declared.done.Entry.{Entry}
-use Rattle.jb_deck.specs.Done.{Follow, start_of}
 use Rattle.jb_book.specs.declared.fault.BeginFault.TheVariants.{Aborted, Closed, Busy, TooManyCredits, Full}
 use Rattle.jb_book.specs.Account.{Account, InLine, IsAccountSound, IsLost, granted_to, dropped_of, queued, taken_all, settled_to, failed_of, has_no_room, begin_refusal, IsOpenFor, CanTake, Settles, touched_in}
 use Rattle.jb_book.specs.Shadow.{credits_at, lost, reserved_in, settled_by, took}
 use Rattle.jb_book.proofs.TrailEntries.{follow-length, follow-on}
+use Rattle.std.specs.BTreeMap.{IsOrdered, is_at}
+use Rattle.jb_deck.specs.Done.{Follow, least_after, start_of}
+use Rattle.jb_book.specs.Book.{account_of, IsBookKept}
+use Rattle.jb_book.specs.Origin.{AreStops, Begun}
+use Rattle.jb_book.specs.declared.book.Book.TheInside.{Inside}
 use Rattle.std.specs.FinMap as map
 
 -- ---- the credits of the seats: without a seat, its credits are left over
@@ -31,10 +34,7 @@ use Rattle.std.specs.FinMap as map
 module _ (es : List (ℕ × ℕ)) (seat : ℕ) where
   -- without a seat, its credits are left over
   pub sum-gone : (credits : ℕ) → lookup (is_at (nat_cmp seat)) es ≡ Some credits → sum (values_of (remove_entry (is_at (nat_cmp seat)) es)) + credits ≡ sum (values_of es)
-  sum-gone credits there =
-      let all = sum_by-remove_entry (λ (x : ℕ). x) (is_at (nat_cmp seat)) es in
-      let before : unwrap_or (option_map (λ (x : ℕ). x) (lookup (is_at (nat_cmp seat)) es)) 0 ≡ credits = ap (λ found. unwrap_or (option_map (λ (x : ℕ). x) found) 0) there in
-      omega (arith, all, before)
+  sum-gone credits there = sum-remove (λ (x : ℕ). x) (is_at (nat_cmp seat)) es credits there
 
   -- and no more than before
   pub sum-less : sum (values_of (remove_entry (is_at (nat_cmp seat)) es)) ≤ sum (values_of es)
@@ -185,3 +185,22 @@ module _ (a : Account) (sound : IsAccountSound a) where
       let all = covers-weight (drop (a.shadow.taken - a.shadow.settled) a.shadow.credits) a.shadow.queue line.covered in
       let parts = sum_by-take-drop (λ (x : ℕ). x) a.shadow.credits (a.shadow.taken - a.shadow.settled) in
       omega arith
+
+-- ---- how a book is kept, said of the account that it stands for
+
+pub kept-by : {S : Type 0} (begun : Begun) (t : Inside S) (a : Account) → account_of t ≡ a → IsAccountSound a → t.open_sum ≡ sum (values_of a.shadow.seats) → t.line_sum ≡ sum a.shadow.credits → t.least ≡ least_after 0 a.trail → t.least ≤ 2 ^ 32
+    → vec_len t.trail + (t.next - t.settled) ≤ vec_capacity t.trail → IsOrdered nat_cmp t.seats → AreStops begun a.shadow.queue → IsBookKept begun t
+kept-by begun t a is sound open_sum line_sum least narrow room ordered stops = record {
+  sound = subst IsAccountSound (sym is) sound;
+  open_sum = open_sum ∙ ap (λ (b : Account). sum (values_of b.shadow.seats)) (sym is);
+  line_sum = line_sum ∙ ap (λ (b : Account). sum b.shadow.credits) (sym is);
+  least = least ∙ ap (λ (b : Account). least_after 0 b.trail) (sym is);
+  narrow = narrow;
+  room = room;
+  ordered = ordered;
+  stops = subst (λ (b : Account). AreStops begun b.shadow.queue) (sym is) stops;
+}
+
+-- one more handle stops with such words
+pub stops-more : (begun : Begun) (queue : List Stopped) (next : ℕ) (words : WordMap) → AreStops begun queue → begun.stops words → AreStops begun (queue ++ record { ticket = next; words = words } ∷ [])
+stops-more begun queue next words all one = All-push (λ h. begun.stops h.words) queue (record { ticket = next; words = words }) all one

@@ -9,7 +9,7 @@ use Rattle.jb_handle.specs.declared.shape.Shape.{Shape}
 use Rattle.jb_handle.specs.declared.stopped.Stopped.{Stopped}
 use Rattle.jb_handle.specs.HeldChanges.{Fits}
 use Rattle.jb_cost.specs.Credits.{IsMost}
-use Rattle.jb_cost.specs.Cut.{RisesTo, IsCut}
+use Rattle.jb_cost.specs.Cut.{IsCut}
 use Rattle.jb_cost.specs.Pieces.{joined}
 use Rattle.jb_plan.specs.Costs.{geometry_of}
 use Rattle.jb_deck.specs.declared.done.Entry.{Entry}
@@ -26,6 +26,7 @@ use Rattle.jb_core.specs.Lives.{Log, settled_now, handles_of_order, stop_order}
 use Rattle.jb_core.specs.Machine.{Machine, after_event}
 use Rattle.jb_core.proofs.WholeLives.{whole}
 use Rattle.jb_book.specs.MachineTie.{Tied, touches_of}
+use Rattle.jb_book.proofs.CommitEntries.{cut-within}
 use Rattle.jb_book.proofs.TrailEntries.{follow-length}
 use Rattle.jb_book.proofs.Accounts.{begun-sound, dropped-sound, queued-sound, shut-sound}
 use Rattle.jb_book.proofs.SeatTies.{tied-opens, tied-stops, tied-drops, tied-drops-none}
@@ -87,13 +88,9 @@ groups-in first least past before (g ∷ groups) rest (e ∷ es) long follow are
 
 -- ---- a Vec
 
-rises-few : (n a : ℕ) (bs : List ℕ) → RisesTo n a bs → a + length bs ≤ n
-rises-few n a [] is = omega (arith, is)
-rises-few n a (b ∷ bs) is = let rest = rises-few n b bs is.1 in omega (arith, rest)
-
 pub cut-few : (n : ℕ) (bounds : List ℕ) → IsCut n bounds → length bounds ≤ n + 1
 cut-few n [] cut = absurd cut
-cut-few n (a ∷ bs) cut = let rest = rises-few n a bs cut.1 in omega (arith, rest)
+cut-few n (a ∷ bs) cut = let all = cut-within n (a ∷ bs) 0 cut (omega arith) in omega (arith, all.1)
 
 -- a Vec of these numbers, where there is any Vec
 abbrev pub vec_of : Vec Entry → (xs : List ℕ) → length xs < 2 ^ 62 → Vec ℕ

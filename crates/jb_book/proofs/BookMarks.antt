@@ -1,5 +1,5 @@
 -- Marks that show all that a book has settled: each call keeps that.
-use Rattle.std.proofs.Common.{◌≡◌, ℕ, true, false, ◌+◌, ◌<◌, List, [], ◌∷◌, ◌++◌, length, All, Option, Some, None, nat_le, if◌then◌else◌, Result, Ok, Err, IfNone, IfSome, OnOk, OnErr, inl, inr, refl, ap, sym, subst, ◌∙◌, arith, length-append}
+use Rattle.std.proofs.Common.{◌≡◌, ℕ, true, false, ◌+◌, ◌<◌, List, [], ◌∷◌, ◌++◌, length, All, Option, Some, None, nat_le, if◌then◌else◌, Result, Ok, Err, OnOk, OnErr, inl, inr, ap, sym, subst, ◌∙◌, arith, length-append}
 use Rattle.std.proofs.lemmas.List.Elements.{All-append, All-head, All-tail, All-weaker}
 use mathlib.Core.List.{IsPrefix}
 use Rattle.jb_deck.specs.Deck.{OpenDeck}
@@ -8,7 +8,7 @@ use Rattle.jb_deck.specs.declared.done.Entry.{Entry}
 use Rattle.jb_handle.specs.Word.{WordMap}
 use Rattle.jb_board.proofs.EntryPlaces.{get_last, placed_on}
 use Rattle.jb_board.specs.HistoryRule.{StandsIn}
-use Rattle.jb_book.specs.Account.{Account, AnswersNumber, CanTake, IsSettledBy, Settles, failed_of, granted_to, settled_to, shortened, taken_all, trail_from}
+use Rattle.jb_book.specs.Account.{Account, AnswersNumber, IsSettledBy, Settles, settled_to, shortened, trail_from}
 use Rattle.jb_handle.specs.declared.shape.Shape.{Shape}
 use Rattle.jb_book.specs.Marks.{AreOfBook, AreShown, HasShapeMark, IsMarked, SeesStop, Shows, ShowsAfter}
 use Rattle.jb_book.specs.declared.fault.WrongBatch.{WrongBatch}
@@ -36,21 +36,10 @@ module _ {D : Type 0} where
 
   -- ---- what each call of the book keeps
 
-  module _ (ms : List (OpenDeck D)) (old new : Account) (are : AreOfBook ms old) where
-    -- it becomes one with the same trail
-    pub marked-same : (b : Account) → b.trail ≡ old.trail → b.shape ≡ old.shape → new ≡ b → AreOfBook ms new
-    marked-same b trail shape is = subst (AreOfBook ms) (sym is) (record { trail = subst (All (IsMarked ms)) (sym trail) are.trail; shape = subst (HasShapeMark ms) (sym shape) are.shape })
-
-    pub marked-failed : new ≡ failed_of old → AreOfBook ms new
-    marked-failed is = marked-same (failed_of old) refl refl is
-
-    pub marked-open : {A B : Type 0} (r : Result A B) (seat credits : ℕ) → OnOk r (new ≡ granted_to seat credits old) → OnErr r (new ≡ old) → AreOfBook ms new
-    marked-open (Ok a) seat credits ok err = marked-same (granted_to seat credits old) refl refl ok
-    marked-open (Err b) seat credits ok err = marked-same old refl refl err
-
-    pub marked-taken : {A : Type 0} (r : Option A) → IfSome r (λ _. CanTake old × (new ≡ taken_all old)) → IfNone r ((CanTake old → ⊥) × (new ≡ old)) → AreOfBook ms new
-    marked-taken (Some b) some none = marked-same (taken_all old) refl refl some.1
-    marked-taken None some none = marked-same old refl refl none.1
+  -- it becomes one with the same trail
+  pub marked-same : (ms : List (OpenDeck D)) (old new : Account) → AreOfBook ms old → (b : Account) → b.trail ≡ old.trail → b.shape ≡ old.shape → new ≡ b → AreOfBook ms new
+  marked-same ms old new are b trail shape is =
+      subst (AreOfBook ms) (sym is) (record { trail = subst (All (IsMarked ms)) (sym trail) are.trail; shape = subst (HasShapeMark ms) (sym shape) are.shape })
 
   left-marked : (ms : List (OpenDeck D)) (past : ℕ) (es : List Entry) → All (IsMarked ms) es → All (IsMarked ms) (trail_from past es)
   left-marked ms past [] each = each

@@ -1,7 +1,7 @@
 -- Each call of a book keeps that there are calls which led to it.
 use Rattle.std.proofs.Common.{◌≡◌, ℕ, ◌+◌, ◌-◌, Bool, true, false, List, [], ◌∷◌, ◌++◌, All, length, drop, None, Ok, sym, refl, ap, ◌∙◌, subst, arith}
 use Rattle.std.proofs.lemmas.List.{map-append}
-use Rattle.std.proofs.lemmas.List.Elements.{All-drop, All-weaker}
+use Rattle.std.proofs.lemmas.List.Elements.{All-drop}
 use Rattle.jb_plan.specs.Batch.{gathered}
 use Rattle.jb_plan.specs.Costs.{HasCut}
 use Rattle.jb_cost.specs.Pieces.{joined, pieces}
@@ -14,7 +14,6 @@ use Rattle.jb_handle.specs.Tickets.{TicketsFrom}
 use Rattle.jb_handle.specs.Word.{WordMap}
 use Rattle.jb_cost.specs.Credits.{IsMost}
 use Rattle.jb_plan.specs.Costs.{geometry_of}
-use Rattle.jb_board.proofs.EntryPlaces.{placed_on}
 use Rattle.jb_book.specs.Account.{Account, IsNewBook, IsAccountSound, granted_to, dropped_of, queued, taken_all, settled_to, failed_of, shortened, trail_from, begin_refusal, CanStop, CanTake, Settles}
 use Rattle.jb_book.specs.Calls.{Call, Does, Opened, Enqueued, Dropped, Took, Settled, Failed, Shut, stops_of, out_of, AreOfFirst, IsCutOf}
 use Rattle.jb_book.specs.CallsToBook.{IsInHistory, with_trail, words_stopped, Led, AreCut, IsLed}
@@ -24,7 +23,7 @@ use Rattle.jb_book.proofs.Shadows.{count-parts}
 use Rattle.jb_book.proofs.LeastCut.{has_least}
 use Rattle.jb_book.proofs.MachineLimits.{first-few, none-filled, filled-pieces}
 use Rattle.jb_book.proofs.TrailEntries.{follow-length}
-use Rattle.jb_book.proofs.ShownTickets.{least-same, none-are, none-out, none-pieces, recorded-back, rest-from, rest-more, rest-of-rest, same-out}
+use Rattle.jb_book.proofs.ShownTickets.{least-same, none-are, none-out, none-pieces, recorded-back, recorded-on, rest-from, rest-more, rest-of-rest, same-out}
 
 -- ---- the start
 
@@ -118,7 +117,7 @@ module _ (log : List WordMap) (a : Account) (is : IsLed log a) where
           are = (
             record {
               tickets = s.are.0.tickets;
-              recorded = All-weaker (IsInHistory log) (IsInHistory (log ++ ws ∷ [])) (λ h at. placed_on log (log ++ ws ∷ []) (ws ∷ [], refl) (h.ticket, h.words) at) s.handles s.are.0.recorded;
+              recorded = recorded-on log (log ++ ws ∷ []) (ws ∷ [], refl) s.handles s.are.0.recorded;
               number = s.are.0.number;
             },
             s.are.1,

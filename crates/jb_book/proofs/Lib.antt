@@ -1,15 +1,12 @@
 pub mod Accounts
 pub mod BetweenCalls
-pub mod BookByAccount
 pub mod BookMarks
 pub mod CallTies
 pub mod CallsLead
 pub mod CommitEntries
-pub mod CutEntries
 pub mod LeastCut
 pub mod MachineLimits
 pub mod MarksLast
-pub mod OneHistory
 pub mod OpenedJournal
 pub mod RegisterCalls
 pub mod SeatTies
@@ -17,11 +14,6 @@ pub mod Shadows
 pub mod ShownTickets
 pub mod SinceCommit
 pub mod SinceNoHandles
-pub mod SinceRead
 pub mod SinceTakeTrail
-pub mod SingleCuts
-pub mod StartShape
 pub mod StopHistories
 pub mod TrailEntries
-pub mod TrailFront
-pub mod WeakerMarks

@@ -3,7 +3,6 @@ use Rattle.std.proofs.Common.{◌≡◌, ℕ, ◌+◌, ◌≤◌, List, [], ◌+
 use Rattle.std.proofs.lemmas.List.{length-append, take-append-le, get_or-append-add}
 use Rattle.std.proofs.Math.Seq.{take-append-add}
 use mathlib.Core.List.{append-nil, IsPrefix}
-use Rattle.std.proofs.Math.ListN.{get_or-append}
 use Rattle.std.proofs.lemmas.Option.{slice_get-get_or}
 use Rattle.std.proofs.lemmas.List.Elements.{All-push, All-weaker}
 use Rattle.jb_cost.specs.Cut.{IsCut}
@@ -22,7 +21,7 @@ use Rattle.jb_plan.specs.Prepare.{Planned}
 use Rattle.jb_block.specs.declared.stamp.Stamp.{Stamp}
 use Rattle.jb_disk.specs.declared.disk.Disk.{Ghosts}
 use Rattle.jb_disk.specs.Time.{LeavesOnly}
-use Rattle.jb_board.proofs.EntryPlaces.{get_last}
+use Rattle.jb_board.proofs.EntryPlaces.{all-first, get_last}
 use Rattle.jb_deck.specs.CommitBatch.{AnswersBatch}
 use Rattle.jb_deck.specs.Deck.{OpenDeck}
 use Rattle.jb_deck.specs.Done.{Follow, entries_of, past_after, start_of}
@@ -31,7 +30,7 @@ use Rattle.jb_deck.specs.declared.done.Done.{Done}
 use Rattle.jb_deck.specs.declared.done.Entry.{Entry}
 use Rattle.jb_book.specs.Marks.{HasFailedMark, IsMarked}
 use Rattle.jb_book.specs.SinceMark.{HasSettledOf, IsMarkedOf, Lasts, MarksSettled, Within}
-use Rattle.jb_book.proofs.CutEntries.{cut-rise, cut-within}
+use Rattle.jb_book.proofs.CommitEntries.{cut-rise, cut-within}
 use Rattle.jb_book.proofs.TrailEntries.{follow-length}
 use Rattle.jb_deck.specs.declared.batched.BatchFault.TheVariants as batch
 
@@ -178,11 +177,6 @@ module _ {D : Type 0} (G : Ghosts D) (b : Begun) (given after : List Stopped) wh
 
 -- ---- the first marks
 
-pub first-marks : {D : Type 0} (P : OpenDeck D → Type 0) (ms all : List (OpenDeck D)) → IsPrefix ms all → All P all → All P ms
-first-marks P ms all p each k d lt =
-    let more = length-append ms p.0 in
-    subst P (get_or-append ms p.0 d k lt) ((subst (All P) (sym p.1) each) k d (omega (arith, lt, more)))
-
 -- what was settled at the marks that were seen is settled in the journal
 pub settled-of : {D : Type 0} (G : Ghosts D) (b : Begun) (given : List Stopped) (d : OpenDeck D) (ms all : List (OpenDeck D)) → IsPrefix ms all → All (Lasts G b given d) all → All (HasSettledOf d) ms
-settled-of G b given d ms all p each = All-weaker (Lasts G b given d) (HasSettledOf d) (λ m l. l.has) ms (first-marks (Lasts G b given d) ms all p each)
+settled-of G b given d ms all p each = All-weaker (Lasts G b given d) (HasSettledOf d) (λ m l. l.has) ms (all-first (Lasts G b given d) ms all p each)

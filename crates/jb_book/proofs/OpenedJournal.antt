@@ -1,8 +1,7 @@
 -- A journal that was just opened stands as it must.
-use Rattle.std.proofs.Common.{◌≡◌, ◌⊎◌, ℕ, ◌+◌, ◌≤◌, List, [], length, All, Option, Some, None, Result, Ok, Err, IfOk, MatchResult, inl, ⊎_elim, refl, ap, sym, subst, ◌∙◌, arith}
+use Rattle.std.proofs.Common.{◌≡◌, ◌⊎◌, ℕ, ◌+◌, ◌≤◌, List, [], length, Option, Some, None, Result, Ok, Err, IfOk, MatchResult, inl, ⊎_elim, refl, ap, sym, subst, ◌∙◌, arith}
 use Rattle.std.proofs.lemmas.List.Elements.{All-nil}
 use Rattle.jb_disk.specs.Image.{Image}
-use Rattle.jb_disk.specs.Faults.{CountsNone}
 use Rattle.jb_disk.specs.KeptOn.{KeptOn}
 use Rattle.jb_disk.specs.declared.disk.Disk.{Ghosts}
 use Rattle.jb_disk.specs.Time.{LeavesOnly}
@@ -23,83 +22,23 @@ use Rattle.jb_deck.specs.Open.{CountsOpen, FollowsEntry, IsNew, Opens, RefusesOp
 use Rattle.jb_deck.specs.declared.fault.OpenFault.{OpenFault}
 use Rattle.jb_log.specs.declared.log.Log.{Log}
 use Rattle.jb_deck.specs.Since.{LiveOf, deck_homes}
-use Rattle.jb_deck.proofs.HomesStand.{Stood}
 use Rattle.jb_book.specs.Origin.{Begun, own_on, revoking_in}
 use Rattle.jb_book.specs.OpenDisk.{WasOpened}
-use Rattle.jb_book.specs.Since.{NumberedFrom, IsBegunOn, IsCosted, IsSince}
+use Rattle.jb_book.specs.Since.{IsBegunOn, IsCosted, IsSince}
 use Rattle.jb_book.proofs.MarksLast.{first-none}
 use Rattle.jb_deck.proofs.OpenedJournal.{revoking-same}
 
 none-live : (gs : List Group) → gs ≡ [] → LiveOf [] gs
-none-live gs none home w is =
-    let never : ◌≡◌ {A = Option Word} None (Some w) = sym (ap (λ hs. word_in hs home) none) ∙ is in
-    absurd (let h : ⊥ = cc in h)
+none-live gs none home w is = let never : ◌≡◌ {A = Option Word} None (Some w) = sym (ap (λ hs. word_in hs home) none) ∙ is in absurd (let h : ⊥ = cc in h)
 
-own-opened : (size count : ℕ) (c : Image) (own : Superblock) (l : Log) (sb : Superblock) → super_on size count c ≡ Ok sb → l ≡ opened_log sb → own_on size count c ≡ own → SameJournal own l.sb
-own-opened size count c own l sb taken log is =
-    let same : revoking sb ≡ own = ap revoking_in (sym taken) ∙ is in
-    subst (λ (k : Log). SameJournal own k.sb) (sym log) (subst (λ o. SameJournal o (opened_log sb).sb) same refl)
-
-number-opened : (size count : ℕ) (c : Image) (own : Superblock) (l : Log) (sb : Superblock) → super_on size count c ≡ Ok sb → l ≡ opened_log sb → own_on size count c ≡ own → l.next ≡ own.sequence + 1
-number-opened size count c own l sb taken log is =
-    let same : revoking sb ≡ own = ap revoking_in (sym taken) ∙ is in
-    let but = revoking-same sb in
-    ap (λ (k : Log). k.next) log ∙ ap (λ n. n + 1) (sym but.sequence ∙ ap (λ (s : Superblock). s.sequence) same)
-
--- what a journal says when it is opened is what a start on its disk wants
-pub opened-since : {D : Type 0} (G : Ghosts D)
-    → (counts_now : (disk : D) (t : ℕ) (c : Image) → G.honest disk → t ≤ G.moment disk → G.may_leave disk c → G.left_since disk t c)
-    → (b : Begun) (disk : D) (deck : OpenDeck D)
-    → IsBegunOn G b disk
-    → KeptOn G CountsNone disk deck.disk → IsNew deck
-    → (G.honest deck.disk → Opens (G.size disk) (G.count disk) (G.newest disk) (G.newest deck.disk) deck.log)
-    → (G.honest deck.disk → LeavesOnly G.moment G.left_since disk deck.disk (λ c. G.may_leave disk c ⊎ FollowsEntry (G.size disk) (G.count disk) (G.newest disk) c))
-    → (G.honest deck.disk → AllHave G.may_leave deck.disk (FollowsNone deck.log.sb deck.log.next (G.size disk) (G.count disk) (recovered_home (G.size disk) (G.count disk) (G.newest disk))))
-    → (G.honest deck.disk → (home : ℕ) → deck_homes G.newest deck home ≡ recovered_home (G.size disk) (G.count disk) (G.newest disk) home)
-    → IsSince G b deck
-opened-since {D = D} G counts_now b disk deck begun kept new opens leaves now stands = record {
-  given = [];
-  has = (let past : past_after 0 deck.trail ≡ 0 = ap (past_after 0) new.trail in
-      record {
-        stopped = All-nil (λ (x : Stopped). b.stops x.words);
-        tickets = tt;
-        settled = omega (arith, past);
-        all = λ up. sym past;
-        costs = subst (All (IsCosted deck.shape [])) (sym new.trail) (All-nil (IsCosted deck.shape []));
-        first = deck.log.next;
-        numbers = subst (NumberedFrom deck.log.next) (sym new.trail) tt;
-        next = (let none : length deck.trail ≡ 0 = ap length new.trail in omega (arith, none));
-      });
-  since = λ known_start held.
-      let honest_on = kept.was_honest held in
-      let op = opens held in
-      let left = leaves held in
-      let past : past_after 0 deck.trail ≡ 0 = ap (past_after 0) new.trail in
-      let numbered : deck.log.next ≡ b.own.sequence + 1 = number-opened (G.size disk) (G.count disk) (G.newest disk) b.own deck.log op.sb op.taken op.log begun.own in
-      let stood : Stood [] b.homes (recovered_home (G.size disk) (G.count disk) (G.newest disk)) = λ home. begun.homes home in
-      record {
-        same_size = kept.same_size ∙ begun.same_size;
-        same_count = kept.same_count ∙ begun.same_count;
-        no_fewer = let stayed : G.faults deck.disk ≡ G.faults disk = kept.counted in omega (arith, stayed);
-        up = λ few none. new.aborted;
-        same = own-opened (G.size disk) (G.count disk) (G.newest disk) b.own deck.log op.sb op.taken op.log begun.own;
-        number = omega (arith, numbered);
-        began = λ starts. (let none : length deck.trail ≡ 0 = ap length new.trail in omega (arith, none, numbered));
-        stood = λ up home. stands held home ∙ begun.homes home;
-        live = λ up. none-live deck.groups new.groups;
-        now = λ c may.
-            first-none b deck.log.sb (own-opened (G.size disk) (G.count disk) (G.newest disk) b.own deck.log op.sb op.taken op.log begun.own) (G.size disk) (G.count disk) begun.same_size begun.same_count []
-            (recovered_home (G.size disk) (G.count disk) (G.newest disk)) stood (past_after 0 deck.trail) deck.log.next c (omega (arith, past)) (omega (arith, numbered)) ((now held).each c may);
-        later = omega arith;
-        ever = λ c was.
-            ⊎_elim
-            (λ (early : G.left_since disk b.since c). inl (begun.ever known_start honest_on c early))
-            (λ (late : G.may_leave disk c ⊎ FollowsEntry (G.size disk) (G.count disk) (G.newest disk) c).
-            ⊎_elim (λ (may : G.may_leave disk c). inl (begun.ever known_start honest_on c (counts_now disk b.since c honest_on begun.later may)))
-            (λ (entry : FollowsEntry (G.size disk) (G.count disk) (G.newest disk) c). inl (begun.opening c entry)) late)
-            (left.before b.since c begun.later was);
-      };
-}
+-- the superblock of a journal that was opened is that of the start, and the next number comes after its own
+opened-own : (size count : ℕ) (c : Image) (own : Superblock) (l : Log) (sb : Superblock) → super_on size count c ≡ Ok sb → l ≡ opened_log sb → own_on size count c ≡ own
+    → SameJournal own l.sb × (l.next ≡ own.sequence + 1)
+opened-own size count c own l sb taken log is =
+    let same : revoking sb ≡ own = ap revoking_in (sym taken) ∙ is in (
+      subst (λ (k : Log). SameJournal own k.sb) (sym log) (subst (λ o. SameJournal o (opened_log sb).sb) same refl),
+      ap (λ (k : Log). k.next) log ∙ ap (λ n. n + 1) (sym (revoking-same sb).sequence ∙ ap (λ (s : Superblock). s.sequence) same),
+    )
 
 -- ---- what opening answers
 
@@ -123,5 +62,44 @@ module _ {D : Type 0} (G : Ghosts D) (disk : D) where
       → (G.honest (disk_in r) → IfOk r (λ deck. AllHave G.may_leave deck.disk (FollowsNone deck.log.sb deck.log.next (G.size disk) (G.count disk) (recovered_home (G.size disk) (G.count disk) (G.newest disk)))))
       → (G.honest (disk_in r) → IfOk r (λ deck. (home : ℕ) → deck_homes G.newest deck home ≡ recovered_home (G.size disk) (G.count disk) (G.newest disk) home))
       → IfOk r (IsSince G b)
-  open-since counts_now b begun (Ok deck) kept new opens leaves now stands = opened-since G counts_now b disk deck begun kept new opens leaves now stands
+  open-since counts_now b begun (Ok deck) kept new opens leaves now stands =
+      let past : past_after 0 deck.trail ≡ 0 = ap (past_after 0) new.trail in
+      let none : length deck.trail ≡ 0 = ap length new.trail in
+      record {
+        given = [];
+        has = record {
+          stopped = All-nil (λ (x : Stopped). b.stops x.words);
+          tickets = tt;
+          settled = omega (arith, past);
+          all = λ up. sym past;
+          costs = rw new.trail (All-nil (IsCosted deck.shape []));
+          first = deck.log.next;
+          numbers = rw new.trail tt;
+          next = omega (arith, none);
+        };
+        since = λ known_start held.
+            let honest_on = kept.was_honest held in
+            let op = opens held in
+            let left = leaves held in
+            let (same, numbered) = opened-own (G.size disk) (G.count disk) (G.newest disk) b.own deck.log op.sb op.taken op.log begun.own in
+            record {
+              same_size = kept.same_size ∙ begun.same_size;
+              same_count = kept.same_count ∙ begun.same_count;
+              no_fewer = let stayed : G.faults deck.disk ≡ G.faults disk = kept.counted in omega (arith, stayed);
+              up = λ few none. new.aborted;
+              same = same;
+              number = omega (arith, numbered);
+              began = λ starts. omega (arith, none, numbered);
+              stood = λ up home. stands held home ∙ begun.homes home;
+              live = λ up. none-live deck.groups new.groups;
+              now = λ c may.
+                  first-none b deck.log.sb same (G.size disk) (G.count disk) begun.same_size begun.same_count [] (recovered_home (G.size disk) (G.count disk) (G.newest disk)) begun.homes
+                  (past_after 0 deck.trail) deck.log.next c (omega (arith, past)) (omega (arith, numbered)) ((now held).each c may);
+              later = omega arith;
+              ever = λ c was.
+                  inl (⊎_elim (begun.ever known_start honest_on c)
+                  (⊎_elim (λ (may : G.may_leave disk c). begun.ever known_start honest_on c (counts_now disk b.since c honest_on begun.later may)) (begun.opening c))
+                  (left.before b.since c begun.later was));
+            };
+      }
   open-since counts_now b begun (Err refused) kept new opens leaves now stands = tt

@@ -2,7 +2,7 @@
 use Rattle.std.proofs.Common.{◌≡◌, ℕ, ◌≤◌, Bool, true, false, List, [], ◌∷◌, ◌++◌, map, length, take, drop, sym, refl, ap, subst, ◌∙◌, Ok, Err, arith, ◌↔◌, IsTrue, All, Some, None, IfSome, IfNone, Option, Result, OnOk, OnErr}
 use Rattle.std.specs.Global.{Vec}
 use Rattle.std.proofs.lemmas.List.{append-nil, map-append, length-append}
-use Rattle.std.proofs.lemmas.List.Elements.{All-nil, All-weaker}
+use Rattle.std.proofs.lemmas.List.Elements.{All-nil}
 use Rattle.jb_handle.specs.declared.shape.Shape.{Shape}
 use Rattle.jb_handle.specs.declared.stopped.Stopped.{Stopped}
 use Rattle.jb_cost.specs.Pieces.{joined, pieces}
@@ -13,7 +13,7 @@ use Rattle.jb_core.specs.Machine.{after_event}
 use Rattle.jb_core.proofs.SoundRuns.{sounds}
 use Rattle.jb_core.proofs.WholeLives.{whole}
 use Rattle.jb_book.specs.Account.{Account, IsNewBook, taken_all, settled_to, failed_of, CanTake, Settles, IsAccountSound, granted_to, dropped_of, queued, shortened, begin_refusal, CanStop}
-use Rattle.jb_book.specs.Calls.{Call, Opened, Enqueued, Dropped, Took, TookNone, Settled, Failed, Shut, stops_of, out_of, settled_of, AreOfFirst, IsCutOf, Does, CallsMake, handles_in, KeepsWhole}
+use Rattle.jb_book.specs.Calls.{Call, Opened, Enqueued, Dropped, Took, Settled, Failed, Shut, stops_of, out_of, settled_of, AreOfFirst, IsCutOf, Does, CallsMake, handles_in, KeepsWhole}
 use Rattle.jb_book.specs.Shadow.{Shadow}
 use Rattle.jb_book.specs.MachineTie.{EveryRun}
 use Rattle.jb_plan.specs.Costs.{cost_in, HasCut}
@@ -22,7 +22,6 @@ use Rattle.jb_deck.specs.declared.done.Done.{Done}
 use Rattle.jb_deck.specs.Done.{Follow, past_after, first_ticket, entries_of}
 use Rattle.jb_handle.specs.Tickets.{TicketsFrom}
 use Rattle.jb_handle.specs.Word.{WordMap}
-use Rattle.jb_board.proofs.EntryPlaces.{placed_on}
 use Rattle.jb_board.specs.HistoryRule.{IsFirstPart}
 use Rattle.jb_book.specs.declared.fault.BeginFault.{BeginFault}
 use Rattle.jb_book.specs.declared.fault.WrongBatch.{WrongBatch}
@@ -33,7 +32,11 @@ use Rattle.jb_book.proofs.CallTies.{tied-takes, tied-settles, tied-settles-none,
 use Rattle.jb_book.proofs.BetweenCalls.{Stands, call-by, call-dropped, call-idle, call-on, call-opened, call-shut, call-stopped, handles-all, settled-handles, started, groups-in, cut-few, vec_of}
 use Rattle.jb_book.proofs.TrailEntries.{follow-past}
 use Rattle.jb_book.proofs.CallsLead.{any-led, led-dropped, led-failed, led-opened, led-settled, led-settled-last, led-shortened, led-shut, led-stopped, led-taken, led_start}
-use Rattle.jb_book.proofs.ShownTickets.{recorded-more}
+use Rattle.jb_book.proofs.ShownTickets.{recorded-more, recorded-on}
+use Rattle.jb_book.specs.Marks.{AreOfBook}
+use Rattle.jb_book.proofs.BookMarks.{book-on, marked-same, marked-short}
+use Rattle.jb_deck.specs.Deck.{OpenDeck}
+use mathlib.Core.List.{IsPrefix}
 use Rattle.jb_core.specs.declared.event.Event.TheVariants as event
 
 -- ---- any list of calls of a book is a list of events of the machine, and keeps each handle whole in one group or in none
@@ -96,17 +99,14 @@ module _ (shape : Shape) (calls : List Call) (a : Account) (s : Stands shape cal
 
 step : Vec Entry → (shape : Shape) → (last : Call) (calls : List Call) (old new : Account) → Stands shape calls old → Does last calls old new → Stands shape (last ∷ calls) new
 step any shape (Opened seat credits (Ok unit)) calls old new s does = subst (Stands shape _) (sym does.1) (call-opened shape calls old s seat credits does.0)
-step any shape (Opened seat credits (Err fault)) calls old new s does = subst (Stands shape _) (sym does.1) (call-idle shape calls old s (Opened seat credits (Err fault)) refl refl refl)
 step any shape (Enqueued seat ws (Ok ticket)) calls old new s does = subst (Stands shape _) (sym does.2) (call-stopped shape calls old s seat ws ticket does.0 does.1)
-step any shape (Enqueued seat ws (Err fault)) calls old new s does = subst (Stands shape _) (sym does.1) (call-idle shape calls old s (Enqueued seat ws (Err fault)) refl refl refl)
 step any shape (Dropped seat) calls old new s does = subst (Stands shape _) (sym does) (call-dropped shape calls old s seat)
 step any shape (Took b cut) calls old new s does =
     subst (Stands shape (Took b cut ∷ calls)) (sym does.3) (subst (λ g. Stands shape (Took g cut ∷ calls) (taken_all old)) (sym does.1) (call-took shape calls old s any cut does.0 (subst (λ g. IsCutOf g cut) does.1 does.2)))
-step any shape TookNone calls old new s does = subst (Stands shape _) (sym does.1) (call-idle shape calls old s TookNone refl refl refl)
 step any shape (Settled entries (Ok unit)) calls old new s does = subst (Stands shape _) (sym does.0.2) (call-settled shape calls old s does.0.0 entries does.0.1 does.1)
-step any shape (Settled entries (Err wrong)) calls old new s does = subst (Stands shape _) (sym does.1) (call-idle shape calls old s (Settled entries (Err wrong)) refl refl refl)
 step any shape Failed calls old new s does = subst (Stands shape _) (sym does) (call-failed shape calls old s)
 step any shape Shut calls old new s does = subst (Stands shape _) (sym does) (call-shut shape calls old s)
+step any shape idle calls old new s does = subst (Stands shape _) (sym does.1) (call-idle shape calls old s idle refl refl refl)
 
 begun : (shape : Shape) (usable : ℕ) (a : Account) → usable ≤ 2147483646 → IsNewBook shape usable a → Stands shape [] a
 begun shape usable a small start =
@@ -185,66 +185,85 @@ ends-run any a log sound is =
 -- ---- what is known of the two
 
 -- a book and its history become these
-kept-as : (a b : Account) (log more : List WordMap) → IsLed log a → length log ≡ a.shadow.next → All (IsInHistory log) a.shadow.queue → b ≡ a → more ≡ log → IsRegistered b more
-kept-as a b log more led counted queued is same = subst (λ (x : Account × List WordMap). IsRegistered x.0 x.1) (λ i. (sym is i, sym same i)) (record { counted = counted; queued = queued; led = led })
+kept-as : {a b : Account} {log more : List WordMap} → IsLed log a → length log ≡ a.shadow.next → All (IsInHistory log) a.shadow.queue → b ≡ a → more ≡ log → IsRegistered b more
+kept-as led counted queued is same = subst (λ (x : Account × List WordMap). IsRegistered x.0 x.1) (λ i. (sym is i, sym same i)) (record { counted = counted; queued = queued; led = led })
 
 pub kept-new : (shape : Shape) (usable : ℕ) (a : Account) (log : List WordMap) → IsNewBook shape usable a → log ≡ [] → IsRegistered a log
 kept-new shape usable a log start none =
-    kept-as a a [] log (led_start shape usable a start) (sym (ap (λ x. x.next) start.shadow))
+    kept-as (led_start shape usable a start) (sym (ap (λ x. x.next) start.shadow))
     (subst (All (IsInHistory [])) (sym (ap (λ x. x.queue) start.shadow)) (All-nil (IsInHistory []))) refl none
 
-pub kept-stopped : (a b : Account) (log more : List WordMap) (seat : ℕ) (ws : WordMap) → IsAccountSound a → IsRegistered a log → CanStop a seat ws → b ≡ queued seat ws a
-    → (b.shadow.queue ≡ a.shadow.queue ++ record { ticket = a.shadow.next; words = ws } ∷ [] → more ≡ log ++ ws ∷ []) → IsRegistered b more
-kept-stopped a b log more seat ws sound kept can is adds =
-    let long = length-append log (ws ∷ []) in
-    let counted = kept.counted in
-    kept-as (queued seat ws a) b (log ++ ws ∷ []) more (led-stopped log a kept.led sound seat ws can counted) (omega (arith, long, counted))
-    (recorded-more log a.shadow.queue a.shadow.next ws kept.queued counted) is (adds (ap (λ (c : Account). c.shadow.queue) is))
+failed-same : {a b : Account} {log more : List WordMap} → IsRegistered a log → b ≡ failed_of a → more ≡ log → IsRegistered b more
+failed-same {a} {log = log} kept is same = kept-as (led-failed log a kept.led) kept.counted (All-nil (IsInHistory log)) is same
 
-pub failed-same : (a b : Account) (log more : List WordMap) → IsRegistered a log → b ≡ failed_of a → more ≡ log → IsRegistered b more
-failed-same a b log more kept is same = kept-as (failed_of a) b log more (led-failed log a kept.led) kept.counted (All-nil (IsInHistory log)) is same
-
-pub kept-take : (r : Option Gathered) (a b : Account) (log more : List WordMap) → IsAccountSound a → IsRegistered a log → IfSome r (λ _. HasCut a.shape a.shadow.queue) → IfSome r (λ _. CanTake a × (b ≡ taken_all a)) → IfNone r ((CanTake a → ⊥) × (b ≡ a)) → more ≡ log
-    → IsRegistered b more
-kept-take (Some batch) a b log more sound kept cuts taken none same = kept-as (taken_all a) b log more (led-taken log a kept.led sound taken.0 kept.queued cuts) kept.counted (All-nil (IsInHistory log)) taken.1 same
-kept-take None a b log more sound kept cuts taken none same = kept-as a b log more kept.led kept.counted kept.queued none.1 same
-
-module _ (a : Account) (log sight : List WordMap) (end : ℕ) (shape : Shape) (done : Done) (is : IsSettling sight end shape done) (seen : IsFirstPart sight log) (out : IsOutAs a (first_ticket done) end shape) where
+module _ {a : Account} {log sight : List WordMap} {end : ℕ} {shape : Shape} {done : Done}
+    (is : IsSettling sight end shape done) (seen : IsFirstPart sight log) (out : IsOutAs a (first_ticket done) end shape) where
   abbrev settling-cut : AreCut log a is.planned.batch.handles is.planned.groups
   settling-cut =
       let at : is.planned.batch.first ≡ a.shadow.settled = sym is.first ∙ out.first_is in (
         record {
           tickets = subst (λ n. TicketsFrom n is.planned.batch.handles) at is.tickets;
-          recorded = All-weaker (IsInHistory sight) (IsInHistory log) (λ h there. placed_on sight log seen (h.ticket, h.words) there) is.planned.batch.handles is.recorded;
+          recorded = recorded-on sight log seen is.planned.batch.handles is.recorded;
           number = omega (arith, at);
         },
         subst (λ (sh : Shape). IsLeastCut (cost_in sh is.planned.batch.handles) sh.limit (length is.planned.batch.handles) is.planned.groups) (is.shape_is ∙ sym out.shape_is) is.is.least,
       )
 
-  pub kept-settled : IsAccountSound a → IsRegistered a log → (past : ℕ) → Settles a past (entries_of done) → past_after (first_ticket done) (entries_of done) ≡ end → (b : Account) (more : List WordMap) → b ≡ settled_to past (entries_of done) a → more ≡ log → IsRegistered b more
-  kept-settled sound kept past settles last b more after grows =
+  pub kept-settled : {b : Account} {more : List WordMap} → IsAccountSound a → IsRegistered a log → (past : ℕ) → Settles a past (entries_of done)
+      → past_after (first_ticket done) (entries_of done) ≡ end → b ≡ settled_to past (entries_of done) a → more ≡ log → IsRegistered b more
+  kept-settled sound kept past settles last after grows =
       let whole = ends-at (first_ticket done) a.shadow.settled _ past end (entries_of done) settles.follow out.first_is last in
-      kept-as (settled_to past (entries_of done) a) b log more
+      kept-as
       (led-settled log a kept.led is.planned.batch.handles is.planned.groups past (entries_of done) settles settling-cut is.tells sound (whole ∙ out.end_is)) kept.counted kept.queued after grows
 
   pub kept-last : (middle b : Account) (more : List WordMap) (r : Result (Unit {0}) WrongBatch) → IsAccountSound a → IsRegistered a log → OnOk r ((past : ℕ) × Settles a past (entries_of done) × (middle ≡ settled_to past (entries_of done) a)) → OnErr r (middle ≡ a) → b ≡ failed_of middle → more ≡ log → IsRegistered b more
   kept-last middle b more (Ok unit) sound kept ok err fell grows =
-      kept-as (failed_of (settled_to ok.0 (entries_of done) a)) b log more
+      kept-as
       (led-settled-last log a kept.led is.planned.batch.handles is.planned.groups ok.0 (entries_of done) ok.1 settling-cut is.tells sound) kept.counted (All-nil (IsInHistory log)) (fell ∙ ap failed_of ok.2) grows
-  kept-last middle b more (Err wrong) sound kept ok err fell grows = failed-same a b log more kept (fell ∙ ap failed_of err) grows
+  kept-last middle b more (Err wrong) sound kept ok err fell grows = failed-same kept (fell ∙ ap failed_of err) grows
 
--- ---- the other calls
+-- ---- the other calls keep a register: a book beside its history, and the marks that were seen of its journal
 
-module _ (a b : Account) (log : List WordMap) (kept : IsRegistered a log) where
-  pub kept-open : (r : Result (Unit {0}) BeginFault) (seat credits : ℕ) → OnOk r (b ≡ granted_to seat credits a) → OnOk r (begin_refusal a seat credits ≡ None) → OnErr r (b ≡ a) → IsRegistered b log
-  kept-open (Ok unit) seat credits is none same = kept-as (granted_to seat credits a) b log log (led-opened log a kept.led seat credits none) kept.counted kept.queued is refl
-  kept-open (Err fault) seat credits is none same = kept-as a b log log kept.led kept.counted kept.queued same refl
+module _ {D : Type 0} {ms : List (OpenDeck D)} {a : Account} {log more : List WordMap} (kept : IsRegistered a log × AreOfBook ms a) (same : more ≡ log) where
+  -- more marks were seen
+  pub both-same : {ns : List (OpenDeck D)} → IsPrefix ms ns → IsRegistered a more × AreOfBook ns a
+  both-same {ns} p = (subst (IsRegistered a) (sym same) kept.0, book-on ms ns p a kept.1)
 
-  pub kept-dropped : (seat : ℕ) → b ≡ dropped_of seat a → IsRegistered b log
-  kept-dropped seat is = kept-as (dropped_of seat a) b log log (led-dropped log a kept.led seat) kept.counted kept.queued is refl
+  module _ {b : Account} where
+    -- the book becomes one with the same trail
+    both-as : {c : Account} → IsLed log c → length log ≡ c.shadow.next → All (IsInHistory log) c.shadow.queue → c.trail ≡ a.trail → c.shape ≡ a.shape → b ≡ c → IsRegistered b more × AreOfBook ms b
+    both-as {c} led counted queued trail shape is = (kept-as led counted queued is same, marked-same ms a b kept.1 c trail shape is)
 
-  pub kept-shut : b ≡ record a { shut = true } → IsRegistered b log
-  kept-shut is = kept-as (record a { shut = true }) b log log (led-shut log a kept.led) kept.counted kept.queued is refl
+    pub both-open : (r : Result (Unit {0}) BeginFault) (seat credits : ℕ) → OnOk r (b ≡ granted_to seat credits a) → OnOk r (begin_refusal a seat credits ≡ None) → OnErr r (b ≡ a)
+        → IsRegistered b more × AreOfBook ms b
+    both-open (Ok unit) seat credits is none err = both-as (led-opened log a kept.0.led seat credits none) kept.0.counted kept.0.queued refl refl is
+    both-open (Err fault) seat credits is none err = both-as kept.0.led kept.0.counted kept.0.queued refl refl err
 
-  pub kept-short : (past : ℕ) → b ≡ shortened past a → IsRegistered b log
-  kept-short past is = kept-as (shortened past a) b log log (led-shortened log a kept.led past) kept.counted kept.queued is refl
+    pub both-take : (r : Option Gathered) → IsAccountSound a → IfSome r (λ _. HasCut a.shape a.shadow.queue) → IfSome r (λ _. CanTake a × (b ≡ taken_all a)) → IfNone r ((CanTake a → ⊥) × (b ≡ a))
+        → IsRegistered b more × AreOfBook ms b
+    both-take (Some batch) sound cuts taken none = both-as (led-taken log a kept.0.led sound taken.0 kept.0.queued cuts) kept.0.counted (All-nil (IsInHistory log)) refl refl taken.1
+    both-take None sound cuts taken none = both-as kept.0.led kept.0.counted kept.0.queued refl refl none.1
+
+    pub both-dropped : (seat : ℕ) → b ≡ dropped_of seat a → IsRegistered b more × AreOfBook ms b
+    both-dropped seat is = both-as (led-dropped log a kept.0.led seat) kept.0.counted kept.0.queued refl refl is
+
+    pub both-shut : b ≡ record a { shut = true } → IsRegistered b more × AreOfBook ms b
+    both-shut is = both-as (led-shut log a kept.0.led) kept.0.counted kept.0.queued refl refl is
+
+    pub both-short : (past : ℕ) → b ≡ shortened past a → IsRegistered b more × AreOfBook ms b
+    both-short past is = (kept-as (led-shortened log a kept.0.led past) kept.0.counted kept.0.queued is same, marked-short ms a b kept.1 past is)
+
+    pub both-failed : {ns : List (OpenDeck D)} → IsPrefix ms ns → b ≡ failed_of a → IsRegistered b more × AreOfBook ns b
+    both-failed {ns} p is = (failed-same kept.0 is same, marked-same ns a b (book-on ms ns p a kept.1) (failed_of a) refl refl is)
+
+-- a handle stops
+pub both-stopped : {D : Type 0} {ms : List (OpenDeck D)} {a b : Account} {log more : List WordMap} → IsRegistered a log × AreOfBook ms a
+    → (seat : ℕ) (ws : WordMap) → IsAccountSound a → CanStop a seat ws → b ≡ queued seat ws a
+    → (b.shadow.queue ≡ a.shadow.queue ++ record { ticket = a.shadow.next; words = ws } ∷ [] → more ≡ log ++ ws ∷ []) → IsRegistered b more × AreOfBook ms b
+both-stopped {ms = ms} {a} {b} {log} kept seat ws sound can is adds =
+    let long = length-append log (ws ∷ []) in
+    let counted = kept.0.counted in (
+      kept-as (led-stopped log a kept.0.led sound seat ws can counted) (omega (arith, long, counted))
+          (recorded-more log a.shadow.queue a.shadow.next ws kept.0.queued counted) is (adds (ap (λ (c : Account). c.shadow.queue) is)),
+      marked-same ms a b kept.1 (queued seat ws a) refl refl is,
+    )

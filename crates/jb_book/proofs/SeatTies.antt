@@ -1,31 +1,33 @@
 -- What a book accepts of its seats, the machine accepts, and the account after it is tied again.
-use Rattle.std.proofs.Common.{◌≡◌, ℕ, ◌<◌, ◌≤◌, Bool, true, false, not, nat_le, ◌==◌, List, [], ◌∷◌, ◌++◌, map, length, suc, Some, None, All, sym, refl, ap, ◌∙◌, le_refl, Ok, arith, ◌⊎◌, ⊎_elim, ◌+◌, ◌^◌, nat_lt, IfSome, subst, nat_cmp}
+use Rattle.std.proofs.Common.{◌≡◌, ℕ, ◌<◌, ◌≤◌, Bool, true, false, nat_le, ◌==◌, List, [], ◌∷◌, ◌++◌, map, length, suc, Some, None, All, sym, refl, ap, ◌∙◌, le_refl, Ok, arith, ◌⊎◌, ⊎_elim, ◌+◌, ◌^◌, nat_lt, IfSome, subst, nat_cmp}
 use Rattle.std.proofs.lemmas.Bool.Decides.{nat_tests}
 use Rattle.std.specs.Cmp.{nat_cmp_total}
 use Rattle.std.specs.BTreeMap.{is_at}
-use Rattle.std.specs.Map.{lookup, set_value, remove_entry, values_of}
+use Rattle.std.specs.Map.{set_value, remove_entry, values_of}
 use Rattle.std.proofs.lemmas.List.{length-map}
 use Rattle.std.proofs.lemmas.List.Elements.{All-nil}
 use Rattle.std.proofs.lemmas.Map.Views.{All-values-insert_entry, All-map-remove_entry, IfSome-lookup_from_All}
-use Rattle.std.specs.Int.{div_ceil}
 use Rattle.jb_block.specs.Size.{bytes_of}
-use Rattle.jb_handle.specs.declared.changes.TouchFault.{TouchFault}
-use Rattle.jb_handle.specs.declared.changes.TouchFault.TheVariants.{NoCredit, OutOfRange, Length}
 use Rattle.jb_handle.specs.declared.shape.Shape.{Shape}
 use Rattle.jb_handle.specs.declared.word.Word.{Word}
 use Rattle.jb_handle.specs.declared.word.Word.TheVariants.{Copy, Free}
 use Rattle.jb_handle.specs.HeldChanges.{Held, held, FitsWord, Fits, first_of, is_spent, is_misfit, home_of, word_of}
 use Rattle.jb_handle.specs.Word.{WordMap}
 use Rattle.jb_handle.proofs.EachWord.{each-entry}
+use Rattle.jb_core.specs.declared.event.Event.{Event}
+use Rattle.jb_core.specs.declared.event.Reply.{Reply}
 use Rattle.jb_core.specs.declared.event.Event.TheVariants.{Touch, Open, Stop, Abandon}
 use Rattle.jb_core.specs.declared.event.Reply.TheVariants.{Plain, Ticket}
 use Rattle.jb_core.specs.Lives.{Log}
-use Rattle.jb_core.specs.Machine.{Machine, handle_at, held_at, event_refusal, after_event, reserved, is_full}
+use Rattle.jb_core.specs.Machine.{Machine, handle_at, held_at, event_refusal, after_event, reply_of, reserved, is_full}
+use Rattle.jb_core.specs.Steps.{IsLeast}
 use Rattle.jb_core.specs.MachineRuns.{Ran}
 use Rattle.jb_core.proofs.AcceptedEvents.{there-at, still-up}
+use Rattle.jb_core.specs.SeatLaw.{changed}
+use Rattle.jb_core.proofs.Seats.{change-same}
 use Rattle.jb_core.proofs.SoundRuns.{sounds}
-use Rattle.jb_book.specs.Events.{shadow_of, granted_in}
-use Rattle.jb_book.specs.MachineTie.{AreAccepted, op_for, IsUntouched, HasHandle, Tied, TiedBy, touches_of}
+use Rattle.jb_book.specs.Events.{after_shadow, shadow_of, granted_in}
+use Rattle.jb_book.specs.MachineTie.{AreAccepted, op_for, IsDown, IsRunning, IsUntouched, HasHandle, Tied, TiedBy, touches_of}
 use Rattle.jb_cost.specs.declared.geometry.Geometry.{Geometry}
 use Rattle.jb_cost.specs.Cost.{worst_cost_of}
 use Rattle.jb_cost.specs.Credits.{IsMost}
@@ -50,9 +52,6 @@ same-put : {A : Type 0} (f : ℕ → Word → A) (e : ℕ × Word) → f (home_o
 same-put f (home, Copy bytes) = refl
 same-put f (home, Free) = refl
 
-none-of : (a b c : Bool) (x y z : TouchFault) → a ≡ false → b ≡ false → c ≡ false → first_of ((a, x) ∷ (b, y) ∷ (c, z) ∷ []) ≡ None
-none-of a b c x y z one two three = rw (one, two, three) refl
-
 -- a change that fits is not refused where a credit is left
 module _ (h : Held) (room : words.len h.words < h.credits) where
   not-spent : (home : ℕ) → is_spent h home ≡ false
@@ -62,18 +61,14 @@ module _ (h : Held) (room : words.len h.words < h.credits) where
   fits-in (home, Copy bytes) fits =
       let far : nat_le h.shape.homes home ≡ false = grind (arith, nat_tests) in
       let same : (length bytes == bytes_of h.shape.bs) ≡ true = grind (arith, nat_tests) in
-      none-of (is_spent h home) (nat_le h.shape.homes home) (is_misfit h.shape (Some (length bytes))) (NoCredit h.credits) (OutOfRange home) Length (not-spent home) far (ap not same)
+      rw (not-spent home, far, same) refl
   fits-in (home, Free) fits =
       let far : nat_le h.shape.homes home ≡ false = grind (arith, nat_tests) in
-      none-of (is_spent h home) (nat_le h.shape.homes home) false (NoCredit h.credits) (OutOfRange home) Length (not-spent home) far refl
+      rw (not-spent home, far) refl
 
 -- ---- entries by their keys
 
 module _ {V : Type 0} (test : ℕ → Bool) (v : V) where
-  found-set : (es : List (ℕ × V)) (w : V) → lookup test es ≡ Some w → lookup test (set_value test es v) ≡ Some v
-  found-set [] w is = cc
-  found-set (e ∷ es) w is = grind (arith, found-set es w)
-
   gone-set : (es : List (ℕ × V)) → remove_entry test (set_value test es v) ≡ remove_entry test es
   gone-set [] = refl
   gone-set (e ∷ es) = let rest = gone-set es in grind (arith, rest)
@@ -115,7 +110,7 @@ module _ (shape : Shape) (log : Log) (m : Machine) (seat credits : ℕ) (ran : R
           accepted = t.accepted;
           same = ap (λ (k : Machine). let changed : Machine = record k { handles = (after_event n (Touch seat (op_for e))).handles } in changed) t.same;
           shadow = shadowed n (sounds shape _ n t.ran) (Touch seat (op_for e)) none tt ∙ t.shadow;
-          there = found-set (is_at (nat_cmp seat)) (handle.after (held_at n seat) (op_for e)) n.handles (held credits shape (words_in es)) t.there ∙ ap Some is;
+          there = change-same seat (handle.after (held_at n seat) (op_for e)) n.handles ∙ ap (λ had. changed had (handle.after (held_at n seat) (op_for e))) t.there ∙ ap Some is;
           rest = gone-set (is_at (nat_cmp seat)) (handle.after (held_at n seat) (op_for e)) n.handles ∙ t.rest;
         },
       )
@@ -188,17 +183,29 @@ module _ (a : Account) (log : Log) (m : Machine) (t : Tied a log m) where
         let shaped : h.shape ≡ a.shape = granted.same_shape ∙ lim.same_shape in
         is ∙ ap Some (λ i. record { credits = same i; shape = shaped i; words = untouched i })
 
+    -- an event that the machine accepts, after which it is up, and has the shadow of an account that runs
+    pub tied-by : (b : Account) → b.shape ≡ a.shape → b.aborted ≡ false → (e : Event) (reply : Reply) → event_refusal m e ≡ None → IsLeast m e → reply ≡ reply_of m e
+        → (after_event m e).up ≡ true → (after_event m e).earlier ≡ 0 → All IsUntouched (values_of (after_event m e).handles) → All HasHandle (after_event m e).taken
+        → after_shadow m e a.shadow ≡ b.shadow → Tied b ((e, Ok reply) ∷ log) (after_event m e)
+    tied-by b shape runs e reply none least is up earlier untouched filled moved = record {
+      ran = subst (λ s. Ran s ((e, Ok reply) ∷ log) (after_event m e)) (sym shape) (m, t.ran, (none, least, refl, is));
+      accepted = t.accepted;
+      one_life = earlier;
+      untouched = untouched;
+      filled = filled;
+      running = λ on. record { up = up; shadow = shadowed m (sounds a.shape log m t.ran) e none least ∙ ap (after_shadow m e) tied-shadow ∙ moved };
+      failed = λ fell. still-up b.aborted fell runs;
+    }
+
   pub tied-opens : IsAccountSound a → (seat credits : ℕ) → book.begin_refusal a seat credits ≡ None → Tied (granted_to seat credits a) ((Open seat credits, Ok Plain) ∷ log) (after_event m (Open seat credits))
   tied-opens sound seat credits free_at =
       let (running, shut, free, few, room, left, grants) = passed a seat credits free_at in
       let lim = limits a.shape log m t.ran in
-      let own = sounds a.shape log m t.ran in
       let up = tied-up running in
       let same = tied-shadow running in
       let none = none-at running seat free in
-      let costs : worst_cost_of m.geometry a.most ≤ m.shape.limit =
-      subst (λ (s : Shape). worst_cost_of m.geometry a.most ≤ s.limit) (sym lim.same_shape) (subst (λ n. 1 + a.most + div_ceil a.most n ≤ a.shape.limit) (sym lim.tags) sound.most.within) in
-      let most = own.most.greatest a.most costs in
+      let costs : worst_cost_of m.geometry a.most ≤ m.shape.limit = rw (lim.same_shape, lim.tags) sound.most.within in
+      let most = (sounds a.shape log m t.ran).most.greatest a.most costs in
       let many : nat_lt m.most credits ≡ false = grind (arith, nat_tests) in
       let sums : reserved m ≡ shadow.reserved_in a.shadow = sym (same-reserved m) ∙ ap shadow.reserved_in same in
       let over : nat_lt 2147483646 (reserved m + credits) ≡ false = (let le : reserved m + credits ≤ 2147483646 = omega (arith, sums, room) in grind (arith, nat_tests)) in
@@ -206,45 +213,23 @@ module _ (a : Account) (log : Log) (m : Machine) (t : Tied a log m) where
       let next : m.next ≡ a.shadow.next = ap (λ (s : Shadow). s.next) same in
       let late : nat_le (2 ^ 61) (m.next + length m.handles) ≡ false = (let lt : m.next + length m.handles < 2 ^ 61 = omega (arith, seats, next, left) in grind (arith, nat_tests)) in
       let full : is_full m credits ≡ false = rw (over, late) refl in
-      let granted : event_refusal m (Open seat credits) ≡ None = rw (up, none, many, full) refl in
-      record {
-        ran = (m, t.ran, (granted, tt, refl, refl));
-        accepted = t.accepted;
-        one_life = t.one_life;
-        untouched = All-values-insert_entry nat_cmp seat (held credits m.shape words.empty) IsUntouched m.handles t.untouched refl;
-        filled = t.filled;
-        running = λ is. record { up = up; shadow = shadowed m own (Open seat credits) granted tt ∙ ap (begun seat credits) same };
-        failed = λ is. still-up a.aborted is running;
-      }
+      tied-by running (granted_to seat credits a) refl running (Open seat credits) Plain (rw (up, none, many, full) refl) tt refl up t.one_life
+      (All-values-insert_entry nat_cmp seat (held credits m.shape words.empty) IsUntouched m.handles t.untouched refl) t.filled refl
 
   pub tied-drops : a.aborted ≡ false → (seat credits : ℕ) → credits_at a.shadow seat ≡ Some credits → Tied (dropped_of seat a) ((Abandon seat, Ok Plain) ∷ log) (after_event m (Abandon seat))
   tied-drops running seat credits listed =
       let up = tied-up running in
       let there = (some-at running seat credits listed).1 in
-      let granted : event_refusal m (Abandon seat) ≡ None = rw (up, there) refl in
-      record {
-        ran = (m, t.ran, (granted, tt, refl, refl));
-        accepted = t.accepted;
-        one_life = t.one_life;
-        untouched = All-map-remove_entry (is_at (nat_cmp seat)) (λ (e : ℕ × Held). e.1) IsUntouched m.handles t.untouched;
-        filled = t.filled;
-        running = λ is. record { up = up; shadow = shadowed m (sounds a.shape log m t.ran) (Abandon seat) granted tt ∙ ap (dropped seat) (tied-shadow running) };
-        failed = λ is. still-up a.aborted is running;
-      }
+      tied-by running (dropped_of seat a) refl running (Abandon seat) Plain (rw (up, there) refl) tt refl up t.one_life
+      (All-map-remove_entry (is_at (nat_cmp seat)) (λ (e : ℕ × Held). e.1) IsUntouched m.handles t.untouched) t.filled refl
 
   pub tied-drops-none : (seat : ℕ) → (a.aborted ≡ true) ⊎ (credits_at a.shadow seat ≡ None) → Tied (dropped_of seat a) log m
-  tied-drops-none seat why = record {
-    ran = t.ran;
-    accepted = t.accepted;
-    one_life = t.one_life;
-    untouched = t.untouched;
-    filled = t.filled;
-    running = λ is. record {
-      up = (t.running is).up;
-      shadow = (t.running is).shadow ∙ ap (λ es. let s : Shadow = record a.shadow { seats = es } in s) (⊎_elim (λ fell. still-up a.aborted fell is) (λ none. sym (gone-none (is_at (nat_cmp seat)) a.shadow.seats none)) why);
-    };
-    failed = λ is. record { down = (t.failed is).down; shadow = (t.failed is).shadow };
-  }
+  tied-drops-none seat why =
+      let seats : a.aborted ≡ false → a.shadow.seats ≡ (dropped_of seat a).shadow.seats
+      = λ is. ⊎_elim (λ fell. still-up a.aborted fell is) (λ none. sym (gone-none (is_at (nat_cmp seat)) a.shadow.seats none)) why in
+      let running : a.aborted ≡ false → IsRunning (dropped_of seat a).shadow m = λ is. record { up = tied-up is; shadow = tied-shadow is ∙ (λ i. record a.shadow { seats = seats is i }) } in
+      let failed : a.aborted ≡ true → IsDown (dropped_of seat a).shadow m = λ is. let down = t.failed is in assumption in
+      assumption
 
   pub tied-stops : (seat : ℕ) (ws : WordMap) → CanStop a seat ws
       → (n : Machine) × Tied (queued seat ws a) ((Stop seat, Ok (Ticket a.shadow.next)) ∷ touches_of seat ws ++ log) n × (n.settled ≡ m.settled) × (n.taken ≡ m.taken)

@@ -2,8 +2,8 @@
 use Rattle.std.proofs.Common.{◌≡◌, ℕ, zero, suc, ◌+◌, ◌<◌, ◌≤◌, true, false, List, [], ◌∷◌, ◌++◌, All, length, Some, get_or, slice_get, sym, refl, ap, ◌∙◌, subst, arith, append_assoc, nat_le, cond, inl, inr}
 use Rattle.std.proofs.Math.ListN.{get_or-append}
 use Rattle.std.proofs.lemmas.List.{same_lists}
-use Rattle.std.proofs.lemmas.List.Elements.{All-nil, All-push, All-weaker}
-use Rattle.std.proofs.lemmas.Option.{get_or_from_slice_get, slice_get-get_or, slice_get_within}
+use Rattle.std.proofs.lemmas.List.Elements.{All-nil, All-push}
+use Rattle.std.proofs.lemmas.Option.{get_or_from_slice_get, slice_get-get_or}
 use Rattle.jb_plan.specs.Batch.{gathered}
 use Rattle.jb_cost.specs.Cut.{RisesTo, IsCut}
 use Rattle.jb_cost.specs.Pieces.{pieces}
@@ -14,10 +14,11 @@ use Rattle.jb_handle.specs.declared.shape.Shape.{Shape}
 use Rattle.jb_handle.specs.declared.stopped.Stopped.{Stopped}
 use Rattle.jb_handle.specs.Tickets.{TicketsFrom}
 use Rattle.jb_handle.specs.Word.{WordMap}
-use Rattle.jb_board.proofs.EntryPlaces.{get_last, placed_on}
+use Rattle.jb_board.proofs.EntryPlaces.{at-place, get_last, placed_on}
 use Rattle.jb_book.specs.Account.{Account, trail_from}
 use Rattle.jb_book.specs.Calls.{IsCutOf}
 use Rattle.jb_book.specs.CallsToBook.{IsInHistory, IsRestOf, AreCut, HasOut}
+use mathlib.Core.List.{IsPrefix}
 use Rattle.jb_disk.specs.declared.disk.Disk.{Ghosts}
 use Rattle.jb_board.specs.HistoryRule.{StandsIn}
 use Rattle.jb_deck.specs.Deck.{OpenDeck}
@@ -30,13 +31,17 @@ use Rattle.jb_book.proofs.MarksLast.{first-lower}
 
 -- ---- handles of one history
 
+-- what stands in a first part of a history stands in the whole
+pub recorded-on : (xs ys : List WordMap) → IsPrefix xs ys → (hs : List Stopped) → All (IsInHistory xs) hs → All (IsInHistory ys) hs
+recorded-on xs ys p hs each k d lt = let h = get_or hs k d in placed_on xs ys p (h.ticket, h.words) (each k d lt)
+
 -- one more handle stops, at the end of the history
 pub recorded-more : (log : List WordMap) (queue : List Stopped) (ticket : ℕ) (words : WordMap) → All (IsInHistory log) queue → length log ≡ ticket
     → All (IsInHistory (log ++ words ∷ [])) (queue ++ record { ticket = ticket; words = words } ∷ [])
 recorded-more log queue ticket words stand at =
     let more = log ++ words ∷ [] in
     All-push (IsInHistory more) queue (record { ticket = ticket; words = words })
-    (All-weaker (IsInHistory log) (IsInHistory more) (λ h is. placed_on log more (words ∷ [], refl) (h.ticket, h.words) is) queue stand)
+    (recorded-on log more (words ∷ [], refl) queue stand)
     (subst (λ k. IsInHistory more (record { ticket = k; words = words })) at (get_last log words))
 
 get-back : {E : Type 0} (xs ys : List E) (k : ℕ) (e : E) → k < length xs → slice_get (xs ++ ys) k ≡ Some e → slice_get xs k ≡ Some e
@@ -147,17 +152,13 @@ shown-at : {D : Type 0} (marks : List (OpenDeck D)) (ticket : ℕ) → IsShown m
 shown-at marks ticket (inl (number, s)) = shown-in marks ticket s.entry s.marked (λ some. s.to)
 shown-at marks ticket (inr s) = shown-in marks ticket s.entry s.marked (λ some. omega arith)
 
--- what holds of all marks holds of this one
-pub of-mark : {D : Type 0} (P : OpenDeck D → Type 0) (marks : List (OpenDeck D)) (at : ℕ) (m : OpenDeck D) → StandsIn marks (at, m) → All P marks → P m
-of-mark P marks at m stands each = subst P (get_or_from_slice_get marks at m m stands) (each at m (slice_get_within marks at m stands))
-
 -- ---- a crash
 
 pub stays : {D : Type 0} (G : Ghosts D) (b : Begun) → ShownStays G b
 stays G b stops handles shape disk trail known before marks ticket ends first shown known_start held =
     let s = shown-at before ticket shown in
     let m = s.mark in
-    let last = of-mark (Lasts G b ends.ends.since.given ends.ends.deck) marks s.at m (placed_on before marks first (s.at, m) s.stands) ends.last in
+    let last = at-place (Lasts G b ends.ends.since.given ends.ends.deck) marks s.at m (placed_on before marks first (s.at, m) s.stands) ends.last in
     let late = s.late last.has.tiles in
     let there = subst G.honest (sym ends.ends.same_disk) held in
     record {
@@ -178,7 +179,7 @@ stays G b stops handles shape disk trail known before marks ticket ends first sh
 pub shown_is_given : {D : Type 0} (G : Ghosts D) (b : Begun) → ShownIsGiven G b
 shown_is_given G b known marks d ticket words is each shown stopped =
     let s = shown-at marks ticket shown in
-    let has = of-mark (HasSettledOf d) marks s.at s.mark s.stands each in
+    let has = at-place (HasSettledOf d) marks s.at s.mark s.stands each in
     let late = s.late has.tiles in
     let within : ticket < length is.given = omega (arith, late) in
     let any : Stopped = record { ticket = ticket; words = words } in

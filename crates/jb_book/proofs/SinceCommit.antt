@@ -37,7 +37,7 @@ use Rattle.jb_deck.proofs.HomesStand.{call-stood}
 use Rattle.jb_book.specs.Journal.{EndsRound, RefusesRound}
 use Rattle.jb_book.specs.Origin.{Begun}
 use Rattle.jb_book.specs.SinceMark.{IsMarkedOf}
-use Rattle.jb_book.proofs.CutEntries.{cut-last, cut-within, for-length, for-past, past-append}
+use Rattle.jb_book.proofs.CommitEntries.{cut-last, cut-within, for-length, for-past, past-append}
 use Rattle.jb_book.proofs.MarksLast.{ever-on, kept-all, first-longer, first-some}
 use Rattle.jb_book.proofs.SinceTakeTrail.{numbered-first, numbered-for, numbered-on, start-more}
 use Rattle.jb_book.proofs.SinceNoHandles.{more-counted, plain-is}

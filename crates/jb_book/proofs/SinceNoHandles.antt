@@ -1,9 +1,8 @@
--- A journal since its desk was started: with other things known of its handles, and what a call keeps by which it is given none.
+-- A journal since its desk was started: with other things known of its handles, and what a call keeps by which it is given none, as a checkpoint and a read.
 use Rattle.std.proofs.Common.{◌≡◌, ℕ, Bool, true, false, ◌+◌, ◌<◌, ◌≤◌, List, [], ◌∷◌, length, take, All, Result, Ok, Err, OnOk, refl, ap, sym, subst, ◌∙◌, arith, append-nil}
 use Rattle.std.proofs.lemmas.List.Elements.{All-weaker}
-use Rattle.jb_disk.specs.Faults.{MoreFaults}
+use Rattle.jb_disk.specs.Faults.{MoreFaults, CountsAny}
 use Rattle.jb_disk.specs.Image.{Image}
-use Rattle.jb_disk.specs.Faults.{CountsAny}
 use Rattle.jb_disk.specs.KeptOn.{KeptOn}
 use Rattle.jb_disk.specs.declared.disk.Disk.{Ghosts}
 use Rattle.jb_disk.specs.Time.{LeavesOnly}
@@ -15,10 +14,10 @@ use Rattle.jb_scan.specs.Found.{log_blocks}
 use Rattle.jb_super.specs.Journal.{SameJournal}
 use Rattle.jb_deck.specs.Checkpoints.{AnswersCheckpoint, AnswersRun, Checkpoints}
 use Rattle.jb_group.specs.declared.group.Group.{Group}
-use Rattle.jb_deck.specs.Deck.{OpenDeck}
+use Rattle.jb_deck.specs.Deck.{OpenDeck, on_disk}
 use Rattle.jb_deck.specs.Done.{past_after, start_of}
 use Rattle.jb_log.specs.Follows.{FollowsNone, StandsBy}
-use Rattle.jb_log.specs.Log.{transactions}
+use Rattle.jb_log.specs.Log.{transactions, standing}
 use Rattle.jb_deck.specs.declared.checked.Checked.{Checked}
 use Rattle.jb_deck.specs.declared.checked.CheckedRun.{CheckedRun}
 use Rattle.jb_deck.specs.declared.checked.CheckpointFault.{CheckpointFault}
@@ -27,13 +26,19 @@ use Rattle.jb_deck.specs.declared.done.Entry.{Entry}
 use Rattle.jb_log.proofs.OwnSuperblock.{same-then}
 use Rattle.jb_deck.specs.Since.{LiveOf, checkpointed, deck_homes}
 use Rattle.jb_deck.proofs.HomesSinceOpen.{ended-is-call}
-use Rattle.jb_book.specs.Journal.{blocks_in_use, most_at_once, ChecksAt, ChecksRound}
+use Rattle.jb_book.specs.Journal.{blocks_in_use, most_at_once, ChecksAt, ChecksRound, ReadsHome}
 use Rattle.jb_book.specs.declared.checkpoint.CheckpointRound.{CheckpointRound}
 use Rattle.jb_book.specs.declared.checkpoint.CheckpointRound.TheVariants.{Home}
 use Rattle.jb_book.specs.Origin.{Begun}
 use Rattle.jb_book.specs.Since.{NumberedFrom, HasFirst, IsCosted, IsSince, IsSinceOf, Since, WasGiven, may_stop}
-use Rattle.jb_book.specs.SinceMark.{IsMarkedOf}
+use Rattle.jb_book.specs.SinceMark.{IsMarkedOf, HasSettledOf}
 use Rattle.jb_book.proofs.MarksLast.{CountsNow, ever-on, kept-all, first-none}
+use Rattle.jb_deck.specs.ReadHome.{AnswersRead, IsAsBefore}
+use Rattle.jb_deck.specs.declared.read.ReadHomeFault.{ReadHomeFault}
+use Rattle.jb_deck.specs.declared.read.ReadHomeFault.TheVariants.{Aborted, OutOfRange, Length, DeviceFault}
+use Rattle.jb_handle.specs.Word.{WordMap}
+use Rattle.jb_board.specs.HistoryRule.{StandsIn}
+use Rattle.jb_book.specs.History.{IsStop}
 
 -- what a round answers of what the journal answers
 abbrev pub round_of : Result CheckedRun CheckpointFault → Result CheckpointRound CheckpointFault
@@ -175,6 +180,55 @@ module _ {D : Type 0} (G : Ghosts D) (counts_now : CountsNow G) (b : Begun) (kno
       (λ low few none. absurd (more-counted b.faults (G.faults old.disk) (G.faults new.disk) low answers.2 few none))
       (λ held given live on. cc (answers.3, on))
       leaves is
+
+  -- ---- a home is read
+
+  -- what a crash leaves of a read
+  abbrev As : Image → Type 0
+  As c = IsAsBefore old.log.sb old.log.next (G.size old.disk) (G.count old.disk) (deck_homes G.newest old) (G.newest old.disk) c
+
+  abbrev LeavesAs : Type 0
+  LeavesAs = old.aborted ≡ false → G.honest new.disk → LeavesOnly G.moment G.left_since old.disk new.disk As
+
+  abbrev Content : Type 0
+  Content = G.honest new.disk → G.newest new.disk ≡ G.newest old.disk
+
+  -- the home was read, or the disk did not read it
+  called : (ms : List (OpenDeck D)) → old.aborted ≡ false → new ≡ on_disk old new.disk → G.faults old.disk ≤ G.faults new.disk → Content → LeavesAs → IsMarkedOf G b known ms old → IsMarkedOf G b known ms new
+  called ms up same more content leaves is =
+      still-marked up (still-as G old new old.aborted same more) ms
+      (λ low few none. ap (λ (d : OpenDeck D). d.aborted) same ∙ up)
+      (λ held given live on. (
+        λ home. ap (λ (d : OpenDeck D). deck_homes G.newest d home) same ∙ ap (λ image. standing old.log old.groups image home) (content held),
+        subst (λ (d : OpenDeck D). LiveOf given d.groups) (sym same) live,
+      ))
+      (λ on held. weaken G.moment G.left_since old.disk new.disk As None (λ c was. was.follows) (leaves on held))
+      is
+
+  pub read-marked : (ms : List (OpenDeck D)) (home bytes : ℕ) (r : Result (Unit {0}) ReadHomeFault) → AnswersRead (G.size old.disk) (G.faults old.disk) (G.faults new.disk) old new home bytes r → Content → LeavesAs → IsMarkedOf G b known ms old → IsMarkedOf G b known ms new
+  read-marked ms home bytes (Ok done) answers content leaves is = called ms answers.0 answers.4 (omega arith) content leaves is
+  read-marked ms home bytes (Err Aborted) answers content leaves is = subst (IsMarkedOf G b known ms) (sym answers.1) is
+  read-marked ms home bytes (Err OutOfRange) answers content leaves is = subst (IsMarkedOf G b known ms) (sym answers.2) is
+  read-marked ms home bytes (Err Length) answers content leaves is = subst (IsMarkedOf G b known ms) (sym answers.3) is
+  read-marked ms home bytes (Err DeviceFault) answers content leaves is = called ms answers.0 answers.4 answers.3.no_fewer content leaves is
+
+pub read-home : {D : Type 0} (G : Ghosts D) (b : Begun) (known : Stopped → Type 0) (old new : OpenDeck D) → KeptOn G CountsAny old.disk new.disk
+    → (log : List WordMap) (marks marks_after : List (OpenDeck D)) (at : ℕ) (home bytes : ℕ) (found : List ℕ) (r : Result (Unit {0}) ReadHomeFault) → ((h : Stopped) → known h → IsStop b log h) → All (HasSettledOf old) marks → StandsIn marks_after (at, new)
+    → AnswersRead (G.size old.disk) (G.faults old.disk) (G.faults new.disk) old new home bytes r
+    → (G.honest new.disk → OnOk r (found ≡ standing old.log old.groups (G.newest old.disk) home)) → (G.honest new.disk → G.newest new.disk ≡ G.newest old.disk) → IsSinceOf G b known old → IsSinceOf G b known new → ReadsHome G b log marks marks_after home bytes found r
+read-home G b known old new kept log marks marks_after at home bytes found r stop settled marked answers reads content is after = record {
+  old = old;
+  new = new;
+  same_disk = kept;
+  answers = answers;
+  stands = λ known_start held. reads held;
+  content = λ known_start held. content held;
+  before = is-weaker G b known (IsStop b log) stop old is;
+  after = is-weaker G b known (IsStop b log) stop new after;
+  settled = settled;
+  at = at;
+  marked = marked;
+}
 
 -- ---- what a round says
 

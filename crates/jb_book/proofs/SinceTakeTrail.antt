@@ -64,10 +64,6 @@ none-taken oldest past end (e ∷ es) (f ∷ fs) stops tiles starts = absurd (le
 
 -- ---- entries that are taken from the trail of a journal since its desk was started
 
--- what holds of all entries holds of the last ones
-all-rest : (P : Entry → Type 0) (all taken rest : List Entry) → all ≡ taken ++ rest → All P all → All P rest
-all-rest P all taken rest is each = subst (All P) (ap (drop (length taken)) is ∙ drop-append_seam taken rest) (All-drop P (length taken) all each)
-
 module _ {D : Type 0} (G : Ghosts D) (b : Begun) (known : Stopped → Type 0) (past : ℕ) (ms : List (OpenDeck D)) (old new : OpenDeck D) (tiles : Follow (start_of old.trail) 0 (past_after 0 old.trail) old.trail) (is : IsMarkedOf G b known ms old) where
   module _ (taken : List Entry) (takes : TakesTrail past old new taken) where
     -- where none was taken, what is left begins where it did
@@ -92,7 +88,7 @@ module _ {D : Type 0} (G : Ghosts D) (b : Begun) (known : Stopped → Type 0) (p
       tickets = has.tickets;
       settled = subst (λ n. n ≤ length given) ends has.settled;
       all = λ up. has.all up ∙ ends;
-      costs = all-rest (IsCosted old.shape given) old.trail taken new.trail takes.is has.costs;
+      costs = subst (All (IsCosted old.shape given)) (ap (drop (length taken)) takes.is ∙ drop-append_seam taken new.trail) (All-drop (IsCosted old.shape given) (length taken) old.trail has.costs);
       first = has.first + length taken;
       numbers = numbered-rest has.first taken new.trail (subst (NumberedFrom has.first) takes.is has.numbers);
       next = (let all = both in omega (arith, all));

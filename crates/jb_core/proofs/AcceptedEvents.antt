@@ -6,6 +6,8 @@ use Rattle.jb_handle.specs.HeldChanges.{Held, held, first_of}
 use Rattle.jb_core.specs.declared.event.Event.{Event}
 use Rattle.jb_core.specs.declared.event.Event.TheVariants.{Restart}
 use Rattle.jb_core.specs.declared.event.CoreFault.TheVariants.{Down, Empty, BatchOut}
+use Rattle.jb_handle.specs.declared.shape.Shape.{Shape}
+use Rattle.jb_core.specs.MachineRuns.{IsNewMachine}
 use Rattle.jb_core.specs.Machine.{Machine, handle_at, held_at, event_refusal, refusal_by, refusal_up, refusal_down, refusal_take}
 
 pub found-none : {A : Type 0} (found : Option A) → is_some found ≡ false → found ≡ None
@@ -53,3 +55,20 @@ still-up b up down = let both : true ≡ false = sym up ∙ down in absurd (let 
 
 pub there-at : (m : Machine) (seat : ℕ) (h : Held) → handle_at m seat ≡ Some h → held_at m seat ≡ h
 there-at m seat h there = ap (λ found. unwrap_or found (held 0 m.shape map.empty)) there
+
+-- a machine that has done nothing, and the new one
+abbrev pub new_of : Machine → Machine
+new_of m = record m { up = true; handles = []; queue = []; taken = []; settled = []; earlier = 0; checkpointed = 0; next = 0; credits = [] }
+
+pub new-is : (shape : Shape) (m : Machine) → IsNewMachine shape m → new_of m ≡ m
+new-is shape m start = sym (λ i. record m {
+  up = start.up i;
+  handles = start.handles i;
+  queue = start.queue i;
+  taken = start.taken i;
+  settled = start.settled i;
+  earlier = start.earlier i;
+  checkpointed = start.checkpointed i;
+  next = start.next i;
+  credits = start.credits i;
+})

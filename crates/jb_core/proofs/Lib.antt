@@ -1,12 +1,9 @@
 pub mod AcceptedEvents
-pub mod CutBounds
 pub mod LineMoves
 pub mod MapEntries
-pub mod RisingEnds
 pub mod SeatMap
 pub mod Seats
 pub mod SettledGroups
 pub mod SoundEvents
 pub mod SoundRuns
-pub mod TouchRefusals
 pub mod WholeLives

@@ -2,6 +2,7 @@
 use Rattle.std.proofs.Common.{◌≡◌, ℕ, zero, suc, ◌+◌, ◌-◌, ◌<◌, ◌≤◌, List, [], ◌∷◌, ◌++◌, map, length, take, drop, get_or, slice_range, slice_get, Some, None, le_refl, sym, refl, ap, subst, ◌∙◌, arith}
 use Rattle.std.proofs.lemmas.List.{nil_from_length, take-append-drop, drop_all, drop-drop, length-drop, length-append, length-take-le, take-take, take-append-le, drop-append-le}
 use Rattle.std.proofs.lemmas.Option.{slice_get_past}
+use Rattle.std.specs.Global.{Vec}
 use Rattle.std.proofs.Math.Seq.{drop-cons, take-add, drop-append_seam, drop-length}
 use Rattle.jb_handle.specs.declared.stopped.Stopped.{Stopped}
 use Rattle.jb_cost.specs.Cut.{RisesTo, IsCut}
@@ -75,31 +76,32 @@ module _ (s : Inside) (kept : IsInLine s) (n end : ℕ) (there : n ≤ length (t
 settled-inside : (s : Inside) → IsInLine s → s.settled_end ≤ length s.handles.items
 settled-inside s kept = let before : s.settled_end ≤ s.taken_end = rises-le s.taken_end s.settled_end (taken_ends s) kept.taken in let inside = kept.inside in omega arith
 
+-- the same settled groups, with other handles, credits and ends
+abbrev pub changed : Inside → Vec Stopped → Vec ℕ → Vec ℕ → ℕ → Inside
+changed s handles granted ends taken_end = record { handles = handles; granted = granted; ends = ends; taken_end = taken_end; settled = s.settled; settled_end = s.settled_end }
+
 -- ---- the handles that are not settled are dropped
 
-module _ (s : Inside) (kept : IsInLine s) (t : Inside) (handles : t.handles.items ≡ take s.settled_end s.handles.items) (ends : t.ends.items ≡ take s.settled s.ends.items)
-    (settled : t.settled ≡ s.settled) (settled_end : t.settled_end ≡ s.settled_end) where
-  same-ends : take t.settled t.ends.items ≡ take s.settled s.ends.items
-  same-ends = ap (λ n. take n t.ends.items) settled ∙ ap (take s.settled) ends ∙ take-take s.settled s.settled s.ends.items (le_refl s.settled)
+module _ (s : Inside) (kept : IsInLine s) (hs : Vec Stopped) (gs es : Vec ℕ) (handles : hs.items ≡ take s.settled_end s.handles.items) (ends : es.items ≡ take s.settled s.ends.items) where
+  same-ends : take s.settled es.items ≡ take s.settled s.ends.items
+  same-ends = rw ends (take-take s.settled s.settled s.ends.items (le_refl s.settled))
 
-  pub cut-settled : (line_of_stops t).settled ≡ (line_of_stops s).settled
-  cut-settled = ap (λ es. pieces_from 0 es t.handles.items) same-ends ∙ ap (pieces_from 0 (take s.settled s.ends.items)) handles ∙ pieces-take s.settled_end 0 (take s.settled s.ends.items) s.handles.items kept.settled
+  pub cut-settled : (line_of_stops (changed s hs gs es s.settled_end)).settled ≡ (line_of_stops s).settled
+  cut-settled = rw (same-ends, handles) (pieces-take s.settled_end 0 (take s.settled s.ends.items) s.handles.items kept.settled)
 
-  pub cut-kept : t.taken_end ≡ s.settled_end → t.granted.items ≡ take s.settled_end s.granted.items → IsInLine t
-  cut-kept taken_end granted =
+  pub cut-kept : gs.items ≡ take s.settled_end s.granted.items → IsInLine (changed s hs gs es s.settled_end)
+  cut-kept granted =
       let held = ap length handles in
-      let given = ap length granted in
       let inside = settled-inside s kept in
       let first = length-take-le s.settled_end s.handles.items inside in
-      let paired = kept.paired in
-      let credits = length-take-le s.settled_end s.granted.items (omega arith) in
-      let none : drop t.settled t.ends.items ≡ [] = ap (λ n. drop n t.ends.items) settled ∙ ap (drop s.settled) ends ∙ drop_all s.settled (take s.settled s.ends.items) (omega (arith, length-take-le s.settled s.ends.items kept.counted)) in
+      let credits = length-take-le s.settled_end s.granted.items (omega (arith, kept.paired)) in
+      let counted = length-take-le s.settled s.ends.items kept.counted in
       record {
-        counted = let counted = length-take-le s.settled s.ends.items kept.counted in let same = ap length ends in omega (arith, settled);
-        settled = subst (λ es. RisesTo t.settled_end 0 es) (sym same-ends) (subst (λ m. RisesTo m 0 (take s.settled s.ends.items)) (sym settled_end) kept.settled);
-        taken = subst (λ es. RisesTo t.taken_end t.settled_end es) (sym none) (settled_end ∙ sym taken_end);
-        inside = omega (arith, taken_end, held, first);
-        paired = given ∙ credits ∙ sym (held ∙ first);
+        counted = omega (arith, counted, ap length ends);
+        settled = rw same-ends kept.settled;
+        taken = rw (ends, drop_all s.settled (take s.settled s.ends.items) (omega (arith, counted))) refl;
+        inside = omega (arith, held, first);
+        paired = ap length granted ∙ credits ∙ sym (held ∙ first);
       }
 
 -- ---- a handle comes to the queue's end
@@ -107,23 +109,21 @@ module _ (s : Inside) (kept : IsInLine s) (t : Inside) (handles : t.handles.item
 longer-pieces : {A : Type 0} (e a : ℕ) (es : List ℕ) (xs ys : List A) → RisesTo e a es → e ≤ length xs → pieces_from a es (xs ++ ys) ≡ pieces_from a es xs
 longer-pieces e a es xs ys rises inside = sym (pieces-take e a es (xs ++ ys) rises) ∙ ap (pieces_from a es) (take-append-le e xs ys inside) ∙ pieces-take e a es xs rises
 
-pub push-line : (s : Inside) → IsInLine s → (t : Inside) (handle : Stopped) (credits : ℕ)
-    → t.handles.items ≡ s.handles.items ++ handle ∷ [] → t.granted.items ≡ s.granted.items ++ credits ∷ []
-    → t.ends.items ≡ s.ends.items → t.taken_end ≡ s.taken_end → t.settled ≡ s.settled → t.settled_end ≡ s.settled_end
-    → IsPushed handle credits (line_of_stops s) (line_of_stops t)
-push-line s kept t handle credits handles granted ends taken_end settled settled_end =
+pub push-line : (s : Inside) → IsInLine s → (hs : Vec Stopped) (gs : Vec ℕ) (handle : Stopped) (credits : ℕ) → hs.items ≡ s.handles.items ++ handle ∷ [] → gs.items ≡ s.granted.items ++ credits ∷ []
+    → IsPushed handle credits (line_of_stops s) (line_of_stops (changed s hs gs s.ends s.taken_end))
+push-line s kept hs gs handle credits handles granted =
     let inside = settled-inside s kept in
     record {
-      settled = rw (handles, ends, settled) (longer-pieces s.settled_end 0 (take s.settled s.ends.items) s.handles.items (handle ∷ []) kept.settled inside);
-      taken = rw (handles, ends, settled, settled_end) (longer-pieces s.taken_end s.settled_end (taken_ends s) s.handles.items (handle ∷ []) kept.taken kept.inside);
-      queue = rw (handles, taken_end) (drop-append-le s.taken_end s.handles.items (handle ∷ []) kept.inside);
-      credits = rw (granted, settled_end) (drop-append-le s.settled_end s.granted.items (credits ∷ []) (omega (arith, kept.paired)));
+      settled = rw handles (longer-pieces s.settled_end 0 (take s.settled s.ends.items) s.handles.items (handle ∷ []) kept.settled inside);
+      taken = rw handles (longer-pieces s.taken_end s.settled_end (taken_ends s) s.handles.items (handle ∷ []) kept.taken kept.inside);
+      queue = rw handles (drop-append-le s.taken_end s.handles.items (handle ∷ []) kept.inside);
+      credits = rw granted (drop-append-le s.settled_end s.granted.items (credits ∷ []) (omega (arith, kept.paired)));
     }
 
 -- ---- the queue is taken
 
 pub rises-below : (n a : ℕ) (bs : List ℕ) → RisesTo n a bs → (k d : ℕ) → k < length bs → get_or bs k d ≤ n
-rises-below n a [] rises k d there = absurd (let h : ⊥ = omega arith in h)
+rises-below n a [] rises k d there = omega arith
 rises-below n a (b ∷ bs) rises zero d there = rises-le n b bs rises.1
 rises-below n a (b ∷ bs) rises (suc k) d there = rises-below n b bs rises.1 k d (omega arith)
 
@@ -136,59 +136,49 @@ cut-pieces : {A : Type 0} (n : ℕ) (bounds : List ℕ) (xs : List A) → IsCut 
 cut-pieces n [] xs cut = absurd cut
 cut-pieces n (a ∷ bs) xs cut = ap (λ x. pieces_from x bs xs) (sym cut.0)
 
-module _ (s : Inside) (kept : IsInLine s) (bounds : List ℕ) (cut : IsCut (length (line_of_stops s).queue) bounds) (none : (line_of_stops s).taken ≡ []) (t : Inside)
-    (handles : t.handles.items ≡ s.handles.items) (granted : t.granted.items ≡ s.granted.items) (ends : t.ends.items ≡ s.ends.items ++ map (λ end. s.taken_end + end) (drop 1 bounds))
-    (taken_end : t.taken_end ≡ length s.handles.items) (settled : t.settled ≡ s.settled) (settled_end : t.settled_end ≡ s.settled_end) where
+module _ (s : Inside) (kept : IsInLine s) (bounds : List ℕ) (cut : IsCut (length (line_of_stops s).queue) bounds) (none : (line_of_stops s).taken ≡ [])
+    (es : Vec ℕ) (end : ℕ) (ends : es.items ≡ s.ends.items ++ map (λ end. s.taken_end + end) (drop 1 bounds)) (last : end ≡ length s.handles.items) where
   no-ends : length (taken_ends s) ≡ 0
   no-ends = sym (length-pieces s.settled_end (taken_ends s) s.handles.items) ∙ ap length none
 
   all-settled : s.settled ≡ length s.ends.items
   all-settled = let left = length-drop s.settled s.ends.items in let counted = kept.counted in let empty = no-ends in omega arith
 
-  all-end : s.settled_end ≡ s.taken_end
-  all-end = subst (RisesTo s.taken_end s.settled_end) (nil_from_length (taken_ends s) no-ends) kept.taken
+  new-ends : drop s.settled es.items ≡ map (λ end. s.taken_end + end) (drop 1 bounds)
+  new-ends = rw (ends, all-settled) (drop-append_seam s.ends.items (map (λ end. s.taken_end + end) (drop 1 bounds)))
 
-  new-ends : drop t.settled t.ends.items ≡ map (λ end. s.taken_end + end) (drop 1 bounds)
-  new-ends = rw (ends, settled, all-settled) (drop-append_seam s.ends.items (map (λ end. s.taken_end + end) (drop 1 bounds)))
+  old-ends : take s.settled es.items ≡ take s.settled s.ends.items
+  old-ends = rw ends (take-append-le s.settled s.ends.items (map (λ end. s.taken_end + end) (drop 1 bounds)) kept.counted)
 
-  old-ends : take t.settled t.ends.items ≡ take s.settled s.ends.items
-  old-ends = rw (ends, settled) (take-append-le s.settled s.ends.items (map (λ end. s.taken_end + end) (drop 1 bounds)) kept.counted)
-
-  behind : s.taken_end + length (line_of_stops s).queue ≡ length s.handles.items
+  behind : s.taken_end + length (line_of_stops s).queue ≡ end
   behind = let left = length-drop s.taken_end s.handles.items in let inside = kept.inside in omega arith
 
-  from-end : s.taken_end + 0 ≡ t.settled_end
-  from-end = omega (arith, all-end, settled_end)
+  from-end : s.taken_end + 0 ≡ s.settled_end
+  from-end = let same : s.settled_end ≡ s.taken_end = subst (RisesTo s.taken_end s.settled_end) (nil_from_length (taken_ends s) no-ends) kept.taken in omega arith
 
-  pub take-kept : IsInLine t
+  pub take-kept : IsInLine (changed s s.handles s.granted es end)
   take-kept = record {
-    counted = let counted = kept.counted in let longer = ap length ends ∙ length-append s.ends.items (map (λ end. s.taken_end + end) (drop 1 bounds)) in omega (arith, settled);
-    settled = subst (λ es. RisesTo t.settled_end 0 es) (sym old-ends) (subst (λ m. RisesTo m 0 (take s.settled s.ends.items)) (sym settled_end) kept.settled);
-    taken = subst (λ es. RisesTo t.taken_end t.settled_end es) (sym new-ends) (subst (λ a. RisesTo t.taken_end a (map (λ end. s.taken_end + end) (drop 1 bounds))) from-end
-        (subst (λ n. RisesTo n (s.taken_end + 0) (map (λ end. s.taken_end + end) (drop 1 bounds))) (behind ∙ sym taken_end) (rises-shift s.taken_end (length (line_of_stops s).queue) 0 (drop 1 bounds) (cut-rises (length (line_of_stops s).queue) bounds cut))));
-    inside = let same = ap length handles in omega (arith, taken_end);
-    paired = ap length granted ∙ kept.paired ∙ sym (ap length handles);
+    counted = let counted = kept.counted in let longer = ap length ends ∙ length-append s.ends.items (map (λ end. s.taken_end + end) (drop 1 bounds)) in omega arith;
+    settled = rw old-ends kept.settled;
+    taken = rw (new-ends, ← behind, ← from-end) (rises-shift s.taken_end (length (line_of_stops s).queue) 0 (drop 1 bounds) (cut-rises (length (line_of_stops s).queue) bounds cut));
+    inside = omega (arith, last);
+    paired = kept.paired;
   }
 
-  pub take-line : IsTaken bounds (line_of_stops s) (line_of_stops t)
+  pub take-line : IsTaken bounds (line_of_stops s) (line_of_stops (changed s s.handles s.granted es end))
   take-line = record {
-    settled = ap (λ es. pieces_from 0 es t.handles.items) old-ends ∙ ap (pieces_from 0 (take s.settled s.ends.items)) handles;
-    taken =
-        ap (λ es. pieces_from t.settled_end es t.handles.items) new-ends
-        ∙ ap (λ a. pieces_from a (map (λ end. s.taken_end + end) (drop 1 bounds)) t.handles.items) (sym from-end)
-        ∙ ap (pieces_from (s.taken_end + 0) (map (λ end. s.taken_end + end) (drop 1 bounds))) handles
-        ∙ pieces-shift s.taken_end 0 (drop 1 bounds) s.handles.items
-        ∙ cut-pieces (length (line_of_stops s).queue) bounds (drop s.taken_end s.handles.items) cut;
-    queue = ap (λ xs. drop t.taken_end xs) handles ∙ ap (λ n. drop n s.handles.items) taken_end ∙ drop-length s.handles.items;
-    credits = ap (λ xs. drop t.settled_end xs) granted ∙ ap (λ n. drop n s.granted.items) settled_end;
+    settled = rw old-ends refl;
+    taken = rw (new-ends, ← from-end) (pieces-shift s.taken_end 0 (drop 1 bounds) s.handles.items ∙ cut-pieces (length (line_of_stops s).queue) bounds (drop s.taken_end s.handles.items) cut);
+    queue = rw last (drop-length s.handles.items);
+    credits = refl;
   }
 
 -- ---- a group is read
 
 get-first : {A : Type 0} (xs : List A) (i : ℕ) (x : A) (rest : List A) → drop i xs ≡ x ∷ rest → slice_get xs i ≡ Some x
-get-first [] zero x rest is = absurd (let h : ⊥ = cc in h)
-get-first [] (suc i) x rest is = absurd (let h : ⊥ = cc in h)
-get-first (y ∷ ys) zero x rest is = ap Some (let same : y ≡ x = cc in same)
+get-first [] zero x rest is = cc
+get-first [] (suc i) x rest is = cc
+get-first (y ∷ ys) zero x rest is = cc
 get-first (y ∷ ys) (suc i) x rest is = get-first ys i x rest is
 
 module _ (s : Inside) (kept : IsInLine s) where

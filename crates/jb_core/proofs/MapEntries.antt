@@ -1,7 +1,8 @@
 -- The entries of a map by their keys: how many there are, and what they add up to.
-use Rattle.std.proofs.Common.{◌≡◌, ℕ, suc, ◌+◌, ◌≤◌, Bool, true, false, cond, List, [], ◌∷◌, length, Option, Some, None, Less, Equal, Greater, refl, ap, le_refl, arith, sum_by}
+use Rattle.std.proofs.Common.{◌≡◌, ℕ, suc, ◌+◌, ◌≤◌, Bool, true, false, cond, List, [], ◌∷◌, length, Option, Some, None, Less, Equal, Greater, refl, ap, le_refl, arith, sum_by, unwrap_or, option_map}
 use Rattle.std.proofs.lemmas.Bool.{both_ways}
 use Rattle.std.proofs.lemmas.List.Sums.{sum_by-cons}
+use Rattle.std.proofs.lemmas.Map.Entries.{sum_by-remove_entry}
 use Rattle.std.specs.Ordering.{nat_cmp, match_ordering, is_eq}
 use Rattle.std.specs.BTreeMap.{insert_entry, is_at}
 use Rattle.std.specs.Map.{lookup, remove_entry, values_of}
@@ -23,6 +24,10 @@ sum-insert f (e ∷ es) k v none =
       | Greater ↦ λ is. omega (arith, rest, sum_by-cons f e.1 (values_of (insert_entry nat_cmp es k v)), sum_by-cons f e.1 (values_of es))
     ] refl
 
+-- a key that goes takes its value
+pub sum-remove : {V : Type 0} (f : V → ℕ) (test : ℕ → Bool) (es : List (ℕ × V)) (v : V) → lookup test es ≡ Some v → sum_by f (values_of (remove_entry test es)) + f v ≡ sum_by f (values_of es)
+sum-remove f test es v there = let all = sum_by-remove_entry f test es in let had = ap (λ found. unwrap_or (option_map f found) 0) there in omega (arith, all, had)
+
 pub length-insert_entry : {V : Type 0} (es : List (ℕ × V)) (k : ℕ) (v : V) → length (insert_entry nat_cmp es k v) ≤ length es + 1
 length-insert_entry [] k v = le_refl 1
 length-insert_entry (e ∷ es) k v =
@@ -31,8 +36,4 @@ length-insert_entry (e ∷ es) k v =
 
 pub length-remove_entry : {V : Type 0} (test : ℕ → Bool) (es : List (ℕ × V)) (v : V) → lookup test es ≡ Some v → length (remove_entry test es) + 1 ≡ length es
 length-remove_entry test [] v is = absurd (let h : ⊥ = cc in h)
-length-remove_entry test (e ∷ es) v is =
-    elim (test e.0) as (λ b. cond b (Some e.1) (lookup test es) ≡ Some v → length (cond b es (e ∷ remove_entry test es)) + 1 ≡ suc (length es)) [
-      | true ↦ λ _. omega arith
-      | false ↦ λ later. let rest = length-remove_entry test es v later in omega arith
-    ] is
+length-remove_entry test (e ∷ es) v is = grind (arith, length-remove_entry test es v)

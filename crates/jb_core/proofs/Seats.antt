@@ -1,6 +1,6 @@
 -- The open handles by their seats: a finite map, one for a seat, and each with the words of its changes.
-use Rattle.std.proofs.Common.{◌≡◌, ℕ, true, false, cond, ◌==◌, List, [], ◌∷◌, Some, None, Ordering, Less, Equal, Greater, sym, refl, ap, ◌∙◌, arith}
-use Rattle.std.proofs.lemmas.Bool.{cond_both}
+use Rattle.std.proofs.Common.{◌≡◌, ℕ, true, false, cond, ◌==◌, List, [], ◌∷◌, Some, None, Ordering, Less, Equal, Greater, sym, refl, ap, ◌∙◌, subst, ⊎_elim, arith}
+use Rattle.std.proofs.lemmas.Bool.{cases_Bool, cond_both}
 use Rattle.std.proofs.lemmas.Bool.Decides.{nat_tests}
 use Rattle.std.specs.Ordering.{nat_cmp, match_ordering}
 use Rattle.std.specs.Cmp.{nat_cmp_total, unsigned_tied}
@@ -30,10 +30,6 @@ seat-swap a b apart = unsigned_tied b a ∙ (let test : (a == b) ≡ false = sym
 -- ---- what a seat holds after a change of a seat k
 
 module _ {V : Type 0} (k : ℕ) where
-  -- another seat holds what it held where the first entry is of k
-  passed-over : (other : ℕ) (v : V) (es : List (ℕ × V)) (key : ℕ) → is_seat other k ≡ false → is_seat k key ≡ true → get es other ≡ get ((key, v) ∷ es) other
-  passed-over other v es key away is = let miss : is_seat other key ≡ false = ap (is_seat other) (sym (seat-is k key is)) ∙ away in rw miss refl
-
   module _ (v : V) where
     set-at : (es : List (ℕ × V)) (s : ℕ) → get (set es k v) s ≡ cond (is_seat s k) (Some v) (get es s)
     set-at es s =
@@ -50,28 +46,19 @@ module _ {V : Type 0} (k : ℕ) where
 
     pub change-same : (es : List (ℕ × V)) → get (change es k v) k ≡ changed (get es k) v
     change-same [] = refl
-    change-same (e ∷ es) = cond_both (is_seat k e.0) ((e.0, v) ∷ es) (e ∷ change es k v) (λ fs. get fs k ≡ changed (get (e ∷ es) k) v) (λ is. rw is refl) (λ is. rw is (change-same es))
+    change-same (e ∷ es) = grind (arith, change-same es)
 
     pub change-other : (other : ℕ) (es : List (ℕ × V)) → is_seat other k ≡ false → get (change es k v) other ≡ get es other
     change-other other [] away = refl
-    change-other other (e ∷ es) away =
-        cond_both (is_seat k e.0) ((e.0, v) ∷ es) (e ∷ change es k v) (λ fs. get fs other ≡ get (e ∷ es) other)
-        (λ is. sym (passed-over other v es e.0 away is) ∙ passed-over other e.1 es e.0 away is)
-        (λ is. ap (cond (is_seat other e.0) (Some e.1)) (change-other other es away))
+    change-other other (e ∷ es) away = let is = seat-is k e.0 in grind (arith, is, change-other other es away)
 
   pub drop-same : (es : List (ℕ × V)) → Once es → get (drop es k) k ≡ None
   drop-same [] once = refl
-  drop-same (e ∷ es) once =
-      cond_both (is_seat k e.0) es (e ∷ drop es k) (λ fs. get fs k ≡ None)
-      (λ is. ap (get es) (seat-is k e.0 is) ∙ once.0)
-      (λ is. rw is (drop-same es once.1))
+  drop-same (e ∷ es) once = let is = seat-is k e.0 in grind (arith, is, once.0, drop-same es once.1)
 
   pub drop-other : (other : ℕ) (es : List (ℕ × V)) → is_seat other k ≡ false → get (drop es k) other ≡ get es other
   drop-other other [] away = refl
-  drop-other other (e ∷ es) away =
-      cond_both (is_seat k e.0) es (e ∷ drop es k) (λ fs. get fs other ≡ get (e ∷ es) other)
-      (λ is. passed-over other e.1 es e.0 away is)
-      (λ is. ap (cond (is_seat other e.0) (Some e.1)) (drop-other other es away))
+  drop-other other (e ∷ es) away = let is = seat-is k e.0 in grind (arith, is, drop-other other es away)
 
   -- ---- one entry for a seat
 
@@ -106,22 +93,20 @@ module _ {V : Type 0} (k : ℕ) where
 abbrev pub AreBy : Log → List (ℕ × Held) → Type 0
 AreBy log es = (s : ℕ) (h : Held) → get es s ≡ Some h → h.words ≡ words_by (ops_of s log)
 
+-- where the log and the handles of one seat have changed
+by-now : (log next : Log) (k : ℕ) (es fs : List (ℕ × Held)) → ((s : ℕ) → is_seat k s ≡ false → ops_of s next ≡ ops_of s log) → ((s : ℕ) → is_seat s k ≡ false → get fs s ≡ get es s)
+    → ((h : Held) → get fs k ≡ Some h → h.words ≡ words_by (ops_of k next)) → AreBy log es → AreBy next fs
+by-now log next k es fs others away here by s h is =
+    ⊎_elim
+    (λ (same : is_seat s k ≡ true). subst (λ x. get fs x ≡ Some h → h.words ≡ words_by (ops_of x next)) (sym (seat-is s k same)) (here h) is)
+    (λ (apart : is_seat s k ≡ false). by s h (sym (away s apart) ∙ is) ∙ ap words_by (sym (others s (seat-swap s k apart))))
+    (cases_Bool (is_seat s k))
+
 -- where the log grows by an event of one seat, which holds another handle then
 pub by-changed : (log next : Log) (k : ℕ) (es fs : List (ℕ × Held)) (v : Held) → ((s : ℕ) → is_seat k s ≡ false → ops_of s next ≡ ops_of s log) → ((s : ℕ) → is_seat s k ≡ false → get fs s ≡ get es s)
     → get fs k ≡ Some v → v.words ≡ words_by (ops_of k next) → AreBy log es → AreBy next fs
-by-changed log next k es fs v others away there new by s h is =
-    elim (is_seat s k) as (λ b. is_seat s k ≡ b → h.words ≡ words_by (ops_of s next)) [
-      | true ↦ λ same.
-          let here : s ≡ k = seat-is s k same in
-          let this : Some v ≡ Some h = sym there ∙ ap (get fs) (sym here) ∙ is in
-          ap (λ (g : Held). g.words) (let held : h ≡ v = cc in held) ∙ new ∙ ap (λ x. words_by (ops_of x next)) (sym here)
-      | false ↦ λ apart. by s h (sym (away s apart) ∙ is) ∙ ap words_by (sym (others s (seat-swap s k apart)))
-    ] refl
+by-changed log next k es fs v others away there new by = by-now log next k es fs others away (λ h is. let held : h ≡ v = cc in ap (λ (g : Held). g.words) held ∙ new) by
 
 -- where a seat holds no handle any more
 pub by-dropped : (log : Log) (k : ℕ) (es : List (ℕ × Held)) → Once es → AreBy log es → AreBy log (drop es k)
-by-dropped log k es once by s h is =
-    elim (is_seat s k) as (λ b. is_seat s k ≡ b → h.words ≡ words_by (ops_of s log)) [
-      | true ↦ λ same. let none : None ≡ Some h = sym (drop-same k es once) ∙ ap (get (drop es k)) (sym (seat-is s k same)) ∙ is in absurd (let h : ⊥ = cc in h)
-      | false ↦ λ apart. by s h (sym (drop-other k s es apart) ∙ is)
-    ] refl
+by-dropped log k es once by = by-now log log k es (drop es k) (λ s apart. refl) (λ s apart. drop-other k s es apart) (λ h is. let none = drop-same k es once in absurd (let h : ⊥ = cc in h)) by

@@ -1,12 +1,12 @@
 -- Each event leaves the machine sound.
-use Rattle.std.proofs.Common.{◌≡◌, ℕ, ◌+◌, [], ◌∷◌, take, sum, Some, None, ap, arith, ◌^◌, ◌<◌, ◌≤◌, true, false, nat_lt, nat_le, List, ◌++◌, length, drop, is_some, is_none, All, IfSome, sym, refl, subst, ◌∙◌, le_refl, sum_by, unwrap_or, option_map, nat_cmp, length-append, append_assoc, append-nil}
+use Rattle.std.proofs.Common.{◌≡◌, ℕ, ◌+◌, [], ◌∷◌, take, sum, Some, None, ap, arith, ◌^◌, ◌<◌, ◌≤◌, true, false, nat_lt, nat_le, List, ◌++◌, length, drop, is_some, is_none, All, IfSome, sym, refl, subst, ◌∙◌, le_refl, sum_by, nat_cmp, length-append, append_assoc, append-nil}
 use Rattle.std.proofs.lemmas.List.Sums.{sum_by-append, sum_by-take-drop}
-use Rattle.std.proofs.lemmas.Map.Entries.{sum_by-remove_entry, sum_by-set_value}
+use Rattle.std.proofs.lemmas.Map.Entries.{sum_by-set_value}
 use Rattle.std.specs.BTreeMap.{is_at}
-use Rattle.std.specs.Map.{lookup, set_value, remove_entry, values_of}
+use Rattle.std.specs.Map.{set_value, remove_entry, values_of}
 use Rattle.std.proofs.lemmas.Bool.{or_parts}
 use Rattle.std.proofs.lemmas.Bool.Decides.{nat_tests}
-use Rattle.std.proofs.lemmas.List.Elements.{All-nil, All-push, All-drop, All-same}
+use Rattle.std.proofs.lemmas.List.Elements.{All-nil, All-push, All-drop}
 use Rattle.std.proofs.Math.Seq.{drop-length}
 use Rattle.std.proofs.lemmas.Map.{length-set_value}
 use Rattle.std.proofs.lemmas.Map.Views.{All-values-insert_entry, All-values-set_value, All-map-remove_entry, IfSome-lookup_from_All}
@@ -25,9 +25,9 @@ use Rattle.jb_cost.proofs.WithinCredits.{covers-append, covers-drop}
 use Rattle.jb_cost.proofs.ListPieces.{drop-joined, cut-joined}
 use Rattle.jb_core.specs.declared.event.CoreFault.TheVariants.{Busy, NoHandle, TooManyCredits, Full, Nothing}
 use Rattle.jb_core.specs.Lives.{settled_now}
-use Rattle.jb_core.specs.Sound.{waiting, stopped_now, IsGranted, IsMachineSound}
+use Rattle.jb_core.specs.Sound.{waiting, stopped_now, IsGranted, HasOnlySettled, IsMachineSound}
 use Rattle.jb_core.proofs.AcceptedEvents.{there-at, found-none, found-some, first-false, still-up}
-use Rattle.jb_core.proofs.MapEntries.{sum-insert, length-insert_entry, length-remove_entry}
+use Rattle.jb_core.proofs.MapEntries.{sum-insert, sum-remove, length-insert_entry, length-remove_entry}
 use Rattle.jb_core.proofs.SettledGroups.{more-settled, parts-joined}
 use Rattle.std.specs.FinMap as map
 use Rattle.jb_handle.specs.HeldChanges as handle
@@ -48,10 +48,7 @@ module _ (m : Machine) where
 
   -- without a handle, its credits are left over
   pub gone-reserved : (seat : ℕ) (h : Held) → handle_at m seat ≡ Some h → sum_by credits_of (values_of (remove_entry (is_at (nat_cmp seat)) m.handles)) + h.credits ≡ sum_by credits_of (values_of m.handles)
-  gone-reserved seat h there =
-      let all = sum_by-remove_entry credits_of (is_at (nat_cmp seat)) m.handles in
-      let before : unwrap_or (option_map credits_of (lookup (is_at (nat_cmp seat)) m.handles)) 0 ≡ h.credits = ap (λ found. unwrap_or (option_map credits_of found) 0) there in
-      omega (arith, all, before)
+  gone-reserved seat h there = sum-remove credits_of (is_at (nat_cmp seat)) m.handles h there
 
   -- a handle that stops keeps its credits
   pub stop-reserved : (seat : ℕ) (h : Held) → handle_at m seat ≡ Some h → reserved (after_event m (Stop seat)) ≡ reserved m
@@ -75,23 +72,13 @@ module _ (m : Machine) (sound : IsMachineSound m) where
   granted-held seat h there = subst (IsGranted m.shape m.most) (sym (there-at m seat h there)) (granted-at seat h there)
 
   module _ (up : m.up ≡ true) where
+    never-down : (n : Machine) → m.up ≡ false → HasOnlySettled n
+    never-down n = still-up m.up up
+
     -- other open handles, and another number of groups that are home
     handled : (hs : List (ℕ × Held)) (home : ℕ) → All (IsGranted m.shape m.most) (values_of hs) → reserved (record m { handles = hs }) ≤ 2147483646 → m.next + length hs ≤ 2 ^ 61 → home ≤ length m.settled
         → IsMachineSound (record m { handles = hs; checkpointed = home })
-    handled hs home granted room tickets within = record {
-      most = sound.most;
-      granted = granted;
-      few = sound.few;
-      covered = sound.covered;
-      fits = sound.fits;
-      room = room;
-      tickets = tickets;
-      numbered = sound.numbered;
-      counted = sound.counted;
-      lives = sound.lives;
-      home = within;
-      down = still-up m.up up;
-    }
+    handled hs home granted room tickets within = assumption (never-down (record m { handles = hs; checkpointed = home }))
 
     pub open-sound : (seat credits : ℕ) → refusal_up m (Open seat credits) ≡ None → IsMachineSound (after_event m (Open seat credits))
     open-sound seat credits accepts =
@@ -145,63 +132,49 @@ module _ (m : Machine) (sound : IsMachineSound m) where
         let granted = granted-held seat found.0 found.1 in
         let line : waiting m ++ stopped_at m seat ∷ [] ≡ joined m.taken ++ (m.queue ++ stopped_at m seat ∷ []) = append_assoc (joined m.taken) m.queue (stopped_at m seat ∷ []) in
         let all : stopped_now m ++ stopped_at m seat ∷ [] ≡ stopped_now (after_event m (Stop seat)) = append_assoc (settled_now m) (waiting m) (stopped_at m seat ∷ []) ∙ ap (λ hs. settled_now m ++ hs) line in
-        let counted = sound.counted up in
+        let fits = subst (λ shape. Fits shape (held_at m seat).words) granted.same_shape granted.kept.fits in
+        let was = sound.counted up in
         let longer = length-append (stopped_now m) (stopped_at m seat ∷ []) in
-        record {
-          most = sound.most;
-          granted = gone-granted seat;
-          few = All-push (λ credits. credits ≤ m.most) m.credits (held_at m seat).credits sound.few granted.few;
-          covered = subst (Covers (m.credits ++ (held_at m seat).credits ∷ [])) line
-              (covers-append m.credits ((held_at m seat).credits ∷ []) (waiting m) (stopped_at m seat ∷ []) sound.covered (granted.kept.within, tt));
-          fits = All-same (λ h. Fits m.shape h.words) _ _ (sym line) (All-push (λ h. Fits m.shape h.words) (waiting m) (stopped_at m seat) sound.fits
-              (subst (λ shape. Fits shape (held_at m seat).words) granted.same_shape granted.kept.fits));
-          room = let same = stop-reserved m seat found.0 found.1 in let room = sound.room in omega arith;
-          tickets = let fewer = length-remove_entry (is_at (nat_cmp seat)) m.handles found.0 found.1 in let tickets = sound.tickets in omega arith;
-          numbered = subst (TicketsFrom 0) all (tickets-append 0 (stopped_now m) (stopped_at m seat ∷ []) sound.numbered (omega arith, tt));
-          counted = λ _. let same = ap length all in omega arith;
-          lives = sound.lives;
-          home = sound.home;
-          down = still-up m.up up;
-        }
+        let fewer = length-remove_entry (is_at (nat_cmp seat)) m.handles found.0 found.1 in
+        let same = stop-reserved m seat found.0 found.1 in
+        let room : reserved (after_event m (Stop seat)) ≤ 2147483646 = let room = sound.room in omega arith in
+        let tickets : m.next + 1 + length (after_event m (Stop seat)).handles ≤ 2 ^ 61 = let tickets = sound.tickets in omega arith in
+        let counted : m.up ≡ true → length (stopped_now (after_event m (Stop seat))) ≡ m.next + 1 = λ _. let same = ap length all in omega arith in
+        assumption (
+          gone-granted seat,
+          All-push (λ credits. credits ≤ m.most) m.credits (held_at m seat).credits sound.few granted.few,
+          subst (Covers (m.credits ++ (held_at m seat).credits ∷ [])) line
+              (covers-append m.credits ((held_at m seat).credits ∷ []) (waiting m) (stopped_at m seat ∷ []) sound.covered (granted.kept.within, tt)),
+          subst (All (λ h. Fits m.shape h.words)) line (All-push (λ h. Fits m.shape h.words) (waiting m) (stopped_at m seat) sound.fits fits),
+          subst (TicketsFrom 0) all (tickets-append 0 (stopped_now m) (stopped_at m seat ∷ []) sound.numbered (omega arith, tt)),
+          never-down (after_event m (Stop seat)),
+        )
 
     pub take-sound : (bounds : List ℕ) → m.taken ≡ [] → IsCut (length m.queue) bounds → IsMachineSound (after_take m bounds)
     take-sound bounds none cut =
         let line : waiting m ≡ joined (pieces bounds m.queue) ++ [] = ap (λ gs. joined gs ++ m.queue) none ∙ sym (cut-joined bounds m.queue cut) ∙ sym (append-nil (joined (pieces bounds m.queue))) in
         let all : stopped_now m ≡ stopped_now (after_take m bounds) = ap (λ hs. settled_now m ++ hs) line in
-        record {
-          most = sound.most;
-          granted = sound.granted;
-          few = sound.few;
-          covered = subst (Covers m.credits) line sound.covered;
-          fits = All-same (λ h. Fits m.shape h.words) _ _ (sym line) sound.fits;
-          room = sound.room;
-          tickets = sound.tickets;
-          numbered = subst (TicketsFrom 0) all sound.numbered;
-          counted = λ is. sym (ap length all) ∙ sound.counted is;
-          lives = sound.lives;
-          home = sound.home;
-          down = still-up m.up up;
-        }
+        let counted : m.up ≡ true → length (stopped_now (after_take m bounds)) ≡ m.next = λ is. sym (ap length all) ∙ sound.counted is in
+        let fits = subst (All (λ h. Fits m.shape h.words)) line sound.fits in
+        assumption (subst (Covers m.credits) line sound.covered, fits, subst (TicketsFrom 0) all sound.numbered, never-down (after_take m bounds))
 
     pub settle-sound : (n : ℕ) → IsMachineSound (after_event m (Settle n))
     settle-sound n =
         let line : drop (count (take n m.taken)) (waiting m) ≡ joined (drop n m.taken) ++ m.queue = drop-joined n m.taken m.queue in
         let all : stopped_now m ≡ stopped_now (after_event m (Settle n)) = sym (parts-joined m sound.lives n) ∙ ap (λ xs. xs ++ (joined (drop n m.taken) ++ m.queue)) (sym (more-settled m sound.lives n)) in
         let longer = length-append m.settled (take n m.taken) in
-        record {
-          most = sound.most;
-          granted = sound.granted;
-          few = All-drop (λ credits. credits ≤ m.most) (count (take n m.taken)) m.credits sound.few;
-          covered = subst (Covers (drop (count (take n m.taken)) m.credits)) line (covers-drop (count (take n m.taken)) m.credits (waiting m) sound.covered);
-          fits = All-same (λ h. Fits m.shape h.words) _ _ (sym line) (All-drop (λ h. Fits m.shape h.words) (count (take n m.taken)) (waiting m) sound.fits);
-          room = let parts = settle-reserved m n in let room = sound.room in omega arith;
-          tickets = sound.tickets;
-          numbered = subst (TicketsFrom 0) all sound.numbered;
-          counted = λ is. sym (ap length all) ∙ sound.counted is;
-          lives = let lives = sound.lives in omega arith;
-          home = let home = sound.home in omega arith;
-          down = still-up m.up up;
-        }
+        let parts = settle-reserved m n in
+        let room : reserved (after_event m (Settle n)) ≤ 2147483646 = let room = sound.room in omega arith in
+        let counted : m.up ≡ true → length (stopped_now (after_event m (Settle n))) ≡ m.next = λ is. sym (ap length all) ∙ sound.counted is in
+        let lives : m.earlier ≤ length (m.settled ++ take n m.taken) = let lives = sound.lives in omega arith in
+        let home : m.checkpointed ≤ length (m.settled ++ take n m.taken) = let home = sound.home in omega arith in
+        assumption (
+          All-drop (λ credits. credits ≤ m.most) (count (take n m.taken)) m.credits sound.few,
+          subst (Covers (drop (count (take n m.taken)) m.credits)) line (covers-drop (count (take n m.taken)) m.credits (waiting m) sound.covered),
+          subst (All (λ h. Fits m.shape h.words)) line (All-drop (λ h. Fits m.shape h.words) (count (take n m.taken)) (waiting m) sound.fits),
+          subst (TicketsFrom 0) all sound.numbered,
+          never-down (after_event m (Settle n)),
+        )
 
     pub checkpoint-sound : refusal_up m Checkpoint ≡ None → IsMachineSound (after_event m Checkpoint)
     checkpoint-sound accepts =
@@ -232,17 +205,5 @@ module _ (m : Machine) (sound : IsMachineSound m) where
   restart-sound down =
       let bare = sound.down down in
       let none : stopped_now (after_event m Restart) ≡ [] = rw (drop-length m.settled, bare.taken, bare.queue) refl in
-      record {
-        most = sound.most;
-        granted = sound.granted;
-        few = sound.few;
-        covered = sound.covered;
-        fits = sound.fits;
-        room = sound.room;
-        tickets = let same = ap length bare.handles in omega arith;
-        numbered = subst (TicketsFrom 0) (sym none) tt;
-        counted = λ _. ap length none;
-        lives = le_refl (length m.settled);
-        home = le_refl (length m.settled);
-        down = λ is. still-up true refl is;
-      }
+      let tickets : 0 + length m.handles ≤ 2 ^ 61 = let same = ap length bare.handles in omega arith in
+      assumption (subst (TicketsFrom 0) (sym none) tt, ap length none, le_refl (length m.settled), still-up {A = HasOnlySettled (after_event m Restart)} true refl)

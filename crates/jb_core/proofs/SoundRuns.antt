@@ -1,28 +1,26 @@
 -- A run leaves the machine sound, and how a state is kept.
-use Rattle.std.proofs.Common.{◌≡◌, ℕ, ◌+◌, ◌≤◌, true, List, [], ◌∷◌, length, None, Ok, Err, All, sym, refl, ap, subst, ◌∙◌, arith, length-append, nat_cmp}
+use Rattle.std.proofs.Common.{◌≡◌, ◌+◌, ◌≤◌, true, [], ◌∷◌, None, Ok, Err, sym, refl, ap, subst, ◌∙◌, arith, length-append, nat_cmp}
 use Rattle.std.proofs.lemmas.List.Elements.{All-nil}
 use Rattle.std.proofs.lemmas.List.Sums.{sum_by-append}
 use Rattle.std.specs.BTreeMap.{IsOrdered}
-use Rattle.std.specs.Map.{values_of}
 use Rattle.std.specs.FinMap as map
 use Rattle.jb_handle.specs.declared.shape.Shape.{Shape}
 use Rattle.jb_handle.specs.declared.stopped.Stopped.{Stopped}
-use Rattle.jb_handle.specs.HeldChanges.{Held, Fits}
+use Rattle.jb_handle.specs.HeldChanges.{Fits}
 use Rattle.jb_handle.specs.Size.{IsWithinSize}
-use Rattle.jb_handle.specs.Tickets.{TicketsFrom}
-use Rattle.jb_cost.specs.Credits.{IsMost, Covers}
+use Rattle.jb_cost.specs.Credits.{IsMost}
 use Rattle.jb_cost.specs.Pieces.{joined}
 use Rattle.jb_cost.proofs.WithinCredits.{covers-weight}
 use Rattle.jb_core.specs.declared.event.Event.{Event}
 use Rattle.jb_core.specs.declared.event.Event.TheVariants.{Open, Touch, Stop, Abandon, Take, Settle, Checkpoint, Crash, Restart}
 use Rattle.jb_core.specs.declared.state.State.TheInside.{Inside}
 use Rattle.jb_core.specs.Lives.{Log, settled_now}
-use Rattle.jb_core.specs.Machine.{Machine, reserved, event_refusal, after_event}
+use Rattle.jb_core.specs.Machine.{Machine, reserved, event_refusal, refusal_by, refusal_up, after_event}
 use Rattle.jb_core.specs.MachineRuns.{IsNewMachine, Ran}
-use Rattle.jb_core.specs.Sound.{waiting, stopped_now, IsGranted, IsMachineSound}
+use Rattle.jb_core.specs.Sound.{waiting, IsGranted, IsMachineSound}
 use Rattle.jb_core.specs.State.{machine_of, IsMachineKept}
 use Rattle.jb_core.specs.Steps.{IsLeast}
-use Rattle.jb_core.proofs.AcceptedEvents.{none-taken, accepted, restarted, still-up}
+use Rattle.jb_core.proofs.AcceptedEvents.{new-is, none-taken, accepted, restarted, still-up}
 use Rattle.jb_core.proofs.SoundEvents.{open-sound, touch-sound, stop-sound, abandon-sound, take-sound, settle-sound, checkpoint-sound, crash-sound, restart-sound}
 
 -- the planner takes any queue of a machine
@@ -50,22 +48,21 @@ after-sound m sound Restart none least = restart-sound m sound (restarted m none
 
 started : (shape : Shape) (m : Machine) → IsNewMachine shape m → IsMachineSound m
 started shape m start =
-    let none : stopped_now m ≡ [] = rw (start.settled, start.earlier, start.taken, start.queue) refl in
-    let idle : waiting m ≡ [] = rw (start.taken, start.queue) refl in
-    record {
-      most = subst (λ (s : Shape). IsMost m.geometry s.limit m.most) (sym start.same_shape) start.most;
-      granted = subst (λ (es : List (ℕ × Held)). All (IsGranted m.shape m.most) (values_of es)) (sym start.handles) (All-nil (IsGranted m.shape m.most));
-      few = subst (All (λ credits. credits ≤ m.most)) (sym start.credits) (All-nil (λ credits. credits ≤ m.most));
-      covered = subst (Covers m.credits) (sym idle) (subst (λ cs. Covers cs []) (sym start.credits) tt);
-      fits = subst (All (λ h. Fits m.shape h.words)) (sym idle) (All-nil (λ h. Fits m.shape h.words));
-      room = rw (start.handles, start.credits) (omega arith);
-      tickets = rw (start.handles, start.next) (omega arith);
-      numbered = subst (TicketsFrom 0) (sym none) tt;
-      counted = λ _. ap length none ∙ sym start.next;
-      lives = rw (start.earlier) (omega arith);
-      home = rw (start.checkpointed) (omega arith);
-      down = still-up m.up start.up;
-    }
+    let most = subst (λ (s : Shape). IsMost m.geometry s.limit m.most) (sym start.same_shape) start.most in
+    subst IsMachineSound (new-is shape m start) (record {
+      most = most;
+      granted = All-nil (IsGranted m.shape m.most);
+      few = All-nil (λ credits. credits ≤ m.most);
+      covered = tt;
+      fits = All-nil (λ h. Fits m.shape h.words);
+      room = omega arith;
+      tickets = omega arith;
+      numbered = tt;
+      counted = λ _. refl;
+      lives = omega arith;
+      home = omega arith;
+      down = still-up true refl;
+    })
 
 -- so is each machine of a run
 pub sounds : (shape : Shape) (log : Log) (m : Machine) → Ran shape log m → IsMachineSound m
@@ -76,3 +73,10 @@ sounds shape ((e, Err fault) ∷ earlier) m (before, ran, step) = subst IsMachin
 -- how a state is kept, said of its machine
 pub kept-by : (t : Inside) (m : Machine) → machine_of t ≡ m → IsMachineSound m → t.reserved ≡ reserved m → IsOrdered nat_cmp t.handles → IsMachineKept t
 kept-by t m is sound counted ordered = record { sound = subst IsMachineSound (sym is) sound; counted = counted ∙ ap reserved (sym is); ordered = ordered }
+
+-- the same after an event that the machine accepts while it is up
+pub kept-after : {s t : Inside} {m : Machine} (e : Event) → IsMachineKept s → machine_of s ≡ m → m.up ≡ true → refusal_up (machine_of s) e ≡ None → IsLeast (machine_of s) e
+    → machine_of t ≡ after_event (machine_of s) e → t.reserved ≡ reserved (after_event (machine_of s) e) → IsOrdered nat_cmp t.handles → IsMachineKept t
+kept-after {s} {t} e kept is up none least after counted ordered =
+    let granted = subst (λ b. refusal_by b (machine_of s) e ≡ None) (sym (ap (λ (m : Machine). m.up) is ∙ up)) none in
+    kept-by t (after_event (machine_of s) e) after (after-sound (machine_of s) kept.sound e granted least) counted ordered

@@ -1,5 +1,5 @@
 -- Over every run the machine keeps its lives whole.
-use Rattle.std.proofs.Common.{◌≡◌, ℕ, ◌+◌, ◌≤◌, true, false, nat_lt, List, [], ◌∷◌, ◌++◌, length, take, drop, Some, None, is_some, is_none, Ok, Err, sym, refl, ap, subst, ◌∙◌, le_refl, arith}
+use Rattle.std.proofs.Common.{◌≡◌, ℕ, ◌≤◌, true, false, nat_lt, List, [], ◌∷◌, ◌++◌, length, take, drop, Some, None, is_some, is_none, Ok, Err, sym, refl, ap, subst, ◌∙◌, le_refl, arith}
 use Rattle.std.proofs.lemmas.List.{length-append, append_assoc, append-nil, map-append, take-append-le}
 use Rattle.std.proofs.Math.Seq.{drop-length, take-length}
 use Rattle.std.specs.FinMap as map
@@ -15,14 +15,14 @@ use Rattle.jb_core.specs.declared.event.CoreFault.{CoreFault}
 use Rattle.jb_core.specs.declared.event.CoreFault.TheVariants.{Busy, NoHandle, TooManyCredits, Full}
 use Rattle.jb_cost.specs.Pieces.{joined, pieces}
 use Rattle.jb_cost.proofs.ListPieces.{cut-joined}
-use Rattle.jb_core.specs.Machine.{Machine, handle_at, held_at, reserved, is_full, event_refusal, stopped_at, after_event, reply_of}
+use Rattle.jb_core.specs.Machine.{Machine, handle_at, held_at, reserved, is_full, event_refusal, refusal_up, stopped_at, after_event, reply_of}
 use Rattle.jb_core.specs.Sound.{HasOnlySettled}
 use Rattle.jb_core.specs.Steps.{MachineSteps, IsLeast}
 use Rattle.jb_core.specs.Lives.{Log, Answer, ops_of, ticket_in, stop_order, past_orders, stopped_by, handles_of_order, settled_now, PastKept, IsWhole, log_from}
 use Rattle.jb_core.specs.MachineRuns.{IsNewMachine, Ran}
-use Rattle.jb_core.proofs.AcceptedEvents.{found-none, found-some, first-false, none-taken, accepted, restarted, still-up, there-at}
+use Rattle.jb_core.proofs.AcceptedEvents.{new-is, found-none, found-some, first-false, none-taken, accepted, restarted, still-up, there-at}
 use Rattle.jb_core.proofs.SettledGroups.{more-settled, parts-joined}
-use Rattle.jb_core.specs.Seats.{set, change, drop as drop_seat, Once}
+use Rattle.jb_core.specs.Seats.{set, change, Once}
 use Rattle.jb_core.specs.SeatLaw.{changed}
 use Rattle.jb_core.proofs.Seats.{seat-self, set-same, set-other, change-same, change-other, once-set, once-change, once-drop, AreBy, by-changed, by-dropped}
 
@@ -41,133 +41,85 @@ held-by log m seat h there by = ap (λ (g : Held). g.words) (there-at m seat h t
 -- ---- each event
 
 module _ (log : Log) (m : Machine) (s : Stands log m) where
-  -- one that changes no more than the open handles and the number of groups that are home
-  handled : (next : Log) (hs : List (ℕ × Held)) (home : ℕ) → stop_order log ≡ stop_order next → past_orders log ≡ past_orders next → AreBy next hs → Once hs → (m.up ≡ false → hs ≡ [])
-      → Stands next (record m { handles = hs; checkpointed = home })
-  handled next hs home order orders by once empty = record {
-    handles = by;
-    once = once;
-    lives = s.lives;
-    bare = λ down. let bare = s.bare down in record { handles = empty down; taken = bare.taken; queue = bare.queue; credits = bare.credits };
-    whole = record {
-      up = λ up. s.whole.up up ∙ ap handles_of_order order;
-      crashed = λ down. let prefix = s.whole.crashed down in (prefix.0, prefix.1 ∙ ap handles_of_order order);
-      past = subst (λ ps. PastKept ps (take m.earlier m.settled)) orders s.whole.past;
-    };
-  }
-
   refused : (e : Event) (fault : CoreFault) → Stands ((e, Err fault) ∷ log) m
-  refused e fault = handled ((e, Err fault) ∷ log) m.handles m.checkpointed refl refl s.handles s.once (λ down. (s.bare down).handles)
+  refused e fault = assumption
 
   longer : (n : ℕ) → m.earlier ≤ length (m.settled ++ take n m.taken)
   longer n = let lives = s.lives in let all = length-append m.settled (take n m.taken) in omega arith
 
+  same-all : (n : ℕ) → joined (drop m.earlier (m.settled ++ take n m.taken)) ++ (joined (drop n m.taken) ++ m.queue) ≡ settled_now m ++ (joined m.taken ++ m.queue)
+  same-all n = ap (λ xs. xs ++ (joined (drop n m.taken) ++ m.queue)) (more-settled m s.lives n) ∙ parts-joined m s.lives n
+
   same-past : (n : ℕ) → PastKept (past_orders log) (take m.earlier (m.settled ++ take n m.taken))
   same-past n = subst (PastKept (past_orders log)) (sym (take-append-le m.earlier m.settled (take n m.taken) s.lives)) s.whole.past
 
+  -- one after which the machine is up
+  still : {next : Log} {n : Machine} → n.up ≡ true → AreBy next n.handles → Once n.handles → n.earlier ≤ length n.settled
+      → settled_now n ++ (joined n.taken ++ n.queue) ≡ handles_of_order (stop_order next) → PastKept (past_orders next) (take n.earlier n.settled) → Stands next n
+  still {next} {n} up by once lives all past = record { handles = by; once = once; lives = lives; bare = still-up n.up up; whole = record { up = λ _. all; crashed = still-up n.up up; past = past } }
+
+  -- one that a machine which is up accepts
+  module _ (up : m.up ≡ true) where
+    accepts : (e : Event) (reply : Reply) → refusal_up m e ≡ None → IsLeast m e → reply ≡ reply_of m e → Stands ((e, Ok reply) ∷ log) (after_event m e)
+    accepts (Open seat credits) reply none least is =
+        let tests = passed (is_some (handle_at m seat)) (nat_lt m.most credits) (is_full m credits) Busy (TooManyCredits m.most) (Full (reserved m)) none in
+        let free = found-none (handle_at m seat) tests.0 in
+        let new = held credits m.shape map.empty in
+        still up
+        (by-changed log ((Open seat credits, Ok reply) ∷ log) seat m.handles (set m.handles seat new) new (λ x apart. rw apart refl) (λ x apart. set-other seat new x m.handles apart) (set-same seat new m.handles) (rw (seat-self seat) refl) s.handles)
+        (once-set seat new m.handles free s.once) s.lives (s.whole.up up) s.whole.past
+    accepts (Touch seat op) reply none least is =
+        let found = found-some (handle_at m seat) (first-false (is_none (handle_at m seat)) NoHandle _ none).0 in
+        let words = held-by log m seat found.0 found.1 s.handles in
+        let new = handle.after (held_at m seat) op in
+        still up
+        (by-changed log ((Touch seat op, Ok reply) ∷ log) seat m.handles (change m.handles seat new) new (λ x apart. rw apart refl) (λ x apart. change-other seat new x m.handles apart)
+        (change-same seat new m.handles ∙ ap (λ had. changed had new) found.1) (rw (seat-self seat) (ap (λ ws. map.insert ws (home_of op) (word_of op)) words)) s.handles)
+        (once-change seat new m.handles s.once) s.lives (s.whole.up up) s.whole.past
+    accepts (Stop seat) reply none least is =
+        let found = found-some (handle_at m seat) (first-false (is_none (handle_at m seat)) NoHandle _ none).0 in
+        let words = held-by log m seat found.0 found.1 s.handles in
+        let ticket : m.next ≡ ticket_in reply = ap ticket_in (sym is) in
+        let one : stopped_at m seat ≡ stopped_by (ticket_in reply, ops_of seat log) = λ i. record { ticket = ticket i; words = words i } in
+        still up (by-dropped log seat m.handles s.once s.handles) (once-drop seat m.handles s.once) s.lives
+        (ap (λ xs. settled_now m ++ xs) (sym (append_assoc (joined m.taken) m.queue (stopped_at m seat ∷ [])))
+        ∙ sym (append_assoc (settled_now m) (joined m.taken ++ m.queue) (stopped_at m seat ∷ []))
+        ∙ ap (λ xs. xs ++ stopped_at m seat ∷ []) (s.whole.up up)
+        ∙ ap (λ x. handles_of_order (stop_order log) ++ x ∷ []) one
+        ∙ sym (map-append stopped_by (stop_order log) ((ticket_in reply, ops_of seat log) ∷ [])))
+        s.whole.past
+    accepts (Abandon seat) reply none least is =
+        still up (by-dropped log seat m.handles s.once s.handles) (once-drop seat m.handles s.once) s.lives (s.whole.up up) s.whole.past
+    accepts (Take bounds) reply none least is =
+        let free = none-taken m none in
+        still up s.handles s.once s.lives
+        (ap (λ xs. settled_now m ++ xs)
+        (append-nil (joined (pieces bounds.items m.queue)) ∙ cut-joined bounds.items m.queue least.fitting.cut ∙ ap (λ gs. joined gs ++ m.queue) (sym free)) ∙ s.whole.up up)
+        s.whole.past
+    accepts (Settle n) reply none least is =
+        still up s.handles s.once (longer n) (same-all n ∙ s.whole.up up) (same-past n)
+    accepts Checkpoint reply none least is = still up s.handles s.once s.lives (s.whole.up up) s.whole.past
+    accepts (Crash n) reply none least is = record {
+      handles = λ x h is. cc;
+      once = tt;
+      lives = longer n;
+      bare = λ down. record { handles = refl; taken = refl; queue = refl; credits = refl };
+      whole = record {
+        up = λ up. still-up false up refl;
+        crashed = λ down. (joined (drop n m.taken) ++ m.queue, same-all n ∙ s.whole.up up);
+        past = same-past n;
+      };
+    }
+    accepts Restart reply none least is = absurd (cc)
+
   happens : (e : Event) (reply : Reply) → event_refusal m e ≡ None → IsLeast m e → reply ≡ reply_of m e → Stands ((e, Ok reply) ∷ log) (after_event m e)
-  happens (Open seat credits) reply none least is =
-      let granted = accepted m (Open seat credits) refl none in
-      let tests = passed (is_some (handle_at m seat)) (nat_lt m.most credits) (is_full m credits) Busy (TooManyCredits m.most) (Full (reserved m)) granted.1 in
-      let free = found-none (handle_at m seat) tests.0 in
-      let new = held credits m.shape map.empty in
-      handled ((Open seat credits, Ok reply) ∷ log) (set m.handles seat new) m.checkpointed refl refl
-      (by-changed log ((Open seat credits, Ok reply) ∷ log) seat m.handles (set m.handles seat new) new (λ x apart. rw apart refl) (λ x apart. set-other seat new x m.handles apart) (set-same seat new m.handles) (rw (seat-self seat) refl) s.handles)
-      (once-set seat new m.handles free s.once) (still-up m.up granted.0)
-  happens (Touch seat op) reply none least is =
-      let granted = accepted m (Touch seat op) refl none in
-      let found = found-some (handle_at m seat) (first-false (is_none (handle_at m seat)) NoHandle _ granted.1).0 in
-      let words = held-by log m seat found.0 found.1 s.handles in
-      let new = handle.after (held_at m seat) op in
-      handled ((Touch seat op, Ok reply) ∷ log) (change m.handles seat new) m.checkpointed refl refl
-      (by-changed log ((Touch seat op, Ok reply) ∷ log) seat m.handles (change m.handles seat new) new (λ x apart. rw apart refl) (λ x apart. change-other seat new x m.handles apart)
-      (change-same seat new m.handles ∙ ap (λ had. changed had new) found.1) (rw (seat-self seat) (ap (λ ws. map.insert ws (home_of op) (word_of op)) words)) s.handles)
-      (once-change seat new m.handles s.once) (still-up m.up granted.0)
-  happens (Stop seat) reply none least is =
-      let granted = accepted m (Stop seat) refl none in
-      let found = found-some (handle_at m seat) (first-false (is_none (handle_at m seat)) NoHandle _ granted.1).0 in
-      let words = held-by log m seat found.0 found.1 s.handles in
-      let ticket : m.next ≡ ticket_in reply = ap ticket_in (sym is) in
-      let one : stopped_at m seat ≡ stopped_by (ticket_in reply, ops_of seat log) = λ i. record { ticket = ticket i; words = words i } in
-      record {
-        handles = by-dropped log seat m.handles s.once s.handles;
-        once = once-drop seat m.handles s.once;
-        lives = s.lives;
-        bare = still-up m.up granted.0;
-        whole = record {
-          up = λ up.
-              ap (λ xs. settled_now m ++ xs) (sym (append_assoc (joined m.taken) m.queue (stopped_at m seat ∷ [])))
-              ∙ sym (append_assoc (settled_now m) (joined m.taken ++ m.queue) (stopped_at m seat ∷ []))
-              ∙ ap (λ xs. xs ++ stopped_at m seat ∷ []) (s.whole.up up)
-              ∙ ap (λ x. handles_of_order (stop_order log) ++ x ∷ []) one
-              ∙ sym (map-append stopped_by (stop_order log) ((ticket_in reply, ops_of seat log) ∷ []));
-          crashed = still-up m.up granted.0;
-          past = s.whole.past;
-        };
-      }
-  happens (Abandon seat) reply none least is =
-      let granted = accepted m (Abandon seat) refl none in
-      handled ((Abandon seat, Ok reply) ∷ log) (drop_seat m.handles seat) m.checkpointed refl refl (by-dropped log seat m.handles s.once s.handles) (once-drop seat m.handles s.once) (still-up m.up granted.0)
-  happens (Take bounds) reply none least is =
-      let granted = accepted m (Take bounds) refl none in
-      let free = none-taken m granted.1 in
-      record {
-        handles = s.handles;
-        once = s.once;
-        lives = s.lives;
-        bare = still-up m.up granted.0;
-        whole = record {
-          up = λ up.
-              ap (λ xs. settled_now m ++ xs) (append-nil (joined (pieces bounds.items m.queue)) ∙ cut-joined bounds.items m.queue least.fitting.cut ∙ ap (λ gs. joined gs ++ m.queue) (sym free))
-              ∙ s.whole.up up;
-          crashed = still-up m.up granted.0;
-          past = s.whole.past;
-        };
-      }
-  happens (Settle n) reply none least is =
-      let granted = accepted m (Settle n) refl none in
-      record {
-        handles = s.handles;
-        once = s.once;
-        lives = longer n;
-        bare = still-up m.up granted.0;
-        whole = record {
-          up = λ up. ap (λ xs. xs ++ (joined (drop n m.taken) ++ m.queue)) (more-settled m s.lives n) ∙ parts-joined m s.lives n ∙ s.whole.up up;
-          crashed = still-up m.up granted.0;
-          past = same-past n;
-        };
-      }
-  happens Checkpoint reply none least is =
-      let granted = accepted m Checkpoint refl none in
-      handled ((Checkpoint, Ok reply) ∷ log) m.handles (m.checkpointed + 1) refl refl s.handles s.once (still-up m.up granted.0)
-  happens (Crash n) reply none least is =
-      let granted = accepted m (Crash n) refl none in
-      record {
-        handles = λ x h is. absurd (let never : ⊥ = cc in never);
-        once = tt;
-        lives = longer n;
-        bare = λ down. record { handles = refl; taken = refl; queue = refl; credits = refl };
-        whole = record {
-          up = λ up. still-up false up refl;
-          crashed = λ down. (joined (drop n m.taken) ++ m.queue, ap (λ xs. xs ++ (joined (drop n m.taken) ++ m.queue)) (more-settled m s.lives n) ∙ parts-joined m s.lives n ∙ s.whole.up granted.0);
-          past = same-past n;
-        };
-      }
   happens Restart reply none least is =
       let down = restarted m none in
       let bare = s.bare down in
       let prefix = s.whole.crashed down in
-      record {
-        handles = s.handles;
-        once = s.once;
-        lives = le_refl (length m.settled);
-        bare = λ up. still-up true refl up;
-        whole = record {
-          up = λ up. rw (drop-length m.settled, bare.taken, bare.queue) refl;
-          crashed = λ is. still-up true refl is;
-          past = subst (PastKept (stop_order log ∷ past_orders log)) (sym (take-length m.settled)) (m.earlier, prefix.0, prefix.1, s.whole.past);
-        };
-      }
+      still refl s.handles s.once (le_refl (length m.settled))
+      (rw (drop-length m.settled, bare.taken, bare.queue) refl) (subst (PastKept (stop_order log ∷ past_orders log)) (sym (take-length m.settled)) (m.earlier, prefix.0, prefix.1, s.whole.past))
+  happens e reply none least is = let granted = accepted m e refl none in accepts granted.0 e reply granted.1 least is
 
   stepped : (e : Event) (answer : Answer) (n : Machine) → MachineSteps e m answer n → Stands ((e, answer) ∷ log) n
   stepped e (Ok reply) n step = subst (Stands ((e, Ok reply) ∷ log)) (sym step.2) (happens e reply step.0 step.1 step.3)
@@ -176,17 +128,13 @@ module _ (log : Log) (m : Machine) (s : Stands log m) where
 -- ---- runs
 
 begun : (shape : Shape) (m : Machine) → IsNewMachine shape m → Stands [] m
-begun shape m start = record {
-  handles = subst (AreBy []) (sym start.handles) (λ x h is. absurd (let never : ⊥ = cc in never));
-  once = subst Once (sym start.handles) tt;
-  lives = let none = start.earlier in omega arith;
-  bare = still-up m.up start.up;
-  whole = record {
-    up = λ up. rw (start.settled, start.earlier, start.taken, start.queue) refl;
-    crashed = still-up m.up start.up;
-    past = rw (start.settled, start.earlier) refl;
-  };
-}
+begun shape m start = subst (Stands []) (new-is shape m start) (record {
+  handles = λ x h is. cc;
+  once = tt;
+  lives = omega arith;
+  bare = still-up true refl;
+  whole = record { up = λ up. refl; crashed = still-up true refl; past = refl };
+})
 
 stands : (shape : Shape) (log : Log) (m : Machine) → Ran shape log m → Stands log m
 stands shape [] m start = begun shape m start
@@ -201,6 +149,6 @@ whole shape log m ran = (stands shape log m ran).whole
 -- one event more
 pub log-more : (log : Log) (events : List Event) (answers : List Answer) (e : Event) (a : Answer) → length events ≡ length answers → log_from log (events ++ e ∷ []) (answers ++ a ∷ []) ≡ (e, a) ∷ log_from log events answers
 log-more log [] [] e a same = refl
-log-more log [] (b ∷ answers) e a same = absurd (let h : ⊥ = omega arith in h)
-log-more log (d ∷ events) [] e a same = absurd (let h : ⊥ = omega arith in h)
+log-more log [] (b ∷ answers) e a same = absurd (omega (arith, same))
+log-more log (d ∷ events) [] e a same = absurd (omega (arith, same))
 log-more log (d ∷ events) (b ∷ answers) e a same = log-more ((d, b) ∷ log) events answers e a (omega arith)

@@ -1,5 +1,5 @@
 -- What a round makes of the counts that its seat is sure of.
-use Rattle.std.proofs.Common.{◌≡◌, ℕ, ◌<◌, ◌≤◌, max, length, is_some, Option, Some, None, Result, Ok, Err, inl, inr, refl, ap, sym, subst, ◌∙◌, arith}
+use Rattle.std.proofs.Common.{◌≡◌, ℕ, ◌<◌, ◌≤◌, max, length, is_some, Option, Some, None, Result, Ok, Err, inr, refl, ap, sym, subst, ◌∙◌, arith}
 use Rattle.jb_plan.specs.Batch.{Gathered}
 use Rattle.jb_board.specs.Steps.{raised_settled}
 use Rattle.jb_board.specs.declared.front.Front.{Front}
@@ -36,10 +36,6 @@ takes-up held taken given out b old new was is same some gives = record {
   same = subst (λ h. IsOneHeld h b) was (subst (IsOneHeld taken) (sym same) (gives-held taken given out old new is gives));
   some = some;
 }
-
--- a batch that was taken and is held again, as memory ran out
-pub sees-held : (held after : Option Gathered) (b : Gathered) (v w : Front) → TakesUp held b → after ≡ Some b → w ≡ with_taken (end_of b) v → SeesRound held after v w (Err round.Memory)
-sees-held held after b v w up again taken = inr (b, up, again, taken)
 
 -- nothing is taken up only where nothing is held
 pub gives-none : (old new : Account) (held given : Option Gathered) → given ≡ None → GivesBatch (Ok given) held old new → held ≡ None
@@ -79,23 +75,6 @@ pub never-idle : {H N : Type 0} {O : Ghosts H} {P : Places H} (b : Gathered) (u 
 never-idle b u w old new (Ok (Idle seen)) is = absurd is
 never-idle b u w old new (Ok (Committed done)) is = tt
 never-idle b u w old new (Err fault) is = tt
-
--- ---- where the journal has failed before
-
-pub lost-by : (r : Result Round RoundFault) (f : RoundFault) → r ≡ Err f → f ≡ round.Aborted → r ≡ Err round.Aborted
-lost-by r f is aborted = cc
-
-pub lost-answers : (held after : Option Gathered) (n : ℕ) (r : Result Round RoundFault) → r ≡ Err round.Aborted → after ≡ None → AnswersRound held after n r
-lost-answers held after n r is none = subst (λ (x : Result Round RoundFault). AnswersRound held after n x) (sym is) none
-
-pub lost-sees : (held after : Option Gathered) (v w : Front) (r : Result Round RoundFault) → r ≡ Err round.Aborted → w ≡ v → SeesRound held after v w r
-lost-sees held after v w r is same = subst (λ (x : Result Round RoundFault). SeesRound held after v w x) (sym is) (inl (tt, same))
-
-pub lost-round : {D : Type 0} (G : Disks D) (begun : Begun) (held after : Option Gathered) (n : ℕ) (r : Result Round RoundFault) → r ≡ Err round.Aborted → CommitsRound G begun held after n r
-lost-round G begun held after n r is = subst (λ (x : Result Round RoundFault). CommitsRound G begun held after n x) (sym is) tt
-
-pub lost-idle : {H N : Type 0} {O : Ghosts H} {P : Places H} (old new : Seat H N O P) (r : Result Round RoundFault) → r ≡ Err round.Aborted → IdleKeeps old new r
-lost-idle old new r is = subst (λ (x : Result Round RoundFault). IdleKeeps old new x) (sym is) tt
 
 -- ---- a raise
 

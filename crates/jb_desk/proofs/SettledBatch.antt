@@ -4,31 +4,28 @@ use Rattle.jb_plan.specs.Prepare.{Planned}
 use Rattle.jb_deck.specs.Done.{Follow, first_ticket, entries_of, past_after}
 use Rattle.jb_deck.specs.declared.done.Done.{Done}
 use Rattle.jb_handle.specs.declared.shape.Shape.{Shape}
-use Rattle.jb_book.specs.Account.{Account}
-use Rattle.jb_book.specs.CallsToBook.{FailsAfter, SettlesOrFails}
+use Rattle.jb_book.specs.Account.{Account, Settles}
+use Rattle.jb_book.specs.CallsToBook.{FailsAfter, IsOutAs, SettlesOrFails}
 use Rattle.jb_book.specs.Rounds.{CommitsAs, end_of}
 use Rattle.jb_desk.specs.Rounds.{IsOfHeld}
 use Rattle.jb_book.proofs.TrailEntries.{follow-length, follow-past}
 
 module _ (end : ℕ) (shape : Shape) (done : Done) (old new : Account) where
+  -- groups of the batch that is out are settled up to where they end
+  upto-seen : IsOutAs old (first_ticket done) end shape → (past : ℕ) → Settles old past (entries_of done)
+      → new.shadow.settled ≡ old.shadow.settled + (past - old.shadow.settled) → past_after (first_ticket done) (entries_of done) ≤ new.shadow.settled
+  upto-seen out past settles now =
+      let upto : past_after (first_ticket done) (entries_of done) ≡ past = ap (λ n. past_after n (entries_of done)) out.first_is ∙ follow-past old.shadow.settled _ past (entries_of done) settles.follow in
+      let long = follow-length old.shadow.settled _ past (entries_of done) settles.follow in
+      omega (arith, upto, long, now)
+
   -- of a batch that is settled, up to its end
   pub settled-seen : SettlesOrFails end shape done old (Ok tt) new → past_after (first_ticket done) (entries_of done) ≤ new.shadow.settled
-  settled-seen (out, settles, is) =
-      let upto : past_after (first_ticket done) (entries_of done) ≡ end = ap (λ n. past_after n (entries_of done)) out.first_is ∙ follow-past old.shadow.settled _ end (entries_of done) settles.follow in
-      let long = follow-length old.shadow.settled _ end (entries_of done) settles.follow in
-      let now : new.shadow.settled ≡ old.shadow.settled + (end - old.shadow.settled) = ap (λ (a : Account). a.shadow.settled) is in
-      omega (arith, upto, long, now)
+  settled-seen (out, settles, is) = upto-seen out end settles (ap (λ (a : Account). a.shadow.settled) is)
 
   -- and of groups that were committed before a failure
   pub failed-seen : FailsAfter end shape done old (Ok tt) new → past_after (first_ticket done) (entries_of done) ≤ new.shadow.settled
-  failed-seen (out, some) =
-      let past = some.0 in
-      let settles = some.1 in
-      let is = some.2 in
-      let upto : past_after (first_ticket done) (entries_of done) ≡ past = ap (λ n. past_after n (entries_of done)) out.first_is ∙ follow-past old.shadow.settled _ past (entries_of done) settles.follow in
-      let long = follow-length old.shadow.settled _ past (entries_of done) settles.follow in
-      let now : new.shadow.settled ≡ old.shadow.settled + (past - old.shadow.settled) = ap (λ (a : Account). a.shadow.settled) is in
-      omega (arith, upto, long, now)
+  failed-seen (out, some) = upto-seen out some.0 some.1 (ap (λ (a : Account). a.shadow.settled) some.2)
 
 -- a batch that is settled whole ends where its entries end
 pub whole-past : (p : Planned) (done : Done) → CommitsAs p (Ok done) → past_after (first_ticket done) (entries_of done) ≡ end_of p.batch

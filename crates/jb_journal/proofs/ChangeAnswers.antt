@@ -1,5 +1,5 @@
 -- What a change answers, from what its closure gave.
-use Rattle.std.proofs.Common.{◌≡◌, ℕ, All, List, [], ◌∷◌, ◌++◌, Option, Some, Result, Ok, Err, sym, ap, subst, ◌∙◌}
+use Rattle.std.proofs.Common.{get_or, ◌≡◌, ℕ, All, List, [], ◌∷◌, ◌++◌, Option, Some, Result, Ok, Err, sym, ap, subst, ◌∙◌}
 use Rattle.std.proofs.lemmas.List.Elements.{All-push}
 use Rattle.std.specs.Borrow.{MutBor}
 use Rattle.std.specs.Fn.{Once}
@@ -7,6 +7,7 @@ use Rattle.jb_handle.specs.Handle.{changes_of}
 use Rattle.jb_handle.specs.HeldChanges.{Held}
 use Rattle.jb_handle.specs.Word.{WordMap}
 use Rattle.jb_handle.specs.declared.handle.Handle.{Handle}
+use Rattle.jb_board.proofs.EntryPlaces.{placed_on}
 use Rattle.jb_board.specs.HistoryRule.{StandsIn}
 use Rattle.jb_board.specs.declared.place.Place.{Ghosts as Places}
 use Rattle.jb_book.specs.Marks.{SeesStop}
@@ -16,7 +17,6 @@ use Rattle.jb_desk.specs.Seats.{made_by}
 use Rattle.jb_journal.specs.Change.{AnswersChange, IsCalled, IsChanged, SeesChange, Stops}
 use Rattle.jb_journal.specs.Client.{made_from}
 use Rattle.jb_journal.specs.Notes.{Stop}
-use Rattle.jb_journal.proofs.ClientNotes.{stand-on}
 use Rattle.jb_journal.specs.declared.counted.CountedSeat.{CountedSeat}
 use Rattle.jb_journal.specs.declared.fault.HandleFault.{HandleFault}
 use Rattle.jb_journal.specs.declared.fault.HandleFault.TheVariants.{Begin, Refused, Aborted, NotOpen, Memory}
@@ -38,7 +38,8 @@ sees-stop before after old new answer ticket words made sees marks = record {
   marks = marks;
   begins = sees.begins;
   higher = sees.higher;
-  own = λ each. subst (All (StandsIn new.stops)) (sym made) (All-push (StandsIn new.stops) before (ticket, words) (stand-on old.stops new.stops sees.begins before each) sees.stands);
+  own = λ each. subst (All (StandsIn new.stops)) (sym made)
+      (All-push (StandsIn new.stops) before (ticket, words) (λ k d lt. placed_on old.stops new.stops sees.begins (get_or before k d) (each k d lt)) sees.stands);
 }
 
 -- a client knows its own handles, once its seat is put back

@@ -2,13 +2,13 @@
 use Rattle.std.proofs.Common.{◌≡◌, ℕ, ◌≤◌, List, ◌++◌, All, map, option_map, Result, Ok, Err, OnOk, sym, ap, subst, ◌∙◌, arith, append_assoc}
 use Rattle.std.proofs.lemmas.List.{map-append}
 use Rattle.std.proofs.lemmas.List.Elements.{All-map, All-weaker}
-use Rattle.std.proofs.lemmas.Option.{slice_get-map, slice_get_within, get_or_from_slice_get}
+use Rattle.std.proofs.lemmas.Option.{slice_get-map}
 use mathlib.Core.List.{IsPrefix}
 use Rattle.jb_disk.specs.declared.disk.Disk.{Ghosts}
 use Rattle.jb_handle.specs.Word.{WordMap}
 use Rattle.jb_handle.specs.Words.{word}
 use Rattle.jb_handle.specs.declared.stopped.Stopped.{Stopped}
-use Rattle.jb_board.proofs.EntryPlaces.{placed_on}
+use Rattle.jb_board.proofs.EntryPlaces.{all-first, at-place, placed_on}
 use Rattle.jb_board.specs.HistoryRule.{StandsIn}
 use Rattle.jb_board.specs.declared.place.Place.{Ghosts as Places}
 use Rattle.jb_log.specs.Follows.{StandsBy}
@@ -16,7 +16,6 @@ use Rattle.jb_deck.specs.Deck.{OpenDeck}
 use Rattle.jb_deck.specs.Done.{past_after}
 use Rattle.jb_deck.specs.declared.done.Entry.{Entry}
 use Rattle.jb_deck.specs.declared.read.ReadHomeFault.{ReadHomeFault}
-use Rattle.jb_book.proofs.MarksLast.{first-marks}
 use Rattle.jb_book.specs.CallsToBook.{IsInHistory}
 use Rattle.jb_book.specs.Marks.{SeesMore, Shows, ShowsAfter}
 use Rattle.jb_book.specs.Origin.{Begun}
@@ -45,28 +44,17 @@ first-trans xs ys zs p q = (p.0 ++ q.0, sym (append_assoc xs p.0 q.0) ∙ ap (λ
 pub sees-trans : {D S : Type 0} (one two three : Sights D S) → SeesMore one two → SeesMore two three → SeesMore one three
 sees-trans one two three p q = (first-trans one.stops two.stops three.stops p.0 q.0, first-trans one.marks two.marks three.marks p.1 q.1)
 
--- where the disk was honest at all marks, it was so at the first of them
-pub honest-first : {D : Type 0} (G : Ghosts D) (xs ys : List (OpenDeck D)) → IsPrefix xs ys → AreHonest G ys → AreHonest G xs
-honest-first G xs ys p each = first-marks (λ m. G.honest m.disk) xs ys p each
-
 -- a client that has seen more goes on, at the same desk
 pub goes-on : {D C R H N : Type 0} {Q : Ghosts D} {O : OriginGhosts H} {P : Places H} (old new : Client D C R H N Q O P) → new.desk ≡ old.desk → SeesMore old.seen new.seen → ClientGoesOn old new
 goes-on {Q = Q} old new same more = record {
   knows = (more.0, first-notes (note_of Q.moment) old.seen.marks new.seen.marks more.1);
-  honest = honest-first Q old.seen.marks new.seen.marks more.1;
+  honest = all-first (λ m. Q.honest m.disk) old.seen.marks new.seen.marks more.1;
   shape = ap (λ desk. shape_in desk.now) same;
 }
-
--- what holds of each holds of the one that stands at a place
-pub at-place : {A : Type 0} (P : A → Type 0) (xs : List A) (at : ℕ) (x : A) → StandsIn xs (at, x) → All P xs → P x
-at-place P xs at x stands each = subst P (get_or_from_slice_get xs at x x stands) (each at x (slice_get_within xs at x stands))
 
 -- what stands in a first part stands in the whole
 pub stands-on : (old new : List WordMap) → IsPrefix old new → (s : Stop) → StandsIn old s → StandsIn new s
 stands-on old new p s at = placed_on old new p s at
-
-pub stand-on : (old new : List WordMap) → IsPrefix old new → (stops : List Stop) → All (StandsIn old) stops → All (StandsIn new) stops
-stand-on old new p stops each = All-weaker (StandsIn old) (StandsIn new) (λ s at. placed_on old new p s at) stops each
 
 -- ---- notes of marks
 
@@ -115,7 +103,7 @@ module _ {D : Type 0} (G : Ghosts D) (b : Begun) (given : List Stopped) where
         subst (λ (x : D × List Entry). All (NoteLasts G b given x.0 x.1) (map (note_of G.moment) ms)) (λ i. (same_disk i, same_trail i))
         (All-map (NoteLasts G b given d.disk d.trail) (note_of G.moment) ms
         (All-weaker (Lasts G b given d) (λ m. NoteLasts G b given d.disk d.trail (note_of G.moment m)) (λ m l. note-lasts d m l) ms
-        (first-marks (Lasts G b given d) ms all p each)));
+        (all-first (Lasts G b given d) ms all p each)));
   }
 
   -- a handle that is noted stays since then
@@ -138,7 +126,7 @@ module _ {D : Type 0} (G : Ghosts D) (b : Begun) (given : List Stopped) where
   pub were-honest : (d : OpenDeck D) (disk : D) (ms all : List (OpenDeck D)) → d.disk ≡ disk → IsPrefix ms all → All (Lasts G b given d) all → G.honest disk → AreHonest G ms
   were-honest d disk ms all same p each held =
       let now : G.honest d.disk = subst G.honest (sym same) held in
-      All-weaker (Lasts G b given d) (λ m. G.honest m.disk) (λ m l. l.was_honest now) ms (first-marks (Lasts G b given d) ms all p each)
+      All-weaker (Lasts G b given d) (λ m. G.honest m.disk) (λ m l. l.was_honest now) ms (all-first (Lasts G b given d) ms all p each)
 
 -- what is noted stays noted
 pub noted-on : (before after : List Note) (ticket number : ℕ) → IsPrefix before after → IsInNotes before ticket number → IsInNotes after ticket number

@@ -9,16 +9,17 @@ use Rattle.jb_handle.specs.Tickets.{TicketsFrom}
 use Rattle.jb_handle.specs.Word.{WordMap}
 use Rattle.jb_handle.specs.declared.shape.Shape.{Shape}
 use Rattle.jb_handle.specs.declared.stopped.Stopped.{Stopped}
-use Rattle.jb_board.proofs.EntryPlaces.{get_before}
+use Rattle.jb_board.proofs.EntryPlaces.{at-place, get_before}
 use Rattle.jb_board.specs.HistoryRule.{StandsIn}
 use Rattle.jb_deck.specs.Done.{past_after}
+use Rattle.jb_book.proofs.ShownTickets.{ticket-at as ticket_at}
 use Rattle.jb_book.specs.Origin.{Begun}
 use Rattle.jb_book.specs.History.{IsStop}
 use Rattle.jb_journal.specs.Notes.{AreInNotes, IsInNotes, Known, KnownLasts, NoteLasts, Stop}
 use Rattle.jb_journal.specs.Run.{RanAll}
 use Rattle.jb_journal.specs.Stays.{HandleStays}
 use Rattle.jb_journal.specs.declared.ran.Ran.{Ran}
-use Rattle.jb_journal.proofs.ClientNotes.{at-place, noted-stays}
+use Rattle.jb_journal.proofs.ClientNotes.{noted-stays}
 
 -- what holds of all lists that are joined holds of each
 all-parts : {A : Type 0} (P : A → Type 0) (lists : List (List A)) → All P (joined lists) → (k : ℕ) (xs : List A) → slice_get lists k ≡ Some xs → All P xs
@@ -27,9 +28,7 @@ all-parts P (ys ∷ lists) each zero xs at = subst (All P) (take-append_seam ys 
 all-parts P (ys ∷ lists) each (suc k) xs at = all-parts P lists (subst (All P) (drop-append_seam ys (joined lists)) (All-drop P (length ys) (ys ++ joined lists) each)) k xs at
 
 pub ticket-at : (n : ℕ) (hs : List Stopped) → TicketsFrom n hs → (k : ℕ) (d : Stopped) → k < length hs → (get_or hs k d).ticket ≡ n + k
-ticket-at n [] tickets k d lt = absurd (omega (arith, lt))
-ticket-at n (h ∷ hs) tickets zero d lt = let first = tickets.0 in omega (arith, first)
-ticket-at n (h ∷ hs) tickets (suc k) d lt = let rest = ticket-at (n + 1) hs tickets.1 k d (omega (arith, lt)) in omega (arith, rest)
+ticket-at = ticket_at
 
 -- of handles that stopped as the history says, the one with a ticket has its words
 given-at : (b : Begun) (log : List WordMap) (given : List Stopped) → TicketsFrom 0 given → All (IsStop b log) given → (stop : ℕ × WordMap) → StandsIn log stop → stop.0 < length given

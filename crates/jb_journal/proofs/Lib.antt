@@ -4,6 +4,3 @@ pub mod KnownStays
 pub mod RecoveredFile
 pub mod RunEnds
 pub mod RunLeaves
-pub mod RunRefusals
-pub mod SeatsLeft
-pub mod WorkerAnswers

@@ -1,5 +1,5 @@
 use Rattle.std.proofs.Common.{suc, ◌≤◌, length, drop, sym, ap, ◌∙◌, arith, length-take-le}
-use Rattle.jb_book.proofs.TrailFront.{front-last}
+use Rattle.jb_book.proofs.TrailEntries.{front-last}
 use Rattle.jb_book.proofs.follow.count_to.Goals as goal
 
 pub returns-clause-rest : goal.returns-clause-rest

@@ -1,4 +1,4 @@
-use Rattle.jb_book.proofs.TrailFront.{last-start}
+use Rattle.jb_book.proofs.TrailEntries.{last-start}
 use Rattle.jb_book.proofs.follow.start_of_last.Goals as goal
 
 pub returns-in-Some : goal.returns-in-Some

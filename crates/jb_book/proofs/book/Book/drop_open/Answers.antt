@@ -3,8 +3,7 @@ use Rattle.std.specs.Map.{values_of}
 use Rattle.jb_book.specs.Account.{dropped_of}
 use Rattle.jb_book.specs.Book.{account_of}
 use Rattle.jb_book.specs.Shadow.{credits_at}
-use Rattle.jb_book.proofs.Accounts.{dropped-sound, sum-gone}
-use Rattle.jb_book.proofs.BookByAccount.{kept-by}
+use Rattle.jb_book.proofs.Accounts.{dropped-sound, kept-by, sum-gone}
 use Rattle.jb_book.proofs.book.Book.drop_open.Goals as goal
 
 pub overflow_sub-self : goal.overflow_sub-self

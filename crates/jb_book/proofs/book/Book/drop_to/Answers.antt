@@ -2,8 +2,8 @@ use Rattle.std.proofs.Common.{◌≡◌, ◌+◌, ◌-◌, ◌≤◌, drop, List
 use Rattle.jb_deck.specs.declared.done.Entry.{Entry}
 use Rattle.jb_book.specs.Account.{shortened, trail_from}
 use Rattle.jb_book.specs.Book.{account_of}
-use Rattle.jb_book.proofs.TrailFront.{from-least, shortened-sound}
-use Rattle.jb_book.proofs.BookByAccount.{kept-by}
+use Rattle.jb_book.proofs.Accounts.{kept-by}
+use Rattle.jb_book.proofs.TrailEntries.{from-least, shortened-sound}
 use Rattle.jb_book.proofs.book.Book.drop_to.Goals as goal
 
 pub invariant_of-self : goal.invariant_of-self

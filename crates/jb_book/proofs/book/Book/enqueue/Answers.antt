@@ -5,8 +5,7 @@ use Rattle.jb_handle.specs.Handle.{changes_of}
 use Rattle.jb_book.specs.Account.{Account, IsOpenFor, queued}
 use Rattle.jb_book.specs.Book.{account_of}
 use Rattle.jb_book.specs.Shadow.{credits_at}
-use Rattle.jb_book.proofs.Accounts.{queued-sound, sum-gone}
-use Rattle.jb_book.proofs.BookByAccount.{kept-by, stops-more}
+use Rattle.jb_book.proofs.Accounts.{kept-by, queued-sound, stops-more, sum-gone}
 use Rattle.jb_book.proofs.book.Book.enqueue.Goals as goal
 
 pub returns-in_default-clause-refused : goal.returns-in_default-clause-refused

@@ -4,8 +4,7 @@ use Rattle.jb_core.proofs.MapEntries.{sum-insert}
 use Rattle.jb_book.specs.Account.{granted_to, begin_refusal}
 use Rattle.jb_book.specs.Book.{account_of}
 use Rattle.jb_book.specs.Shadow.{credits_at}
-use Rattle.jb_book.proofs.Accounts.{begun-sound}
-use Rattle.jb_book.proofs.BookByAccount.{kept-by}
+use Rattle.jb_book.proofs.Accounts.{begun-sound, kept-by}
 use Rattle.jb_book.proofs.book.Book.open.Goals as goal
 
 pub invariant_of-self : goal.invariant_of-self

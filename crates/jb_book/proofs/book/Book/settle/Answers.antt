@@ -3,9 +3,8 @@ use Rattle.std.proofs.lemmas.List.Sums.{sum_by-take-drop}
 use Rattle.jb_deck.specs.Done.{Follow, least_after}
 use Rattle.jb_book.specs.Account.{Account, Settles, settled_to}
 use Rattle.jb_book.specs.Book.{account_of}
-use Rattle.jb_book.proofs.Accounts.{settled-is, settled-sound}
+use Rattle.jb_book.proofs.Accounts.{kept-by, settled-is, settled-sound}
 use Rattle.jb_book.proofs.TrailEntries.{follow-length, least-append}
-use Rattle.jb_book.proofs.BookByAccount.{kept-by}
 use Rattle.jb_book.proofs.book.Book.settle.Given.{Over}
 use Rattle.jb_book.proofs.book.Book.settle.Goals.{After-push_all}
 use Rattle.jb_book.proofs.book.Book.settle.Goals as goal

@@ -1,7 +1,7 @@
 use Rattle.std.proofs.Common.{◌≤◌, sym, ap, subst, ◌∙◌}
 use Rattle.jb_deck.specs.Done.{start_of}
 use Rattle.jb_book.specs.Account.{Account}
-use Rattle.jb_book.proofs.TrailFront.{start-low}
+use Rattle.jb_book.proofs.TrailEntries.{start-low}
 use Rattle.jb_book.proofs.book.Book.start.Goals as goal
 
 pub returns-clause-settled : goal.returns-clause-settled

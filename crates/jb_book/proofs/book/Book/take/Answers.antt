@@ -4,7 +4,7 @@ use Rattle.jb_plan.specs.Costs.{HasCut}
 use Rattle.jb_book.specs.Account.{Account}
 use Rattle.jb_book.specs.Book.{account_of}
 use Rattle.jb_book.proofs.Accounts.{queue-size}
-use Rattle.jb_book.proofs.SingleCuts.{cut-of}
+use Rattle.jb_book.proofs.LeastCut.{cut-of}
 use Rattle.jb_book.proofs.book.Book.take.Goals as goal
 
 pub of-requires-clause-size : goal.of-requires-clause-size

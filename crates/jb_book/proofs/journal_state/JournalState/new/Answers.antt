@@ -1,5 +1,5 @@
 use Rattle.jb_book.specs.History.{IsStop}
-use Rattle.jb_book.proofs.WeakerMarks.{new-marked}
+use Rattle.jb_book.proofs.StopHistories.{new-marked}
 use Rattle.jb_book.proofs.journal_state.JournalState.new.Goals as goal
 
 pub invariant_of-result : goal.invariant_of-result

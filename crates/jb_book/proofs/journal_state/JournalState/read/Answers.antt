@@ -1,8 +1,6 @@
 use Rattle.std.proofs.Common.{List, length, ap, subst, sym, ◌∙◌}
 use mathlib.Core.List.{IsPrefix}
 use Rattle.jb_deck.specs.Deck.{OpenDeck}
-use Rattle.jb_deck.specs.Done.{Follow, past_after, start_of}
-use Rattle.jb_deck.specs.declared.done.Entry.{Entry}
 use Rattle.jb_handle.specs.Word.{WordMap}
 use Rattle.jb_board.proofs.EntryPlaces.{get_last, placed_on}
 use Rattle.jb_board.specs.HistoryRule.{StandsIn, with_last}
@@ -10,7 +8,7 @@ use Rattle.jb_book.specs.History.{IsStop}
 use Rattle.jb_book.specs.SinceMark.{IsMarkedOf}
 use Rattle.jb_book.proofs.StopHistories.{stop-on}
 use Rattle.jb_book.proofs.MarksLast.{marked-now, settled-of}
-use Rattle.jb_book.proofs.SinceRead.{read-home, read-marked}
+use Rattle.jb_book.proofs.SinceNoHandles.{read-home, read-marked}
 use Rattle.jb_book.proofs.journal_state.JournalState.read.Goals as goal
 
 pub invariant_of-self : goal.invariant_of-self
@@ -20,7 +18,7 @@ invariant_of-self g c =
     let after = read-marked g.D.Disk g.met.D.Disk.counts_now b known
     c.self.inside.deck c.read_home-result.new.self c.read_home-result.ensures.kept c.self.inside.appender _ _
     c.read_home-result.result c.read_home-result.ensures.answers c.read_home-result.ensures.newest c.read_home-result.ensures.leaves c.self.invariant in
-    let tiles = subst (λ (es : List Entry). Follow (start_of es) 0 (past_after 0 es) es) c.trail-trail.ensures.value c.trail-trail.ensures.tiles in
+    let tiles = rw c.trail-trail.ensures.value at c.trail-trail.ensures.tiles in
     let now = marked-now g.D.Disk g.met.D.Disk.only_now b known c.self.inside.appender c.read_home-result.new.self tiles after in
     subst (λ (x : List WordMap × List (OpenDeck g.row.D.Denot)). IsMarkedOf g.D.Disk b (IsStop b x.0) x.1 c.read_home-result.new.self)
     (λ i. (sym c.learn.ensures.kept i, (ap (λ (ms : List (OpenDeck g.row.D.Denot)). with_last ms c.read_home-result.new.self) (sym c.check.ensures.kept) ∙ sym c.mark-shown.ensures.whole) i))

@@ -1,18 +1,15 @@
-use Rattle.std.proofs.Common.{List, subst}
-use Rattle.jb_deck.specs.Done.{Follow, past_after, start_of}
-use Rattle.jb_deck.specs.declared.done.Entry.{Entry}
 use Rattle.jb_book.specs.History.{IsStop}
 use Rattle.jb_book.proofs.SinceTakeTrail.{gives-trail, take-marked}
 use Rattle.jb_book.proofs.journal_state.JournalState.take_trail.Goals as goal
 
 pub invariant_of-self : goal.invariant_of-self
 invariant_of-self g c =
-    let tiles = subst (λ (es : List Entry). Follow (start_of es) 0 (past_after 0 es) es) c.trail-trail.ensures.value c.trail-trail.ensures.tiles in
+    let tiles = rw c.trail-trail.ensures.value at c.trail-trail.ensures.tiles in
     take-marked g.D.Disk g.S.Origin.begun (IsStop g.S.Origin.begun c.self.inside.sight) c.args.past c.self.inside.appender c.self.inside.deck c.take_trail.new.self tiles c.self.invariant
     c.take_trail.result c.take_trail.ensures.taken c.take_trail.ensures.refused
 
 pub returns-clause-gives : goal.returns-clause-gives
 returns-clause-gives g c =
-    let tiles = subst (λ (es : List Entry). Follow (start_of es) 0 (past_after 0 es) es) c.trail-trail.ensures.value c.trail-trail.ensures.tiles in
+    let tiles = rw c.trail-trail.ensures.value at c.trail-trail.ensures.tiles in
     gives-trail g.D.Disk g.S.Origin.begun (IsStop g.S.Origin.begun c.self.inside.sight) c.args.past c.self.inside.appender c.self.inside.deck c.take_trail.new.self tiles c.self.invariant
     (λ h s. s.0) c.take_trail.result c.take_trail.ensures.taken c.take_trail.ensures.refused

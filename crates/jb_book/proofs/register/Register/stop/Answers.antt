@@ -1,19 +1,17 @@
-use Rattle.std.proofs.Common.{◌++◌, ◌∷◌, [], length, refl, ap, sym, subst, ◌∙◌}
+use Rattle.std.proofs.Common.{◌++◌, ◌∷◌, [], length, ap, sym, subst, ◌∙◌}
 use Rattle.jb_handle.specs.Handle.{changes_of, holder}
 use Rattle.jb_board.specs.HistoryRule.{IsFirstPart}
-use Rattle.jb_book.specs.Account.{Account, RefusesStop, queued}
+use Rattle.jb_book.specs.Account.{Account, RefusesStop}
 use Rattle.jb_book.specs.CallsToBook.{Queues, Registered, registered}
-use Rattle.jb_book.proofs.BookMarks.{marked-same, sees-stop}
-use Rattle.jb_book.proofs.RegisterCalls.{kept-stopped}
+use Rattle.jb_book.proofs.BookMarks.{sees-stop}
+use Rattle.jb_book.proofs.RegisterCalls.{both-stopped}
 use Rattle.jb_book.proofs.register.Register.stop.Goals as goal
 
 pub invariant_of-self : goal.invariant_of-self
 invariant_of-self g c =
-    let words = (changes_of c.args.handle).words in (
-      kept-stopped c.self.inside.book c.enqueue.new.self c.self.inside.appender c.show-all.new.appender c.args.seat words c.reserved-reserved.ensures.sound c.self.invariant.0 c.in-Ok.ensures.open c.in-Ok.ensures.book
-          (λ same. c.show-all.ensures.kept ∙ (c.record_last.ensures _ _ same).0 ∙ ap (λ l. l ++ words ∷ []) c.look.ensures.kept.0),
-      marked-same c.self.inside.seen c.self.inside.book c.enqueue.new.self c.self.invariant.1 (queued c.args.seat words c.self.inside.book) refl refl c.in-Ok.ensures.book,
-    )
+    let words = (changes_of c.args.handle).words in
+    both-stopped c.self.invariant c.args.seat words c.reserved-reserved.ensures.sound c.in-Ok.ensures.open c.in-Ok.ensures.book
+    (λ same. c.show-all.ensures.kept ∙ (c.record_last.ensures _ _ same).0 ∙ ap (λ l. l ++ words ∷ []) c.look.ensures.kept.0)
 
 pub returns-in-Ok-clause-ok : goal.returns-in-Ok-clause-ok
 returns-in-Ok-clause-ok g c =

@@ -3,16 +3,12 @@ use Rattle.jb_plan.specs.Batch.{Gathered}
 use Rattle.jb_plan.specs.Costs.{HasCut}
 use Rattle.jb_handle.specs.Word.{WordMap}
 use Rattle.jb_book.specs.CallsToBook.{Registered}
-use Rattle.jb_book.proofs.BookMarks.{marked-taken}
-use Rattle.jb_book.proofs.RegisterCalls.{kept-take}
+use Rattle.jb_book.proofs.RegisterCalls.{both-take}
 use Rattle.jb_book.proofs.register.Register.take.Goals as goal
 use Rattle.jb_book.proofs.register.Register.take.Goals.{in-Some, in-None}
 
 pub invariant_of-self : goal.invariant_of-self
-invariant_of-self g c = (
-  kept-take c.take.result c.self.inside.book c.take.new.self c.self.inside.appender c.show-sight.new.appender c.reserved-reserved.ensures.sound c.self.invariant.0 c.take.ensures.cut c.take.ensures.taken c.take.ensures.none c.show-sight.ensures.kept,
-  marked-taken c.self.inside.seen c.self.inside.book c.take.new.self c.self.invariant.1 c.take.result c.take.ensures.taken c.take.ensures.none,
-)
+invariant_of-self g c = both-take c.self.invariant c.show-sight.ensures.kept c.take.result c.reserved-reserved.ensures.sound c.take.ensures.cut c.take.ensures.taken c.take.ensures.none
 
 pub returns-clause-cut : goal.returns-clause-cut
 returns-clause-cut g c =

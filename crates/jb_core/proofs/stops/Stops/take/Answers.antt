@@ -1,10 +1,9 @@
-use Rattle.std.proofs.Common.{rules, ◌≡◌, ◌+◌, ◌++◌, map, refl, sym, ap, ◌∙◌, subst, length, drop, arith}
+use Rattle.std.proofs.Common.{rules, ◌≡◌, ◌+◌, ◌++◌, map, sym, ap, ◌∙◌, subst, length, drop, arith}
 use Rattle.std.proofs.lemmas.List.{length-drop, take_rest}
 use Rattle.jb_cost.specs.Cut.{IsCut}
 use Rattle.jb_core.specs.Line.{Line, IsTaken}
 use Rattle.jb_core.specs.Stops.{line_of_stops}
-use Rattle.jb_core.specs.declared.stops.Stops.TheInside.{Inside}
-use Rattle.jb_core.proofs.LineMoves.{rises-below, cut-rises, take-kept, take-line}
+use Rattle.jb_core.proofs.LineMoves.{changed, rises-below, cut-rises, take-kept, take-line}
 use Rattle.jb_core.proofs.stops.Stops.take.Goals as goal
 
 pub push_ends-requires : goal.push_ends-requires
@@ -20,19 +19,14 @@ invariant_of-self-2 c =
     let end : c.len-end.result ≡ length c.self.inside.handles.items = search rules in
     take-kept c.self.inside c.self.invariant c.args.bounds.now
     (subst (λ (l : Line). IsCut (length l.queue) c.args.bounds.now) (sym c.self.view_is) c.requires.cut)
-    (ap (λ (l : Line). l.taken) c.self.view_is ∙ c.requires.none)
-    _ refl refl
-    (c.in_ok-push_ends.ensures.ok ∙ ap (λ es. c.self.inside.ends.items ++ map (λ end. c.self.inside.taken_end + end) es) (take_rest c.args.bounds.now 1))
-    end refl refl
+    (ap (λ (l : Line). l.taken) c.self.view_is ∙ c.requires.none) c.push_ends.new.ends c.len-end.result
+    (c.in_ok-push_ends.ensures.ok ∙ ap (λ es. c.self.inside.ends.items ++ map (λ end. c.self.inside.taken_end + end) es) (take_rest c.args.bounds.now 1)) end
 
 pub returns-clause-ok : goal.returns-clause-ok
 returns-clause-ok c =
     let end : c.len-end.result ≡ length c.self.inside.handles.items = search rules in
-    let after : Inside = record { handles = c.self.inside.handles; granted = c.self.inside.granted; ends = c.push_ends.new.ends; taken_end = c.len-end.result; settled = c.self.inside.settled; settled_end = c.self.inside.settled_end } in
-    subst (λ (l : Line). IsTaken c.args.bounds.now l (line_of_stops after)) c.self.view_is
+    subst (λ (l : Line). IsTaken c.args.bounds.now l (line_of_stops (changed c.self.inside c.self.inside.handles c.self.inside.granted c.push_ends.new.ends c.len-end.result))) c.self.view_is
     (take-line c.self.inside c.self.invariant c.args.bounds.now
     (subst (λ (l : Line). IsCut (length l.queue) c.args.bounds.now) (sym c.self.view_is) c.requires.cut)
-    (ap (λ (l : Line). l.taken) c.self.view_is ∙ c.requires.none)
-    after refl refl
-    (c.in_ok-push_ends.ensures.ok ∙ ap (λ es. c.self.inside.ends.items ++ map (λ end. c.self.inside.taken_end + end) es) (take_rest c.args.bounds.now 1))
-    end refl refl)
+    (ap (λ (l : Line). l.taken) c.self.view_is ∙ c.requires.none) c.push_ends.new.ends c.len-end.result
+    (c.in_ok-push_ends.ensures.ok ∙ ap (λ es. c.self.inside.ends.items ++ map (λ end. c.self.inside.taken_end + end) es) (take_rest c.args.bounds.now 1)) end)

@@ -23,8 +23,8 @@ use Rattle.jb_desk.proofs.RoundCounts.{keeps-same, settled-by}
 use Rattle.jb_desk.proofs.desk.Desk.commit.Goals as goal
 
 -- a batch that is handed back as it was is out as it was
-out-on : (b : Begun) (batch back : Gathered) (given taken : ℕ) (sight seen : List WordMap) → back ≡ batch → seen ≡ sight → IsOut b batch given sight taken → IsOut b back given seen taken
-out-on b batch back given taken sight seen same kept out = subst (λ (x : Gathered × List WordMap). IsOut b x.0 given x.1 taken) (λ i. (sym same i, sym kept i)) out
+out-on : {b : Begun} {batch back : Gathered} {given taken : ℕ} {sight seen : List WordMap} → back ≡ batch → seen ≡ sight → IsOut b batch given sight taken → IsOut b back given seen taken
+out-on {b} {given = given} {taken} same kept out = subst (λ (x : Gathered × List WordMap). IsOut b x.0 given x.1 taken) (λ i. (sym same i, sym kept i)) out
 
 -- a batch that the journal does not take is held again
 held-on : {D : Type 0} (G : Disks D) (b : Begun) (p : Planned) (r : Result Done BatchFault) (found fault : BatchFault) (after : Option Gathered) (n : ℕ)
@@ -114,7 +114,7 @@ pub returns-in-Err-Aborted : goal.returns-in-Err-Aborted
 returns-in-Err-Aborted g c = record { seat = keeps-same _ _ refl; answers = c.requires.free; view = refl; round = tt }
 
 pub of-requires : goal.of-requires
-of-requires g c = out-on g.H.Origin.begun _ _ _ _ _ _ (search rules) c.commit-result.ensures.stops c.requires.out
+of-requires g c = out-on (search rules) c.commit-result.ensures.stops c.requires.out
 
 pub returns-in-Err-Memory : goal.returns-in-Err-Memory
 returns-in-Err-Memory g c = record {
@@ -125,7 +125,7 @@ returns-in-Err-Memory g c = record {
 }
 
 pub of-requires-in-Err-WrongTicket : goal.of-requires-in-Err-WrongTicket
-of-requires-in-Err-WrongTicket g c = out-on g.H.Origin.begun _ _ _ _ _ _ (search rules) c.commit-result.ensures.stops c.requires.out
+of-requires-in-Err-WrongTicket g c = out-on (search rules) c.commit-result.ensures.stops c.requires.out
 
 pub returns-in-Err-WrongTicket : goal.returns-in-Err-WrongTicket
 returns-in-Err-WrongTicket g c = record {
@@ -137,7 +137,7 @@ returns-in-Err-WrongTicket g c = record {
 }
 
 pub of-requires-in-Err-OtherShape : goal.of-requires-in-Err-OtherShape
-of-requires-in-Err-OtherShape g c = out-on g.H.Origin.begun _ _ _ _ _ _ (search rules) c.commit-result.ensures.stops c.requires.out
+of-requires-in-Err-OtherShape g c = out-on (search rules) c.commit-result.ensures.stops c.requires.out
 
 pub returns-in-Err-OtherShape : goal.returns-in-Err-OtherShape
 returns-in-Err-OtherShape g c = record {
@@ -149,7 +149,7 @@ returns-in-Err-OtherShape g c = record {
 }
 
 pub of-requires-in-Err-NumbersSpent : goal.of-requires-in-Err-NumbersSpent
-of-requires-in-Err-NumbersSpent g c = out-on g.H.Origin.begun _ _ _ _ _ _ (search rules) c.commit-result.ensures.stops c.requires.out
+of-requires-in-Err-NumbersSpent g c = out-on (search rules) c.commit-result.ensures.stops c.requires.out
 
 pub returns-in-Err-NumbersSpent : goal.returns-in-Err-NumbersSpent
 returns-in-Err-NumbersSpent g c = record {

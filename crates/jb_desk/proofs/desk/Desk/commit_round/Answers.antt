@@ -1,14 +1,15 @@
-use Rattle.std.proofs.Common.{rules, ◌≡◌, ◌<◌, ◌≤◌, length, Some, Err, inl, refl, sym, ap, subst, ◌∙◌}
+use Rattle.std.proofs.Common.{rules, ◌≡◌, ◌<◌, ◌≤◌, length, Some, Err, inl, inr, refl, sym, ap, subst, ◌∙◌}
 use Rattle.jb_plan.specs.Batch.{Gathered}
 use Rattle.jb_board.specs.Seats.{given_by, seat_view}
 use Rattle.jb_board.specs.Steps.{raised_taken}
 use Rattle.jb_board.specs.declared.front.Front.{Front}
 use Rattle.jb_book.specs.Rounds.{end_of as end_in}
 use Rattle.jb_desk.specs.BatchOut.{IsOut}
+use Rattle.jb_desk.specs.declared.committer.RoundFault.TheVariants.{Aborted}
 use Rattle.jb_desk.specs.Rounds.{held_by, seat_of}
 use Rattle.jb_desk.specs.Seats.{view_of}
 use Rattle.jb_desk.specs.Views.{TakesUp, with_taken}
-use Rattle.jb_desk.proofs.RoundCounts.{answers-held, answers-up, gives-none, keeps-same, lost-answers, lost-by, lost-idle, lost-round, lost-sees, never-idle, reached, round-up, sees-held, sees-taken, takes-up}
+use Rattle.jb_desk.proofs.RoundCounts.{answers-held, answers-up, gives-none, keeps-same, never-idle, reached, round-up, sees-taken, takes-up}
 use Rattle.jb_desk.proofs.desk.Desk.commit_round.Given.{Over}
 use Rattle.jb_desk.proofs.desk.Desk.commit_round.Goals.{After-raise_taken}
 use Rattle.jb_desk.proofs.desk.Desk.commit_round.Goals as goal
@@ -95,7 +96,7 @@ returns-in-Memory g c =
       seat = record { desk = kept.desk ∙ c.raise_taken.ensures.board ∙ c.raise_stopped.ensures.board; number = kept.number; counted = kept.counted };
       answers = answers-held held after c.in-Err.batch (view_of (seat_of c.hold.new.self)).settled is again;
       idle = tt;
-      view = sees-held held after c.in-Err.batch (view_of (seat_of c.args.committer.now)) (view_of (seat_of c.hold.new.self)) is again (ap (λ s. view_of s) c.hold.ensures.0 ∙ taken g at _ same);
+      view = inr (c.in-Err.batch, is, again, ap (λ s. view_of s) c.hold.ensures.0 ∙ taken g at _ same);
       round = tt;
     }
 
@@ -115,11 +116,11 @@ returns-in_default g c = record {
 pub returns-in_err-held : goal.returns-in_err-held
 returns-in_err-held g c =
     let fails : c.from_residual.result ≡ Err c.in_err-held.field-0.0 = search rules in
-    let lost = lost-by c.from_residual.result c.in_err-held.field-0.0 fails c.in_err-held.ensures.batch.0 in
+    let lost : c.from_residual.result ≡ Err Aborted = cc (c.in_err-held.ensures.batch.0) in
     record {
       seat = keeps-same _ _ refl;
-      answers = lost-answers _ _ _ c.from_residual.result lost c.take-held.ensures.after;
-      idle = lost-idle _ _ c.from_residual.result lost;
-      view = lost-sees _ _ _ _ c.from_residual.result lost refl;
-      round = lost-round g.D.Disk g.H.Origin.begun _ _ _ c.from_residual.result lost;
+      answers = rw lost c.take-held.ensures.after;
+      idle = rw lost tt;
+      view = rw lost (inl (tt, refl));
+      round = rw lost tt;
     }

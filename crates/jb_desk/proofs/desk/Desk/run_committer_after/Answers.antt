@@ -1,12 +1,38 @@
-use Rattle.std.proofs.Common.{rules}
+use Rattle.std.proofs.Common.{ℕ, Option, Result, Ok, Err, inl, inr, sym, subst, arith, rules}
+use Rattle.jb_plan.specs.Batch.{Gathered}
 use Rattle.jb_board.specs.Front.{IsWithin}
+use Rattle.jb_board.specs.Steps.{raised_settled}
+use Rattle.jb_board.specs.declared.front.Front.{Front}
+use Rattle.jb_book.specs.Rounds.{end_of}
+use Rattle.jb_desk.specs.Views.{SeesCommit, SeesRound, with_taken}
+use Rattle.jb_desk.specs.declared.committer.Round.{Round}
+use Rattle.jb_desk.specs.declared.committer.Round.TheVariants.{Idle, Committed}
+use Rattle.jb_desk.specs.declared.committer.RoundFault.{RoundFault}
+use Rattle.jb_desk.specs.declared.committer.RoundFault.TheVariants.{DeviceFault}
 use Rattle.jb_desk.specs.Rounds.{held_by, seat_of}
 use Rattle.jb_desk.specs.Seats.{KeepsSeat, view_of}
-use Rattle.jb_desk.proofs.RisingCounts.{round-rises, within-on}
 use Rattle.jb_desk.proofs.RoundCounts.{keeps-on}
 use Rattle.jb_desk.proofs.desk.Desk.run_committer_after.Given.{Over}
 use Rattle.jb_desk.proofs.desk.Desk.run_committer_after.Goals.{After-commit_round}
 use Rattle.jb_desk.proofs.desk.Desk.run_committer_after.Goals as goal
+
+within-settled : (v : Front) (past settled : ℕ) → IsWithin v (raised_settled (with_taken past v) settled)
+within-settled v past settled = (omega arith, omega arith, omega arith)
+
+-- a batch that was taken up is committed
+commit-rises : (b : Gathered) (v w : Front) (r : Result Round RoundFault) → SeesCommit b (with_taken (end_of b) v) w r → IsWithin v w
+commit-rises b v w (Ok (Idle seen)) is = absurd is
+commit-rises b v w (Ok (Committed done)) is = subst (IsWithin v) (sym is) (within-settled v (end_of b) (end_of b))
+commit-rises b v w (Err DeviceFault) (lost, from, to, is) = subst (IsWithin v) (sym is) (within-settled v (end_of b) lost)
+commit-rises b v w (Err fault) is = subst (IsWithin v) (sym is) (omega arith, omega arith, omega arith)
+
+round-rises : (held after : Option Gathered) (v w : Front) (r : Result Round RoundFault) → SeesRound held after v w r → IsWithin v w
+round-rises held after v w r (inl none) = subst (IsWithin v) (sym none.1) (omega arith, omega arith, omega arith)
+round-rises held after v w r (inr (b, up, answers, is)) = commit-rises b v w r is
+
+-- what was within the first is within the second
+within-on : (u v w : Front) → IsWithin u v → IsWithin v w → IsWithin u w
+within-on u v w first second = (omega arith, omega arith, omega arith)
 
 -- after one more round the seat is still the one that came, and no count of it has fallen
 on : (g : Over) (c : After-commit_round g) → KeepsSeat (seat_of c.args.committer) (seat_of c.commit_round.new.committer) × IsWithin (view_of (seat_of c.args.committer)) (view_of (seat_of c.commit_round.new.committer))

@@ -2,14 +2,10 @@ use Rattle.std.proofs.Common.{rules, sym, subst, ◌∙◌}
 use mathlib.Core.List.{IsPrefix}
 use Rattle.jb_handle.specs.Word.{WordMap}
 use Rattle.std.specs.Prelude.{List}
-use Rattle.jb_board.proofs.EntryPlaces.{placed_on}
+use Rattle.jb_board.proofs.EntryPlaces.{all-first, at-place, placed_on}
 use Rattle.jb_book.specs.History.{IsStop}
 use Rattle.jb_book.specs.SinceMark.{Lasts}
-use Rattle.jb_book.proofs.StopHistories.{stop-on}
-use Rattle.jb_book.proofs.MarksLast.{first-marks}
-use Rattle.jb_book.proofs.WeakerMarks.{marked-weaker}
-use Rattle.jb_book.proofs.StartShape.{of-begun}
-use Rattle.jb_book.proofs.ShownTickets.{of-mark}
+use Rattle.jb_book.proofs.StopHistories.{marked-weaker, of-begun, stop-on}
 use Rattle.jb_desk.proofs.desk.closing.close_parts.Goals as goal
 
 pub returns-clause-sums : goal.returns-clause-sums
@@ -37,7 +33,7 @@ returns-clause-stops g c =
         journal = λ known_start held. of-begun g.D.Disk b (IsStop b c.end-deck.result.2) deck shape c.shape-shape.ensures.journal since.since known_start (subst g.D.Disk.honest c.close.ensures.value held);
       };
       knows = subst (λ (l : List WordMap). IsPrefix c.args.seen.stops l) c.check.ensures.kept c.check-2.ensures.sight;
-      last = first-marks (Lasts g.D.Disk b is.since.given deck) c.args.seen.marks marks c.learn.ensures.own is.marks_last;
+      last = all-first (Lasts g.D.Disk b is.since.given deck) c.args.seen.marks marks c.learn.ensures.own is.marks_last;
     }
 
 -- the book's shape is that of the journal at a mark, and so its shape now
@@ -48,7 +44,7 @@ returns-clause-came g c =
     let since = c.end-deck.ensures.since in
     let book = c.totals-trail.ensures.journal in
     let stands = placed_on c.totals-trail.result.4 marks c.learn.ensures.other (book.at, book.mark) book.stands in
-    let last = of-mark (Lasts g.D.Disk g.H.Origin.begun since.since.given deck) marks book.at book.mark stands since.marks_last in
+    let last = at-place (Lasts g.D.Disk g.H.Origin.begun since.since.given deck) marks book.at book.mark stands since.marks_last in
     record {
       log = c.totals-trail.result.3;
       stopped = search rules;
