@@ -99,15 +99,10 @@ writes-insert (e ∷ es) home v h =
 -- ---- copies that are counted
 
 more-same : (done : List ℕ) (home : ℕ) → copies_to (done ++ home ∷ []) home ≡ copies_to done home + 1
-more-same done home =
-    sum_by_push (λ x. cond (nat_eq x home) 1 0) done home ∙ ap (λ test. copies_to done home + cond test 1 0) (eq-eqb home home refl)
+more-same done home = rw (sum_by_push (λ x. cond (nat_eq x home) 1 0) done home, eq-eqb home home refl) refl
 
 more-other : (done : List ℕ) (home k : ℕ) → k ≢ home → copies_to (done ++ home ∷ []) k ≡ copies_to done k
-more-other done home k other =
-    let none : copies_to done k + 0 ≡ copies_to done k = omega arith in
-    sum_by_push (λ x. cond (nat_eq x k) 1 0) done home
-    ∙ ap (λ test. copies_to done k + cond test 1 0) (ne_eqb home k (λ same. other (sym same)))
-    ∙ none
+more-other done home k other = rw (sum_by_push (λ x. cond (nat_eq x k) 1 0) done home, ne_eqb home k (λ same. other (sym same))) (omega arith)
 
 -- the rows say of each home how many of these copies it has
 abbrev Says : List ℕ → List ℕ → Type 0
