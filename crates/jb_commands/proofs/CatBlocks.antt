@@ -1,5 +1,5 @@
 -- Home blocks that are peeked at and written, one after the other, for any disk.
-use Rattle.std.proofs.Common.{◌≡◌, suc, ◌+◌, ◌<◌, ◌≤◌, ℕ, Bool, true, List, [], ◌∷◌, ◌++◌, length, get_or, Option, Some, None, Result, Ok, Err, refl, ap, sym, ◌∙◌, subst, inl, inr, arith, length-append, append_assoc, append-nil}
+use Rattle.std.proofs.Common.{◌≡◌, suc, ◌+◌, ◌<◌, ◌≤◌, ℕ, Bool, true, List, [], ◌∷◌, ◌++◌, length, Option, Some, None, Result, Ok, Err, refl, ap, sym, ◌∙◌, subst, inl, inr, arith, length-append, append_assoc, append-nil}
 use Rattle.std.proofs.Math.Decide.{ℕ_discrete}
 use Rattle.std.proofs.Math.Seq.{get_or-append_seam}
 use Rattle.std.proofs.lemmas.List.{get_or_append_left}
@@ -41,10 +41,8 @@ text-more hex at (b ∷ blocks) bytes = rw (text-more hex (offset_behind at b) b
 peeked-more : (size count : ℕ) (c : Image) (first : ℕ) (blocks : List (List ℕ)) (bytes : List ℕ) → ArePeeked size count c first blocks
     → (peek_refusal size count c (home_at first (length blocks)) ≡ None) × IsPeeked size count c (home_at first (length blocks)) bytes → ArePeeked size count c first (blocks ++ bytes ∷ [])
 peeked-more size count c first blocks bytes before here k within = elim (ℕ_discrete k (length blocks)) [
-  | yes is ↦ subst (λ j. (peek_refusal size count c (home_at first j) ≡ None) × IsPeeked size count c (home_at first j) (get_or (blocks ++ bytes ∷ []) j [])) (sym is)
-      (here.0, subst (IsPeeked size count c (home_at first (length blocks))) (sym (get_or-append_seam blocks bytes [] [])) here.1)
-  | no other ↦ (let len = length-append blocks (bytes ∷ []) in let inside : k < length blocks = omega (arith, len, within, other) in
-      let known = before k inside in (known.0, subst (IsPeeked size count c (home_at first k)) (sym (get_or_append_left blocks (bytes ∷ []) [] k inside)) known.1))
+  | yes is ↦ rw (is, get_or-append_seam blocks bytes [] []) here
+  | no other ↦ (let inside : k < length blocks = omega (arith, length-append blocks (bytes ∷ []), within, other) in rw (get_or_append_left blocks (bytes ∷ []) [] k inside) (before k inside))
 ]
 
 -- a peek that stopped
@@ -105,9 +103,7 @@ module _ {D : Type 0} (G : Disks D) (first : ℕ) (hex : Bool) where
     -- what is known of a peek on the disk as it is now is known of it as it was
     as-before : (P : ℕ → ℕ → Image → Type 0) → (G.honest next → P (G.size now) (G.count now) (G.newest now)) → G.honest next → P (G.size old) (G.count old) (G.newest old)
     as-before P told held =
-        subst (λ s. P s (G.count old) (G.newest old)) state.kept.same_size
-        (subst (λ n. P (G.size now) n (G.newest old)) state.kept.same_count
-        (subst (P (G.size now) (G.count now)) (state.same (kept.was_honest held)) (told held)))
+        rw (← state.kept.same_size, ← state.kept.same_count, ← state.same (kept.was_honest held)) (told held)
 
     -- it stopped after these blocks
     stopped : (homes : Option ℕ) (n : ℕ) (out_next : Option (List ℕ)) (end : Result ℕ CommandFault) (blocks : List (List ℕ)) → CatFaults end (G.faults old) (G.faults next)
@@ -128,16 +124,15 @@ module _ {D : Type 0} (G : Disks D) (first : ℕ) (hex : Bool) where
       more = state.blocks ++ bytes ∷ []
 
       one_more : length more ≡ i + 1
-      one_more = let len = length-append state.blocks (bytes ∷ []) in let done = state.done in omega (arith, len, done)
+      one_more = omega (arith, length-append state.blocks (bytes ∷ []), state.done)
 
       peeked-next : G.honest next → ArePeeked (G.size old) (G.count old) (G.newest old) first more
       peeked-next held =
           peeked-more (G.size old) (G.count old) (G.newest old) first state.blocks bytes (peeked-still held)
-          (subst (λ k. (peek_refusal (G.size old) (G.count old) (G.newest old) (home_at first k) ≡ None) × IsPeeked (G.size old) (G.count old) (G.newest old) (home_at first k) bytes) (sym state.done)
-          (as-before (λ s n c. (peek_refusal s n c (home_at first i) ≡ None) × IsPeeked s n c (home_at first i) bytes) told held))
+          (rw state.done (as-before (λ s n c. (peek_refusal s n c (home_at first i) ≡ None) × IsPeeked s n c (home_at first i) bytes) told held))
 
       text-next : blocks_text hex 0 more ≡ blocks_text hex 0 state.blocks ++ block_text hex at bytes
-      text-next = text-more hex 0 state.blocks bytes ∙ ap (λ offset. blocks_text hex 0 state.blocks ++ block_text hex offset bytes) (sym state.offset)
+      text-next = rw state.offset (text-more hex 0 state.blocks bytes)
 
       pub catting-more : (out_next : Option (List ℕ)) (at_next : ℕ) → Appends out_now out_next (block_text hex at bytes) → at_next ≡ offset_behind at bytes → Catting old next out_old out_next (i + 1) at_next
       catting-more out_next at_next written offset = record {
@@ -159,11 +154,11 @@ module _ {D : Type 0} (G : Disks D) (first : ℕ) (hex : Bool) where
 
       -- the block was not written whole
       pub cats-stopped : (homes : Option ℕ) (n : ℕ) (out_next : Option (List ℕ)) (fault : CommandFault) (end : Result ℕ CommandFault) → end ≡ Err fault → (fault ≡ Memory → hex ≡ true) → i < n → PutsText (block_text hex at bytes) out_now out_next (Err fault) → CatsOn G homes first n hex old next out_old out_next end
-      cats-stopped homes n out_next WriteFault end is rows more puts = subst (CatsOn G homes first n hex old next out_old out_next) (sym is) (cats-cut homes n out_next puts)
-      cats-stopped homes n out_next Memory end is rows more puts =
+      cats-stopped homes n out_next WriteFault end is rows inside puts = subst (CatsOn G homes first n hex old next out_old out_next) (sym is) (cats-cut homes n out_next puts)
+      cats-stopped homes n out_next Memory end is rows inside puts =
           subst (CatsOn G homes first n hex old next out_old out_next) (sym is)
-          (subst (λ o. CatsOn G homes first n hex old next out_old o (Err Memory)) (sym puts) (cats-starved none homes n (rows refl) more))
-      cats-stopped homes n out_next _ end is rows more puts = absurd puts
+          (subst (λ o. CatsOn G homes first n hex old next out_old o (Err Memory)) (sym puts) (cats-starved none homes n (rows refl) inside))
+      cats-stopped homes n out_next _ end is rows inside puts = absurd puts
 
     -- the peek was refused
     pub cats-refused : (homes : Option ℕ) (n : ℕ) (stop : PeekFault) → PeekFaults {T = Unit} (Err stop) (G.faults now) (G.faults next) → i < n → (G.honest next → IsUnpeeked (G.size now) (G.count now) (G.newest now) (home_at first i) stop) → CatsOn G homes first n hex old next out_old out_now (Err (peek_fault homes stop))
