@@ -1,5 +1,10 @@
 -- How long the text of a best certificate is: at most nine times as long as that of its queue.
 use Rattle.std.proofs.Common.{◌≡◌, ℕ, ◌+◌, ◌*◌, ◌≤◌, List, [], ◌∷◌, ◌++◌, length, refl, ap, arith, Option, option_map, Some, None, Result, Ok, Err, codes, decimal, length-append, suc, take, ◌<◌, map, sym}
+use Rattle.std.proofs.lemmas.Fmt.{length-decimal-le}
+use Rattle.std.proofs.lemmas.List.Sums.{sum_by-cons}
+use Rattle.std.proofs.lemmas.Result.{MatchResult-at_ok}
+use Rattle.std.specs.FinMap as map_of
+use Rattle.std.specs.List.{AllZip}
 use Rattle.jb_block.specs.Size.{bytes_of}
 use Rattle.jb_text.specs.Parts.{lines, spaced}
 use Rattle.jb_handle.specs.Size.{weight}
@@ -10,11 +15,6 @@ use Rattle.jb_queue.proofs.FaultyLines.{handle-from}
 use Rattle.jb_queue.proofs.SpelledText.{SpellsLines, read-says}
 use Rattle.jb_queue.proofs.Weights.{handle-weight, lines-total, total as text_total}
 use Rattle.jb_queue.specs.declared.fault.QueueFault.{QueueFault}
-use Rattle.std.proofs.lemmas.Fmt.{length-decimal-le}
-use Rattle.std.proofs.lemmas.List.Sums.{sum_by-cons}
-use Rattle.std.proofs.lemmas.Result.{MatchResult-at_ok}
-use Rattle.std.specs.FinMap as map_of
-use Rattle.std.specs.List.{AllZip}
 use Rattle.jb_args.specs.declared.hint.Hint.{Hint}
 use Rattle.jb_cost.specs.Cut.{IsCut, IsPrice, RisesTo, piece_cost, price, total, total_from}
 use Rattle.jb_cost.specs.declared.geometry.Geometry.{Geometry}
