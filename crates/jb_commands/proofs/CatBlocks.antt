@@ -1,5 +1,5 @@
 -- Home blocks that are peeked at and written, one after the other, for any disk.
-use Rattle.std.proofs.Common.{◌≡◌, suc, ◌+◌, ◌<◌, ◌≤◌, ℕ, Bool, true, List, [], ◌∷◌, ◌++◌, length, get_or, Option, Some, None, Result, Ok, Err, refl, ap, sym, ◌∙◌, subst, inl, inr, arith, length-append, append_assoc, append-nil}
+use Rattle.std.proofs.Common.{◌≡◌, suc, ◌+◌, ◌<◌, ◌≤◌, ℕ, Bool, true, List, [], ◌∷◌, ◌++◌, length, Option, Some, None, Result, Ok, Err, refl, ap, sym, ◌∙◌, subst, inl, inr, arith, length-append, append_assoc, append-nil}
 use Rattle.std.proofs.Math.Decide.{ℕ_discrete}
 use Rattle.std.proofs.Math.Seq.{get_or-append_seam}
 use Rattle.std.proofs.lemmas.List.{get_or_append_left}
@@ -16,7 +16,7 @@ use Rattle.jb_text.proofs.PartByPart.{part_after}
 use Rattle.jb_recover.specs.Peeks.{IsPeeked, Peeks, PeekFaults, peek_refusal}
 use Rattle.jb_recover.specs.declared.fault.PeekFault.{PeekFault}
 use Rattle.jb_recover.specs.declared.fault.PeekFault.TheVariants as peeking
-use Rattle.jb_commands.specs.Cat.{ArePeeked, block_text, blocks_text, CatFaults, CatsOn, LooksOn, home_at, IsUnpeeked, offset_after, offset_behind, PutsText}
+use Rattle.jb_commands.specs.Cat.{ArePeeked, block_text, blocks_text, CatFaults, CatsOn, LooksOn, home_at, IsUnpeeked, offset_after, offset_behind, PutsText, TellsHomes}
 use Rattle.jb_commands.specs.Lines.{upto}
 use Rattle.jb_commands.specs.Faults.{peek_fault}
 use Rattle.jb_commands.specs.declared.fault.CommandFault.{CommandFault}
@@ -36,15 +36,13 @@ offset-more at (b ∷ blocks) bytes = offset-more (offset_behind at b) blocks by
 
 text-more : (hex : Bool) (at : ℕ) (blocks : List (List ℕ)) (bytes : List ℕ) → blocks_text hex at (blocks ++ bytes ∷ []) ≡ blocks_text hex at blocks ++ block_text hex (offset_after at blocks) bytes
 text-more hex at [] bytes = append-nil (block_text hex at bytes)
-text-more hex at (b ∷ blocks) bytes = ap (λ rest. block_text hex at b ++ rest) (text-more hex (offset_behind at b) blocks bytes) ∙ sym (append_assoc (block_text hex at b) (blocks_text hex (offset_behind at b) blocks) (block_text hex (offset_after (offset_behind at b) blocks) bytes))
+text-more hex at (b ∷ blocks) bytes = rw (text-more hex (offset_behind at b) blocks bytes, append_assoc) refl
 
 peeked-more : (size count : ℕ) (c : Image) (first : ℕ) (blocks : List (List ℕ)) (bytes : List ℕ) → ArePeeked size count c first blocks
     → (peek_refusal size count c (home_at first (length blocks)) ≡ None) × IsPeeked size count c (home_at first (length blocks)) bytes → ArePeeked size count c first (blocks ++ bytes ∷ [])
 peeked-more size count c first blocks bytes before here k within = elim (ℕ_discrete k (length blocks)) [
-  | yes is ↦ subst (λ j. (peek_refusal size count c (home_at first j) ≡ None) × IsPeeked size count c (home_at first j) (get_or (blocks ++ bytes ∷ []) j [])) (sym is)
-      (here.0, subst (IsPeeked size count c (home_at first (length blocks))) (sym (get_or-append_seam blocks bytes [] [])) here.1)
-  | no other ↦ (let len = length-append blocks (bytes ∷ []) in let inside : k < length blocks = omega (arith, len, within, other) in
-      let known = before k inside in (known.0, subst (IsPeeked size count c (home_at first k)) (sym (get_or_append_left blocks (bytes ∷ []) [] k inside)) known.1))
+  | yes is ↦ rw (is, get_or-append_seam blocks bytes [] []) here
+  | no other ↦ (let inside : k < length blocks = omega (arith, length-append blocks (bytes ∷ []), within, other) in rw (get_or_append_left blocks (bytes ∷ []) [] k inside) (before k inside))
 ]
 
 -- a peek that stopped
@@ -105,36 +103,36 @@ module _ {D : Type 0} (G : Disks D) (first : ℕ) (hex : Bool) where
     -- what is known of a peek on the disk as it is now is known of it as it was
     as-before : (P : ℕ → ℕ → Image → Type 0) → (G.honest next → P (G.size now) (G.count now) (G.newest now)) → G.honest next → P (G.size old) (G.count old) (G.newest old)
     as-before P told held =
-        subst (λ s. P s (G.count old) (G.newest old)) state.kept.same_size
-        (subst (λ n. P (G.size now) n (G.newest old)) state.kept.same_count
-        (subst (P (G.size now) (G.count now)) (state.same (kept.was_honest held)) (told held)))
+        rw (← state.kept.same_size, ← state.kept.same_count, ← state.same (kept.was_honest held)) (told held)
+
+    -- it stopped after these blocks
+    stopped : (homes : Option ℕ) (n : ℕ) (out_next : Option (List ℕ)) (end : Result ℕ CommandFault) (blocks : List (List ℕ)) → CatFaults end (G.faults old) (G.faults next)
+        → (G.honest next → ArePeeked (G.size old) (G.count old) (G.newest old) first blocks)
+        → TellsHomes (λ stop. G.honest next → IsUnpeeked (G.size old) (G.count old) (G.newest old) (home_at first (length blocks)) stop) homes hex n
+            (length blocks) (blocks_text hex 0 blocks) out_old out_next end
+        → CatsOn G homes first n hex old next out_old out_next end
+    stopped homes n out_next end blocks counted peeked told =
+        record { blocks = blocks; kept = kept-next (CatFaults end) counted; same = same-next; idle = idle-next; peeked = peeked; told = told }
 
     -- there was no memory for the rows of the block
     cats-starved : G.faults next ≡ G.faults now → (homes : Option ℕ) (n : ℕ) → hex ≡ true → i < n → CatsOn G homes first n hex old next out_old out_now (Err Memory)
-    cats-starved none homes n rows more = record {
-      blocks = state.blocks;
-      kept = kept-next (CatFaults (Err Memory)) (none ∙ state.kept.counted);
-      same = same-next;
-      idle = idle-next;
-      peeked = peeked-still;
-      told = inr (inl (refl, rows, let done = state.done in omega (arith, more, done), state.text));
-    }
+    cats-starved none homes n rows more =
+        stopped homes n out_now (Err Memory) state.blocks (none ∙ state.kept.counted) peeked-still (inr (inl (refl, rows, let done = state.done in omega (arith, more, done), state.text)))
 
     module _ (none : G.faults next ≡ G.faults now) (bytes : List ℕ) (told : G.honest next → (peek_refusal (G.size now) (G.count now) (G.newest now) (home_at first i) ≡ None) × IsPeeked (G.size now) (G.count now) (G.newest now) (home_at first i) bytes) where
       abbrev more : List (List ℕ)
       more = state.blocks ++ bytes ∷ []
 
       one_more : length more ≡ i + 1
-      one_more = let len = length-append state.blocks (bytes ∷ []) in let done = state.done in omega (arith, len, done)
+      one_more = omega (arith, length-append state.blocks (bytes ∷ []), state.done)
 
       peeked-next : G.honest next → ArePeeked (G.size old) (G.count old) (G.newest old) first more
       peeked-next held =
           peeked-more (G.size old) (G.count old) (G.newest old) first state.blocks bytes (peeked-still held)
-          (subst (λ k. (peek_refusal (G.size old) (G.count old) (G.newest old) (home_at first k) ≡ None) × IsPeeked (G.size old) (G.count old) (G.newest old) (home_at first k) bytes) (sym state.done)
-          (as-before (λ s n c. (peek_refusal s n c (home_at first i) ≡ None) × IsPeeked s n c (home_at first i) bytes) told held))
+          (rw state.done (as-before (λ s n c. (peek_refusal s n c (home_at first i) ≡ None) × IsPeeked s n c (home_at first i) bytes) told held))
 
       text-next : blocks_text hex 0 more ≡ blocks_text hex 0 state.blocks ++ block_text hex at bytes
-      text-next = text-more hex 0 state.blocks bytes ∙ ap (λ offset. blocks_text hex 0 state.blocks ++ block_text hex offset bytes) (sym state.offset)
+      text-next = rw state.offset (text-more hex 0 state.blocks bytes)
 
       pub catting-more : (out_next : Option (List ℕ)) (at_next : ℕ) → Appends out_now out_next (block_text hex at bytes) → at_next ≡ offset_behind at bytes → Catting old next out_old out_next (i + 1) at_next
       catting-more out_next at_next written offset = record {
@@ -150,33 +148,25 @@ module _ {D : Type 0} (G : Disks D) (first : ℕ) (hex : Bool) where
 
       -- the block was written in part
       pub cats-cut : (homes : Option ℕ) (n : ℕ) (out_next : Option (List ℕ)) → PutsPart out_now out_next (block_text hex at bytes) → CatsOn G homes first n hex old next out_old out_next (Err WriteFault)
-      cats-cut homes n out_next part = record {
-        blocks = more;
-        kept = kept-next (CatFaults (Err WriteFault)) (none ∙ state.kept.counted);
-        same = same-next;
-        idle = idle-next;
-        peeked = peeked-next;
-        told = inl (refl, subst (PutsPart out_old out_next) (sym text-next) (part_after out_old out_now out_next (blocks_text hex 0 state.blocks) (block_text hex at bytes) state.text part));
-      }
+      cats-cut homes n out_next part =
+          stopped homes n out_next (Err WriteFault) more (none ∙ state.kept.counted) peeked-next
+          (inl (refl, subst (PutsPart out_old out_next) (sym text-next) (part_after out_old out_now out_next (blocks_text hex 0 state.blocks) (block_text hex at bytes) state.text part)))
 
       -- the block was not written whole
       pub cats-stopped : (homes : Option ℕ) (n : ℕ) (out_next : Option (List ℕ)) (fault : CommandFault) (end : Result ℕ CommandFault) → end ≡ Err fault → (fault ≡ Memory → hex ≡ true) → i < n → PutsText (block_text hex at bytes) out_now out_next (Err fault) → CatsOn G homes first n hex old next out_old out_next end
-      cats-stopped homes n out_next WriteFault end is rows more puts = subst (CatsOn G homes first n hex old next out_old out_next) (sym is) (cats-cut homes n out_next puts)
-      cats-stopped homes n out_next Memory end is rows more puts =
+      cats-stopped homes n out_next WriteFault end is rows inside puts = subst (CatsOn G homes first n hex old next out_old out_next) (sym is) (cats-cut homes n out_next puts)
+      cats-stopped homes n out_next Memory end is rows inside puts =
           subst (CatsOn G homes first n hex old next out_old out_next) (sym is)
-          (subst (λ o. CatsOn G homes first n hex old next out_old o (Err Memory)) (sym puts) (cats-starved none homes n (rows refl) more))
-      cats-stopped homes n out_next _ end is rows more puts = absurd puts
+          (subst (λ o. CatsOn G homes first n hex old next out_old o (Err Memory)) (sym puts) (cats-starved none homes n (rows refl) inside))
+      cats-stopped homes n out_next _ end is rows inside puts = absurd puts
 
     -- the peek was refused
     pub cats-refused : (homes : Option ℕ) (n : ℕ) (stop : PeekFault) → PeekFaults {T = Unit} (Err stop) (G.faults now) (G.faults next) → i < n → (G.honest next → IsUnpeeked (G.size now) (G.count now) (G.newest now) (home_at first i) stop) → CatsOn G homes first n hex old next out_old out_now (Err (peek_fault homes stop))
-    cats-refused homes n stop counted more told = record {
-      blocks = state.blocks;
-      kept = kept-next (CatFaults (Err (peek_fault homes stop))) (peek-counted homes stop (G.faults old) (G.faults now) (G.faults next) state.kept.counted counted);
-      same = same-next;
-      idle = idle-next;
-      peeked = peeked-still;
-      told = inr (inr (stop, refl, let done = state.done in omega (arith, more, done), λ held. subst (λ k. IsUnpeeked (G.size old) (G.count old) (G.newest old) (home_at first k) stop) (sym state.done) (as-before (λ s c b. IsUnpeeked s c b (home_at first i) stop) told held), state.text));
-    }
+    cats-refused homes n stop counted more told =
+        let faults = peek-counted homes stop (G.faults old) (G.faults now) (G.faults next) state.kept.counted counted in
+        let unpeeked = λ (held : G.honest next).
+            subst (λ k. IsUnpeeked (G.size old) (G.count old) (G.newest old) (home_at first k) stop) (sym state.done) (as-before (λ s c b. IsUnpeeked s c b (home_at first i) stop) told held) in
+        stopped homes n out_now (Err (peek_fault homes stop)) state.blocks faults peeked-still (inr (inr (stop, refl, let done = state.done in omega (arith, more, done), unpeeked, state.text)))
 
 -- ---- no block is asked for
 
@@ -205,15 +195,3 @@ module _ {D : Type 0} (G : Disks D) (homes : Option ℕ) (home : ℕ) (old new :
 -- one more text
 pub upto-more : (text : ℕ → List ℕ) (n : ℕ) → upto text (n + 1) ≡ upto text n ++ text n
 upto-more text n = let is : n + 1 ≡ suc n = omega arith in ap (upto text) is
-
--- texts one after the other
-grows : (old a b x y : List ℕ) → x ≡ old ++ a → y ≡ x ++ b → y ≡ old ++ (a ++ b)
-grows old a b x y first more = more ∙ ap (λ front. front ++ b) first ∙ append_assoc old a b
-
-pub six_texts : (old a b p d s e t1 t2 t3 t4 t5 t6 : List ℕ) → t1 ≡ old ++ a → t2 ≡ t1 ++ b → t3 ≡ t2 ++ p → t4 ≡ t3 ++ d → t5 ≡ t4 ++ s → t6 ≡ t5 ++ e → t6 ≡ old ++ (((((a ++ b) ++ p) ++ d) ++ s) ++ e)
-six_texts old a b p d s e t1 t2 t3 t4 t5 t6 e1 e2 e3 e4 e5 e6 =
-    let two : t2 ≡ old ++ (a ++ b) = grows old a b t1 t2 e1 e2 in
-    let three : t3 ≡ old ++ ((a ++ b) ++ p) = grows old (a ++ b) p t2 t3 two e3 in
-    let four : t4 ≡ old ++ (((a ++ b) ++ p) ++ d) = grows old ((a ++ b) ++ p) d t3 t4 three e4 in
-    let five : t5 ≡ old ++ ((((a ++ b) ++ p) ++ d) ++ s) = grows old (((a ++ b) ++ p) ++ d) s t4 t5 four e5 in
-    grows old ((((a ++ b) ++ p) ++ d) ++ s) e t5 t6 five e6

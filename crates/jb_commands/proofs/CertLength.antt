@@ -1,27 +1,50 @@
 -- How long the text of a best certificate is: at most nine times as long as that of its queue.
-use Rattle.std.proofs.Common.{◌≡◌, ℕ, suc, take, ◌+◌, ◌*◌, ◌<◌, ◌≤◌, List, [], ◌∷◌, ◌++◌, length, map, refl, sym, ap, arith, Option, option_map, Some, None, Result, Ok, Err, codes, decimal, length-append}
+use Rattle.std.proofs.Common.{◌≡◌, ℕ, ◌+◌, ◌*◌, ◌≤◌, List, [], ◌∷◌, ◌++◌, length, refl, ap, arith, Option, option_map, Some, None, Result, Ok, Err, codes, decimal, length-append, suc, take, ◌<◌, map, sym}
 use Rattle.std.proofs.lemmas.Fmt.{length-decimal-le}
-use Rattle.jb_args.specs.declared.hint.Hint.{Hint}
-use Rattle.jb_text.specs.Parts.{spaced}
+use Rattle.std.proofs.lemmas.List.Sums.{sum_by-cons}
+use Rattle.std.proofs.lemmas.Result.{MatchResult-at_ok}
+use Rattle.std.specs.FinMap as map_of
+use Rattle.std.specs.List.{AllZip}
+use Rattle.jb_block.specs.Size.{bytes_of}
+use Rattle.jb_text.specs.Parts.{lines, spaced}
 use Rattle.jb_handle.specs.Size.{weight}
 use Rattle.jb_handle.specs.declared.stopped.Stopped.{Stopped}
+use Rattle.jb_queue.specs.Queue.{Queue, queue_of}
+use Rattle.jb_queue.specs.Grammar.{SpellsHandle}
+use Rattle.jb_queue.proofs.FaultyLines.{handle-from}
+use Rattle.jb_queue.proofs.SpelledText.{SpellsLines, read-says}
+use Rattle.jb_queue.proofs.Weights.{handle-weight, lines-total, total as text_total}
+use Rattle.jb_queue.specs.declared.fault.QueueFault.{QueueFault}
+use Rattle.jb_args.specs.declared.hint.Hint.{Hint}
 use Rattle.jb_cost.specs.Cut.{IsCut, IsPrice, RisesTo, piece_cost, price, total, total_from}
 use Rattle.jb_cost.specs.declared.geometry.Geometry.{Geometry}
 use Rattle.jb_cost.proofs.Cuts.{rises-le}
 use Rattle.jb_cost.proofs.HandleInFront.{few}
 use Rattle.jb_cost.proofs.PieceCosts.{piece-within, weight-take}
-use Rattle.jb_queue.specs.Queue.{Queue, queue_of}
 use Rattle.jb_price.specs.Certificate.{answer_lines, cert_text, price_text, prices_line}
 use Rattle.jb_price.specs.Verdict.{IsRight}
 use Rattle.jb_price.specs.declared.certificate.Cert.{Cert}
 use Rattle.jb_price.specs.declared.certificate.CertAnswer.{CertAnswer}
 use Rattle.jb_price.specs.declared.certificate.CertAnswer.TheVariants.{Cut, NoCut}
-use Rattle.jb_queue.specs.declared.fault.QueueFault.{QueueFault}
 use Rattle.jb_commands.specs.QueueFaults.{cause_told, fault_line, queue_fault}
 use Rattle.jb_commands.specs.Limits.{PlansAreReadable, PlansAreWithin}
 use Rattle.jb_commands.specs.Plan.{IsBestCert, IsBestCertOf, SaysPlan}
 use Rattle.jb_commands.specs.AnswerSaid.{Said}
-use Rattle.jb_commands.proofs.QueueWeight.{queue-light}
+
+-- handles weigh at most half as much as their lines are long
+handles-light : (size : ℕ) (left : List (List ℕ)) (handles : List Stopped) → AllZip (λ line handle. SpellsHandle size line handle.words) left handles → 2 * weight handles ≤ text_total left
+handles-light size [] [] each = omega arith
+handles-light size (line ∷ more) (h ∷ hs) each =
+    let sums : weight (h ∷ hs) ≡ map_of.len h.words + 1 + weight hs = sum_by-cons (λ (h : Stopped). map_of.len h.words + 1) h hs in
+    omega (arith, sums, handle-weight size line h.words (handle-from size line h.words each.0), handles-light size more hs each.1)
+handles-light size left handles each = absurd each
+
+-- twice a queue's weight, and ten bytes, are within its text
+queue-light : (text : List ℕ) (queue : Queue) → queue_of text ≡ Ok queue → 2 * weight queue.handles + 10 ≤ length text
+queue-light text queue reads =
+    let says : SpellsLines (lines text) queue = MatchResult-at_ok _ _ queue reads (read-says (lines text)) in
+    let all = simp length-append at (ap text_total says.parts) in
+    omega (arith, all, lines-total text, handles-light (bytes_of queue.size) says.more queue.handles says.each)
 
 -- a number below 10^8 has at most 8 digits
 digits : (k : ℕ) → k < 100000000 → length (decimal k) ≤ 8
@@ -33,8 +56,7 @@ numbers-long n a [] small rises = omega (arith, rises)
 numbers-long n a (b ∷ bs) small rises =
     let rest = numbers-long n b bs small rises.1 in
     let here = digits b (omega (arith, small, rises-le n b bs rises.1)) in
-    let parts = length-append (decimal b) (spaced (map decimal bs)) in
-    omega (arith, rest, here, parts, rises.0)
+    simp length-append (omega (arith, rest, here, rises.0))
 
 -- prices with a space before each
 prices-long : (ps : List (Option ℕ)) → ((i : ℕ) → i < length ps → length (price_text (price ps i)) ≤ 8) → length (spaced (map price_text ps)) ≤ 9 * length ps
@@ -42,8 +64,7 @@ prices-long [] each = omega arith
 prices-long (p ∷ ps) each =
     let rest = prices-long ps (λ i below. each (suc i) (omega arith)) in
     let here = each 0 (omega arith) in
-    let parts = length-append (price_text p) (spaced (map price_text ps)) in
-    omega (arith, rest, here, parts)
+    simp length-append (omega (arith, rest, here))
 
 module _ (g : Geometry) (hs : List Stopped) where
   -- the groups of a cut cost at most twice what their handles weigh
@@ -72,9 +93,7 @@ module _ (g : Geometry) (hs : List Stopped) where
     line-long : length (prices_line cert.prices.items) ≤ 9 * length hs + 16
     line-long =
         let each = prices-long cert.prices.items (λ i below. price-long (price cert.prices.items i) i (omega (arith, below, best.prices.number)) (best.prices.each i (omega (arith, below, best.prices.number)))) in
-        let parts = length-append (codes "prices") (spaced (map price_text cert.prices.items) ++ codes "\n") in
-        let last = length-append (spaced (map price_text cert.prices.items)) (codes "\n") in
-        omega (arith, each, parts, last, best.prices.number)
+        simp length-append (omega (arith, each, best.prices.number))
 
     sum-light : (bounds : List ℕ) (sum : ℕ) → IsCut (length hs) bounds → total (piece_cost g hs) bounds ≡ sum → sum ≤ 2 * weight hs
     sum-light [] sum cut is = absurd cut
@@ -87,12 +106,7 @@ module _ (g : Geometry) (hs : List Stopped) where
     cut-long (a ∷ bs) sum cut short =
         let rest = numbers-long (length hs) a bs few-enough cut.1 in
         let here = digits a (omega (arith, few-enough, rises-le (length hs) a bs cut.1)) in
-        let parts = length-append (decimal a) (spaced (map decimal bs)) in
-        let one = length-append (codes "cut") (spaced (map decimal (a ∷ bs)) ++ (codes "\ntotal " ++ (decimal sum ++ codes "\n"))) in
-        let two = length-append (spaced (map decimal (a ∷ bs))) (codes "\ntotal " ++ (decimal sum ++ codes "\n")) in
-        let three = length-append (codes "\ntotal ") (decimal sum ++ codes "\n") in
-        let four = length-append (decimal sum) (codes "\n") in
-        omega (arith, rest, here, parts, one, two, three, four, short, cut.0)
+        simp length-append (omega (arith, rest, here, short, cut.0))
 
     answer-long : (answer : CertAnswer) → IsRight (piece_cost g hs) limit (length hs) answer → length (answer_lines answer) ≤ 9 * length hs + 28
     answer-long NoCut right = omega arith

@@ -99,15 +99,10 @@ writes-insert (e ∷ es) home v h =
 -- ---- copies that are counted
 
 more-same : (done : List ℕ) (home : ℕ) → copies_to (done ++ home ∷ []) home ≡ copies_to done home + 1
-more-same done home =
-    sum_by_push (λ x. cond (nat_eq x home) 1 0) done home ∙ ap (λ test. copies_to done home + cond test 1 0) (eq-eqb home home refl)
+more-same done home = rw (sum_by_push (λ x. cond (nat_eq x home) 1 0) done home, eq-eqb home home refl) refl
 
 more-other : (done : List ℕ) (home k : ℕ) → k ≢ home → copies_to (done ++ home ∷ []) k ≡ copies_to done k
-more-other done home k other =
-    let none : copies_to done k + 0 ≡ copies_to done k = omega arith in
-    sum_by_push (λ x. cond (nat_eq x k) 1 0) done home
-    ∙ ap (λ test. copies_to done k + cond test 1 0) (ne_eqb home k (λ same. other (sym same)))
-    ∙ none
+more-other done home k other = rw (sum_by_push (λ x. cond (nat_eq x k) 1 0) done home, ne_eqb home k (λ same. other (sym same))) (omega arith)
 
 -- the rows say of each home how many of these copies it has
 abbrev Says : List ℕ → List ℕ → Type 0
@@ -126,17 +121,13 @@ module _ (done ks : List ℕ) (home : ℕ) (up : From 0 ks) (says : Says done ks
   said-by h (inr other) = rw (ne_eqb h home other) (says h ∙ sym (more-other done home h other))
 
   says-more : Says (done ++ home ∷ []) (home_among home ks)
-  says-more h =
-      ap (λ rows. writes_of rows h) (sym one-more)
-      ∙ writes-insert (rows_by (copies_to done) ks) home (was home + 1) h
-      ∙ said-by h (cases_eq h home)
+  says-more h = rw (← one-more, writes-insert (rows_by (copies_to done) ks) home (was home + 1) h) (said-by h (cases_eq h home))
 
 counted : (done ks homes : List ℕ) → From 0 ks → Says done ks → counted_up (rows_by (copies_to done) ks) homes ≡ rows_by (copies_to (done ++ homes)) (homes_among ks homes)
 counted done ks [] up says = ap (λ all. rows_by (copies_to all) ks) (sym (append-nil done))
 counted done ks (home ∷ homes) up says =
-    ap (λ rows. counted_up rows homes) (one-more done ks home up says)
-    ∙ counted (done ++ home ∷ []) (home_among home ks) homes (from-among 0 home ks (omega arith) up) (says-more done ks home up says)
-    ∙ ap (λ all. rows_by (copies_to all) (homes_among (home_among home ks) homes)) (append_assoc done (home ∷ []) homes)
+    rw (one-more done ks home up says, ← append_assoc done (home ∷ []) homes)
+    (counted (done ++ home ∷ []) (home_among home ks) homes (from-among 0 home ks (omega arith) up) (says-more done ks home up says))
 
 pub rows-written : (homes : List ℕ) → counted_up [] homes ≡ written_rows homes
 rows-written homes = counted [] [] homes tt (λ h. refl)

@@ -1,8 +1,8 @@
-use Rattle.std.proofs.Common.{◌≡◌}
+use Rattle.std.proofs.Common.{◌≡◌, refl}
 use Rattle.jb_queue.specs.QueueText.{value_of}
 use Rattle.jb_commands.specs.Check.{SaysCheck, verdict_text}
 use Rattle.jb_commands.specs.AnswerSaid.{said}
-use Rattle.jb_commands.proofs.Verdicts.{if_ok_then, says_of_claim}
+use Rattle.jb_commands.proofs.Verdicts.{if_ok_then}
 use Rattle.jb_commands.proofs.check.check_answer.Goals as goal
 
 pub returns-in_ok-verdict-in-Ok : goal.returns-in_ok-verdict-in-Ok
@@ -13,5 +13,5 @@ returns-in_ok-verdict-in-Ok c =
     record {
       said = if_ok_then (λ answer. said answer ≡ verdict_text verdict) (λ answer. SaysCheck queue c.args.claim.now (said answer))
           c.verdict_told.result c.verdict_told.ensures.said
-          (λ answer told. says_of_claim queue c.args.claim.now c.in-Ok.cert verdict (said answer) read c.in_ok-verdict-in-Ok.ensures told);
+          (λ answer told. rw read (c.in-Ok.cert, verdict, refl, c.in_ok-verdict-in-Ok.ensures, told));
     }

@@ -1,10 +1,11 @@
 use Rattle.std.proofs.Common.{◌≡◌, [], Some, arith}
+use Rattle.jb_queue.specs.Queue.{queue_of}
 use Rattle.jb_queue.specs.QueueText.{value_of}
 use Rattle.jb_commands.specs.AnswerSaid.{said}
 use Rattle.jb_commands.specs.Check.{CheckSays, SaysCheck}
 use Rattle.jb_commands.specs.QueueFaults.{queue_fault}
 use Rattle.jb_commands.proofs.CommandEnds.{ends_of_claim, ends_of_more}
-use Rattle.jb_commands.proofs.Verdicts.{if_ok_then, says_of_fault, says_of_queue}
+use Rattle.jb_commands.proofs.Verdicts.{if_ok_then, named_by}
 use Rattle.jb_commands.proofs.running.check_texts.Goals as goal
 
 pub returns-in-Ok : goal.returns-in-Ok
@@ -12,10 +13,8 @@ returns-in-Ok g c =
     let text = c.args.text.now in
     let queue = value_of c.in-Ok.queue in
     record {
-      ends = ends_of_more (SaysCheck queue) (CheckSays text) c.args.cert.now
-          (record { out = g.O.Write.contents c.args.out.now; err = g.E.Write.contents c.args.err.now })
-          (record { out = g.O.Write.contents c.check_file.new.out; err = g.E.Write.contents c.check_file.new.err })
-          c.check_file.result (λ claim words says. says_of_queue text claim queue words c.in-Ok.ensures.ok says) c.check_file.ensures.ends;
+      ends = ends_of_more (SaysCheck queue) (CheckSays text) c.args.cert.now _ _ c.check_file.result
+          (λ claim words says. rw c.in-Ok.ensures.ok says) c.check_file.ensures.ends;
     }
 
 pub returns-in-Err : goal.returns-in-Err
@@ -23,11 +22,8 @@ returns-in-Err g c =
     let text = c.args.text.now in
     let fault = c.in-Err.fault in
     record {
-      ends = ends_of_claim (CheckSays text) c.args.cert.now []
-          (record { out = g.O.Write.contents c.args.out.now; err = g.E.Write.contents c.args.err.now })
-          (record { out = g.O.Write.contents c.told.new.out; err = g.E.Write.contents c.told.new.err })
-          c.fault_answer.result c.told.result (tt, omega arith)
+      ends = ends_of_claim (CheckSays text) c.args.cert.now [] _ _ c.fault_answer.result c.told.result (tt, omega arith)
           (if_ok_then (λ answer. queue_fault fault ≡ Some (said answer)) (λ answer. CheckSays text [] (said answer)) c.fault_answer.result c.fault_answer.ensures.said
-          (λ answer told. says_of_fault text [] fault (said answer) c.in-Err.ensures.err told))
+          (λ answer told. rw (named_by (queue_of text) fault.line fault.cause (said answer) c.in-Err.ensures.err told) told))
           c.told.ensures.tells c.told.ensures.none;
     }

@@ -4,7 +4,5 @@ use Rattle.jb_commands.proofs.running.perform_plan.Goals as goal
 
 pub returns-in-Ok-clause-ends : goal.returns-in-Ok-clause-ends
 returns-in-Ok-clause-ends g c =
-    ends_of_answer PlanSays c.args.file.now (g.I.Read.remaining c.args.input.now) c.in-Ok.text.items
-    (record { out = g.O.Write.contents c.args.out.now; err = g.E.Write.contents c.args.err.now })
-    (record { out = g.O.Write.contents c.told.new.out; err = g.E.Write.contents c.told.new.err })
+    ends_of_answer PlanSays c.args.file.now (g.I.Read.remaining c.args.input.now) c.in-Ok.text.items _ _
     c.plan_answer.result c.told.result c.in-Ok.ensures.text (rw c.as_slice.ensures.value at c.plan_answer.ensures.said) c.told.ensures.tells c.told.ensures.none

@@ -1,6 +1,5 @@
-use Rattle.std.proofs.Common.{rules, sym, ◌≡◌, ◌+◌, ◌%◌, ◌^◌, length, None, Err, refl, subst}
-use Rattle.jb_recover.specs.Peeks.{IsPeeked, peek_refusal}
-use Rattle.jb_commands.specs.Cat.{CatsOn, IsUnpeeked}
+use Rattle.std.proofs.Common.{rules, ◌≡◌, ◌+◌, ◌%◌, ◌^◌, length, Err, refl, subst}
+use Rattle.jb_commands.specs.Cat.{IsUnpeeked}
 use Rattle.jb_commands.proofs.CatBlocks.{catting-start, catting-more, cats-refused, cats-stopped, unpeeked-by}
 use Rattle.jb_commands.proofs.streams.catting.cat_on.Goals as goal
 
@@ -12,25 +11,21 @@ loop-i-init g c = record {
 pub returns-in_err-put_block : goal.returns-in_err-put_block
 returns-in_err-put_block g c =
     let disk = c.loop-i.disk in
-    let size = g.D.Disk.size disk in
-    let count = g.D.Disk.count disk in
-    let image = g.D.Disk.newest disk in
     let fails : c.from_residual.result ≡ Err c.in_err-put_block.field-0.0 = search rules in
     record {
-      cats = cats-stopped g.D.Disk c.args.home c.args.hex c.args.disk.now disk c.peek.new.disk (g.O.Write.contents c.args.out.now) (g.O.Write.contents c.loop-i.out) c.loop-i.i c.loop-i.at c.loop-i.invariant.state c.in-Ok.ensures.kept c.in-Ok.ensures.newest c.in-Ok.ensures.idle (λ t d held earlier left. g.met.D.Disk.counts_now c.args.disk.now t d held earlier left) c.in-Ok.ensures.kept.counted c.peek.new.bytes
-          (λ honest. subst (λ h. (peek_refusal size count image h ≡ None) × IsPeeked size count image h c.peek.new.bytes) c.saturating_add.ensures (c.in-Ok.ensures.peeks honest))
+      cats = cats-stopped g.D.Disk c.args.home c.args.hex c.args.disk.now disk c.peek.new.disk (g.O.Write.contents c.args.out.now) (g.O.Write.contents c.loop-i.out) c.loop-i.i
+          c.loop-i.at c.loop-i.invariant.state c.in-Ok.ensures.kept c.in-Ok.ensures.newest c.in-Ok.ensures.idle (g.met.D.Disk.counts_now c.args.disk.now) c.in-Ok.ensures.kept.counted c.peek.new.bytes
+          (λ honest. rw c.saturating_add.ensures at (c.in-Ok.ensures.peeks honest))
           c.args.homes c.args.count (g.O.Write.contents c.put_block.new.out) c.in_err-put_block.field-0.0 c.from_residual.result fails c.in_err-put_block.ensures.memory c.loop-i-test.true c.in_err-put_block.ensures.puts;
     }
 
 pub loop-i-preserved : goal.loop-i-preserved
 loop-i-preserved g c =
     let disk = c.loop-i.disk in
-    let size = g.D.Disk.size disk in
-    let count = g.D.Disk.count disk in
-    let image = g.D.Disk.newest disk in
     record {
-      state = catting-more g.D.Disk c.args.home c.args.hex c.args.disk.now disk c.peek.new.disk (g.O.Write.contents c.args.out.now) (g.O.Write.contents c.loop-i.out) c.loop-i.i c.loop-i.at c.loop-i.invariant.state c.in-Ok.ensures.kept c.in-Ok.ensures.newest c.in-Ok.ensures.idle (λ t d held earlier left. g.met.D.Disk.counts_now c.args.disk.now t d held earlier left) c.in-Ok.ensures.kept.counted c.peek.new.bytes
-          (λ honest. subst (λ h. (peek_refusal size count image h ≡ None) × IsPeeked size count image h c.peek.new.bytes) c.saturating_add.ensures (c.in-Ok.ensures.peeks honest))
+      state = catting-more g.D.Disk c.args.home c.args.hex c.args.disk.now disk c.peek.new.disk (g.O.Write.contents c.args.out.now) (g.O.Write.contents c.loop-i.out) c.loop-i.i
+          c.loop-i.at c.loop-i.invariant.state c.in-Ok.ensures.kept c.in-Ok.ensures.newest c.in-Ok.ensures.idle (g.met.D.Disk.counts_now c.args.disk.now) c.in-Ok.ensures.kept.counted c.peek.new.bytes
+          (λ honest. rw c.saturating_add.ensures at (c.in-Ok.ensures.peeks honest))
           (g.O.Write.contents c.put_block.new.out) ((c.loop-i.at + length c.peek.new.bytes) % 2 ^ 32) c.in_ok-put_block.ensures.puts refl;
     }
 
@@ -41,8 +36,9 @@ returns-in-Err g c =
     let count = g.D.Disk.count disk in
     let image = g.D.Disk.newest disk in
     record {
-      cats = subst (λ e. CatsOn g.D.Disk c.args.homes c.args.home c.args.count c.args.hex c.args.disk.now c.peek.new.disk (g.O.Write.contents c.args.out.now) (g.O.Write.contents c.loop-i.out) (Err e)) (sym c.of_peek.ensures.value)
-          (cats-refused g.D.Disk c.args.home c.args.hex c.args.disk.now disk c.peek.new.disk (g.O.Write.contents c.args.out.now) (g.O.Write.contents c.loop-i.out) c.loop-i.i c.loop-i.at c.loop-i.invariant.state c.in-Err.ensures.kept c.in-Err.ensures.newest c.in-Err.ensures.idle (λ t d held earlier left. g.met.D.Disk.counts_now c.args.disk.now t d held earlier left)
+      cats = rw c.of_peek.ensures.value (
+          cats-refused g.D.Disk c.args.home c.args.hex c.args.disk.now disk c.peek.new.disk (g.O.Write.contents c.args.out.now) (g.O.Write.contents c.loop-i.out)
+          c.loop-i.i c.loop-i.at c.loop-i.invariant.state c.in-Err.ensures.kept c.in-Err.ensures.newest c.in-Err.ensures.idle (g.met.D.Disk.counts_now c.args.disk.now)
           c.args.homes c.args.count c.in-Err.fault c.in-Err.ensures.kept.counted c.loop-i-test.true
           (λ honest. subst (λ h. IsUnpeeked size count image h c.in-Err.fault) c.saturating_add.ensures (unpeeked-by size count image _ _ _ c.in-Err.fault (c.in-Err.ensures.peeks honest))));
     }

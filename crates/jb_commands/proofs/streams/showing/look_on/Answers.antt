@@ -1,5 +1,3 @@
-use Rattle.std.proofs.Common.{sym, Err, subst}
-use Rattle.jb_commands.specs.Cat.{LooksOn}
 use Rattle.jb_commands.proofs.CatBlocks.{looks-refused, looks-well, unpeeked-by}
 use Rattle.jb_commands.proofs.streams.showing.look_on.Goals as goal
 
@@ -12,7 +10,6 @@ pub returns-in-Err : goal.returns-in-Err
 returns-in-Err g c =
     let disk = c.args.disk.now in
     record {
-      looks = subst (λ e. LooksOn g.D.Disk c.args.homes c.args.home disk c.peek.new.disk (Err e)) (sym c.of_peek.ensures.value)
-          (looks-refused g.D.Disk c.args.homes c.args.home disk c.peek.new.disk c.in-Err.ensures.newest c.in-Err.ensures.idle c.in-Err.fault c.in-Err.ensures.kept
+      looks = rw c.of_peek.ensures.value (looks-refused g.D.Disk c.args.homes c.args.home disk c.peek.new.disk c.in-Err.ensures.newest c.in-Err.ensures.idle c.in-Err.fault c.in-Err.ensures.kept
           (λ honest. unpeeked-by (g.D.Disk.size disk) (g.D.Disk.count disk) (g.D.Disk.newest disk) c.args.home _ _ c.in-Err.fault (c.in-Err.ensures.peeks honest)));
     }
