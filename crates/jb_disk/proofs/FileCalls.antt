@@ -34,28 +34,23 @@ module _ (size count : ℕ) (content : ℕ → Image) (older events : List Event
   tears at true bytes shapes makes = λ place n here long. torn_of_wrote count size n place bytes old new (shapes (length older)) (shapes (length events)) (makes place n here long)
   tears at false bytes shapes makes = makes
 
-  pub found_run : (place n at : ℕ) (ok : Bool) (bytes : List ℕ) (r : Result Unit Fault) → is_ok r ≡ ok → at ≡ place * size → length bytes ≡ size * n
-      → events ≡ read at ok bytes ∷ older → IsHonestFile size count content events → OnOk r (ReadsRun size n place old bytes)
-  found_run place n at ok bytes r is here long are honest = on_ok (ReadsRun size n place old bytes) r ok is
-      (λ yes. (rw yes at (made 0 at ok bytes are honest)).1 place n here long)
+  -- a call at a place
+  module _ (place at : ℕ) (ok : Bool) (bytes : List ℕ) (here : at ≡ place * size) (honest : IsHonestFile size count content events) where
+    pub found_run : (n : ℕ) (r : Result Unit Fault) → is_ok r ≡ ok → length bytes ≡ size * n → events ≡ read at ok bytes ∷ older → OnOk r (ReadsRun size n place old bytes)
+    found_run n r is long are = on_ok (ReadsRun size n place old bytes) r ok is (λ yes. (rw yes at (made 0 at ok bytes are honest)).1 place n here long)
 
-  pub found_block : (place at : ℕ) (ok : Bool) (bytes : List ℕ) (r : Result Unit Fault) → is_ok r ≡ ok → at ≡ place * size → length bytes ≡ size
-      → events ≡ read at ok bytes ∷ older → IsHonestFile size count content events → OnOk r (bytes ≡ block old place)
-  found_block place at ok bytes r is here long are honest =
-      on_ok_weaker r (read_one size place old bytes long) (found_run place 1 at ok bytes r is here (omega (arith, long)) are honest)
+    pub found_block : (r : Result Unit Fault) → is_ok r ≡ ok → length bytes ≡ size → events ≡ read at ok bytes ∷ older → OnOk r (bytes ≡ block old place)
+    found_block r is long are = on_ok_weaker r (read_one size place old bytes long) (found_run 1 r is (omega (arith, long)) are)
 
-  pub written_block : (place at : ℕ) (ok : Bool) (bytes : List ℕ) (r : Result Unit Fault) → is_ok r ≡ ok → at ≡ place * size → length bytes ≡ size → place < count
-      → events ≡ write_event at ok bytes ∷ older → IsHonestFile size count content events → OnOk r (new ≡ set old place bytes)
-  written_block place at ok bytes r is here long inside are honest = on_ok (new ≡ set old place bytes) r ok is
-      (λ yes. wrote_one size place bytes old new long (omega (arith, inside, (honest.0 (length older)).blocks)) ((rw yes at (made 1 at ok bytes are honest)) place 1 here (omega (arith, long))))
+    pub written_block : (r : Result Unit Fault) → is_ok r ≡ ok → length bytes ≡ size → place < count → events ≡ write_event at ok bytes ∷ older → OnOk r (new ≡ set old place bytes)
+    written_block r is long inside are = on_ok (new ≡ set old place bytes) r ok is
+        (λ yes. wrote_one size place bytes old new long (omega (arith, inside, (honest.0 (length older)).blocks)) ((rw yes at (made 1 at ok bytes are honest)) place 1 here (omega (arith, long))))
 
-  pub torn_file : (place n at : ℕ) (ok : Bool) (bytes : List ℕ) → at ≡ place * size → length bytes ≡ size * n → events ≡ write_event at ok bytes ∷ older
-      → IsHonestFile size count content events → TornRun size n place bytes old new
-  torn_file place n at ok bytes here long are honest = tears at ok bytes honest.0 (made 1 at ok bytes are honest) place n here long
+    pub torn_file : (n : ℕ) → length bytes ≡ size * n → events ≡ write_event at ok bytes ∷ older → TornRun size n place bytes old new
+    torn_file n long are = tears at ok bytes honest.0 (made 1 at ok bytes are honest) place n here long
 
-  pub torn_block : (place at : ℕ) (ok : Bool) (bytes : List ℕ) → at ≡ place * size → length bytes ≡ size → events ≡ write_event at ok bytes ∷ older
-      → IsHonestFile size count content events → Torn place bytes old new
-  torn_block place at ok bytes here long are honest = torn_one size place bytes old new long (torn_file place 1 at ok bytes here (omega (arith, long)) are honest)
+    pub torn_block : length bytes ≡ size → events ≡ write_event at ok bytes ∷ older → Torn place bytes old new
+    torn_block long are = torn_one size place bytes old new long (torn_file 1 (omega (arith, long)) are)
 
   -- what a sync leaves could be left before it
   comes_synced : (ok : Bool) (before : Image → Type 0) (c : Image) → before old → LeftBy size 2 0 ok [] old before c → (d : Image) × before d × (c ≡ d)

@@ -1,7 +1,7 @@
 -- A call of a file that is noted: what it means for one block, and for what a crash may leave.
-use Rattle.std.proofs.Common.{◌≡◌, ◌≢◌, ◌<◌, ◌⊎◌, ℕ, ◌+◌, ◌*◌, List, [], ◌∷◌, length, take, drop, set, sym, ◌∙◌, subst, inl, inr, ⊎_elim, ap, add-zero, arith, length-set, get_or-set_same, get_or-set_other, ext_get_or, take_all}
+use Rattle.std.proofs.Common.{◌≡◌, ◌≢◌, ◌<◌, ℕ, ◌*◌, List, [], ◌∷◌, length, take, drop, set, sym, ◌∙◌, inl, inr, ⊎_elim, ap, add-zero, arith, length-set, get_or-set_same, get_or-set_other, ext_get_or, take_all}
 use Rattle.std.proofs.Math.Decide.{ℕ_discrete}
-use Rattle.jb_disk.specs.Image.{Image, block, sector, Torn}
+use Rattle.jb_disk.specs.Image.{Image, block, Torn}
 use Rattle.jb_disk.specs.Runs.{IsOutside, ReadsRun, WroteRun, TornRun, part}
 use Rattle.jb_disk.specs.Time.{Goes}
 use Rattle.jb_disk.specs.Events.{Event, LeftBy, Leaves, LeftFrom}
@@ -27,9 +27,7 @@ torn_one size place bytes old new long torn = record {
   count = torn.count;
   elsewhere = λ p other. torn.elsewhere p (others place p other);
   size = torn.sizes place;
-  sectors = λ k. subst (λ q. (sector k (block new q) ≡ sector k (block old q)) ⊎ (sector k (block new q) ≡ sector k bytes)) (add-zero place)
-      (subst (λ b. (sector k (block new (place + 0)) ≡ sector k (block old (place + 0))) ⊎ (sector k (block new (place + 0)) ≡ sector k b)) (part_one size bytes long)
-      (torn.sectors 0 k (omega arith)));
+  sectors = λ k. rw (add-zero place, part_one size bytes long) at (torn.sectors 0 k (omega arith));
 }
 
 -- one that is written is a block that is set

@@ -2,7 +2,7 @@
 use Rattle.std.proofs.Common.{◌≡◌, ◌<◌, ℕ, ◌+◌, List, [], ◌∷◌, ◌++◌, length, get_or, set, take, drop, cond, refl, sym, ◌∙◌, ap, subst, arith, Vec, Global, Bor, get_or-set_same, get_or-set_other, length-set, eq-eqb, ne_eqb}
 use Rattle.std.proofs.lemmas.List.{length-map, get_or-map, map-set, map-append}
 use Rattle.std.proofs.Math.Decide.{ℕ_discrete}
-use Rattle.jb_disk.specs.Calls.{history_step, steps_of}
+use Rattle.jb_disk.specs.Calls.{steps_of}
 use Rattle.jb_disk.specs.History.{HistoryStep, Wrote, Synced}
 use Rattle.jb_disk.specs.CrashWrites.{bytes_of_writes, table_of, writes_at, AreWrites}
 use Rattle.jb_disk.specs.Versions.{written}
@@ -47,4 +47,4 @@ writes-older (Synced ∷ newer) older are = absurd are
 pub no_sync : (calls : List Call) (i : ℕ) (call : Call) → AreWrites (steps_of calls) → i < length calls → call ≡ get_or calls i call → call ≡ Sync → ⊥
 no_sync calls i call are inside is sync =
     let part : AreWrites (steps_of (take (i + 1) calls)) = writes-older (steps_of (drop (i + 1) calls)) (steps_of (take (i + 1) calls)) (subst AreWrites (steps_of-split calls (i + 1)) are) in
-    subst AreWrites (steps_of-more calls i call inside is ∙ ap (λ c. history_step c ∷ steps_of (take i calls)) sync) part
+    subst AreWrites (steps_of-more calls i inside is sync) part

@@ -8,7 +8,7 @@ use Rattle.jb_disk.proofs.MemoryBuffers.{buffers_count}
 use Rattle.jb_disk.proofs.ImageVersions.{written_back}
 use Rattle.jb_disk.proofs.CrashImage.{rest_of_calls, whole_sectors, written_whole, chosen_by_history}
 use Rattle.jb_block.proofs.Refusals.{on-refusal}
-use Rattle.jb_disk.proofs.ReplayCalls.{replaying_shape, whole-take, whole-drop}
+use Rattle.jb_disk.proofs.ReplayCalls.{replaying_shape, whole-split}
 use Rattle.jb_disk.proofs.sector.crash_image.Goals as goal
 use Rattle.jb_disk.proofs.sector.crash_image.Goals.{After-choose, After-deref, In_ok-image}
 
@@ -35,13 +35,13 @@ back c = written_back c.in_ok-image.image.len c.choose.new.image (drop (length c
 
 pub synced_image-requires : goal.synced_image-requires
 synced_image-requires c =
-    (bytes_of c.args.size, c.requires.shape, whole-take (length c.args.first.now) (bytes_of c.args.size) c.args.calls.now c.until_sync-synced.result c.requires.whole)
+    (bytes_of c.args.size, c.requires.shape, (whole-split (length c.args.first.now) (bytes_of c.args.size) c.args.calls.now c.until_sync-synced.result c.requires.whole).1)
 
 pub writes_by_place-requires-clause-whole : goal.writes_by_place-requires-clause-whole
 writes_by_place-requires-clause-whole c = (
   bytes_of c.args.size,
   rw (c.len.ensures ∙ c.in_ok-image.image.ok.0 ∙ items (goal.at.writes_by_place-requires-clause-whole c).In_ok-image, rest_of_calls c.args.calls.now c.until_sync-synced.result)
-      (whole-drop (length c.args.first.now) (bytes_of c.args.size) c.args.calls.now c.until_sync-synced.result c.requires.whole),
+      (whole-split (length c.args.first.now) (bytes_of c.args.size) c.args.calls.now c.until_sync-synced.result c.requires.whole).0,
 )
 
 pub returns-in_err-writes-clause-grows : goal.returns-in_err-writes-clause-grows

@@ -31,10 +31,7 @@ returns-clause-steps g c = λ honest.
     (λ d left. (left.0, left.1, left.3 place n here c.requires.run.long)))
 
 pub returns-clause-torn : goal.returns-clause-torn
-returns-clause-torn g c = λ honest.
-    let f = c.args.self.now in
-    torn_file (bytes_of f.size) f.blocks g.S.Start.content f.host.log.events c.write_at-succeeded.new.self.log.events
-    c.args.place c.args._blocks c.offset_of-at.result c.write_at-succeeded.result c.args.bytes.now c.offset_of-at.ensures c.requires.run.long c.write_at-succeeded.ensures honest
+returns-clause-torn g c = λ honest. torn_file _ _ _ _ _ c.args.place _ _ _ c.offset_of-at.ensures honest c.args._blocks c.requires.run.long c.write_at-succeeded.ensures
 
 pub returns-clause-own : goal.returns-clause-own
 returns-clause-own g c = λ _.
