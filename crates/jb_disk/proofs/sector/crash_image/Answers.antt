@@ -79,11 +79,6 @@ returns-clause-chosen c =
     let at = goal.at.returns-clause-chosen c in
     let count : length c.deref_mut.result.now ≡ length c.args.first.now = ap length c.deref_mut.ensures.value ∙ items at.In_ok-image in
     let len : c.len.result ≡ length c.args.first.now = c.len.ensures ∙ c.in_ok-image.image.ok.0 ∙ items at.In_ok-image in
-    let chosen = subst (λ b. (place k : ℕ) → place < length c.deref_mut.result.now → k < b / 512 → sector k (block (image_of c.choose.new.image) place) ≡ sector k (version (block (image_of c.deref_mut.result.now) place ∷ writes_at (table_of c.deref.result.now) place) (get_or c.args.choice.now (any_below (table_of c.deref.result.now) place * (b / 512) + k) 0)))
-    c.bytes.ensures.value c.choose.ensures.chosen in
-    subst (λ image. (place k : ℕ) → place < length c.args.first.now → k < bytes_of c.args.size / 512 → sector k (block (image_of image) place) ≡ sector k (version (versions (image_of c.args.first.now) (steps_of c.args.calls.now) place) (get_or c.args.choice.now (written_below (steps_of c.args.calls.now) place * (bytes_of c.args.size / 512) + k) 0)))
-    (sym (back at.After-choose))
-    (chosen_by_history (length c.args.first.now) (bytes_of c.args.size / 512) (image_of c.args.first.now) (image_of c.deref_mut.result.now) (image_of c.choose.new.image) (steps_of c.args.calls.now) (table_of c.deref.result.now) c.args.choice.now
+    rw (back at.After-choose) (chosen_by_history _ _ (image_of c.args.first.now) _ _ (steps_of c.args.calls.now) (table_of c.deref.result.now) _
     (c.until_sync-synced.ensures.before (image_of c.args.first.now) ∙ sym (ap image_of c.deref_mut.ensures.value ∙ c.in_ok-image.ensures.synced))
-    (λ p inside. each at.After-deref p (omega (arith, inside, len)))
-    (λ place k inside less. chosen place k (omega (arith, inside, count)) less))
+    (λ p inside. each at.After-deref p (omega (arith, inside, len))) (rw (count, c.bytes.ensures.value) at c.choose.ensures.chosen))
