@@ -7,7 +7,6 @@ pub mod CrashVersions
 pub mod FileCalls
 pub mod ImageVersions
 pub mod KeptOverCalls
-pub mod LastSync
 pub mod MemoryBuffers
 pub mod MemoryCalls
 pub mod NotedCalls

@@ -25,7 +25,7 @@ buffer_at count size c buffers place b shape is inside here =
 newest_shape : (h : History) → IsHistorySound h → HasShape h.count (bytes_of h.size) (newest_of h)
 newest_shape h sound = replay_shape h.count (bytes_of h.size) h.first h.steps sound.shape sound.whole
 
-module _ (a : Inside) (kept : IsHistoryKept a) (h : History) (view : history_of a ≡ h) where
+module _ {a : Inside} {h : History} (kept : IsHistoryKept a) (view : history_of a ≡ h) where
   pub kept_sound : IsHistorySound h
   kept_sound = subst IsHistorySound view kept.sound
 
@@ -42,10 +42,10 @@ module _ (a : Inside) (kept : IsHistoryKept a) (h : History) (view : history_of 
       buffer_at h.count (bytes_of h.size) (newest_of h) a.newest.items place b (newest_shape h kept_sound) (kept.newest ∙ ap newest_of view) inside here
 
 -- a write kept in both lists
-pub kept_written : (a : Inside) → IsHistoryKept a → (h : History) → history_of a ≡ h → (place : ℕ) (bytes : List ℕ) (new : Vec ℕ Global) (calls : Vec Call Global) →
+pub kept_written : {a : Inside} {h : History} → IsHistoryKept a → history_of a ≡ h → (place : ℕ) (bytes : List ℕ) (new : Vec ℕ Global) (calls : Vec Call Global) →
     place < h.count → length bytes ≡ bytes_of h.size → new.items ≡ bytes → steps_of calls.items ≡ Wrote place bytes ∷ steps_of a.calls.items →
     IsHistoryKept (record a { newest = with_item a.newest place new; calls = calls })
-kept_written a kept h view place bytes new calls inside whole is noted = record {
+kept_written {a} kept view place bytes new calls inside whole is noted = record {
   sound = record {
     shape = kept.sound.shape;
     whole = rw noted (subst (λ n. place < n) (sym (ap (λ g. g.count) view)) inside, whole ∙ sym (ap (λ g. bytes_of g.size) view), kept.sound.whole);

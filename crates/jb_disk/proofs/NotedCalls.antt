@@ -1,9 +1,9 @@
 -- A call of a file that is noted: what it means for one block, and for what a crash may leave.
-use Rattle.std.proofs.Common.{◌≡◌, ◌≢◌, ◌<◌, ℕ, ◌*◌, List, [], ◌∷◌, length, take, drop, set, sym, ◌∙◌, inl, inr, ⊎_elim, ap, add-zero, arith, length-set, get_or-set_same, get_or-set_other, ext_get_or, take_all}
-use Rattle.std.proofs.Math.Decide.{ℕ_discrete}
+use Rattle.std.proofs.Common.{◌≡◌, ◌≢◌, ◌<◌, ℕ, ◌*◌, List, ◌∷◌, length, take, drop, set, refl, sym, ◌∙◌, inl, inr, ⊎_elim, ap, add-zero, arith, take_all}
 use Rattle.jb_disk.specs.Image.{Image, block, Torn}
 use Rattle.jb_disk.specs.Runs.{IsOutside, ReadsRun, WroteRun, TornRun, part}
 use Rattle.jb_disk.specs.Time.{Goes}
+use Rattle.jb_disk.proofs.RunWrites.{wrote_run-more, wrote_run-none, wrote_run-one}
 use Rattle.jb_disk.specs.Events.{Event, LeftBy, Leaves, LeftFrom}
 
 -- ---- a run of one block
@@ -33,11 +33,8 @@ torn_one size place bytes old new long torn = record {
 -- one that is written is a block that is set
 pub wrote_one : (size place : ℕ) (bytes : List ℕ) (old new : Image) → length bytes ≡ size → place < length old → WroteRun size 1 place bytes old new → new ≡ set old place bytes
 wrote_one size place bytes old new long inside wrote =
-    ext_get_or [] new (set old place bytes) (wrote.count ∙ sym (length-set old place bytes))
-    (λ i below. elim (ℕ_discrete i place) [
-      | yes here ↦ ap (block new) (here ∙ sym (add-zero place)) ∙ wrote.inside 0 (omega arith) ∙ part_one size bytes long ∙ sym (get_or-set_same old place bytes [] inside) ∙ ap (block (set old place bytes)) (sym here)
-      | no other ↦ wrote.elsewhere i (others place i other) ∙ sym (get_or-set_other old place i bytes [] other)
-    ])
+    wrote_run-one size 1 place bytes old new (set old place bytes) wrote
+    (wrote_run-more size 0 place bytes old old (set old place bytes) (omega (arith, inside)) (wrote_run-none size place bytes old) (rw (add-zero place, part_one size bytes long) refl))
 
 -- ---- the calls of a disk whose record grows
 

@@ -1,9 +1,9 @@
-use Rattle.std.proofs.Common.{◌≡◌, ◌<◌, ◌+◌, ◌*◌, ◌/◌, ◌∷◌, ◌++◌, ℕ, length, get_or, take, drop, refl, sym, ◌∙◌, ap, subst, arith, All}
+use Rattle.std.proofs.Common.{◌≡◌, ◌<◌, ◌*◌, ◌/◌, ◌++◌, ℕ, length, take, drop, refl, sym, ◌∙◌, ap, subst, arith, All}
 use Rattle.jb_block.specs.Size.{bytes_of}
 use Rattle.jb_disk.specs.Calls.{steps_of, image_of}
-use Rattle.jb_disk.specs.Image.{HasShape, block, sector}
-use Rattle.jb_disk.specs.CrashWrites.{table_of, writes_at, any_below}
-use Rattle.jb_disk.specs.Versions.{written, written_below, version, versions}
+use Rattle.jb_disk.specs.Image.{HasShape}
+use Rattle.jb_disk.specs.CrashWrites.{table_of, writes_at}
+use Rattle.jb_disk.specs.Versions.{written}
 use Rattle.jb_disk.proofs.MemoryBuffers.{buffers_count}
 use Rattle.jb_disk.proofs.ImageVersions.{written_back}
 use Rattle.jb_disk.proofs.CrashImage.{rest_of_calls, whole_sectors, written_whole, chosen_by_history}
