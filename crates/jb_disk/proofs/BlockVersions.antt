@@ -13,23 +13,22 @@ pub record IsMixed (k : ℕ) (old : List ℕ) (contents : List (List ℕ)) (choi
   pub chosen : (j : ℕ) → j < k → sector j now ≡ sector j (version (old ∷ contents) (get_or choice j 0))
   pub rest : (j : ℕ) → k ≤ j → sector j now ≡ sector j old
 
--- a sector that keeps what it had
-pub mixed-keep : (k : ℕ) (old : List ℕ) (contents : List (List ℕ)) (choice now : List ℕ) → IsMixed k old contents choice now → version (old ∷ contents) (get_or choice k 0) ≡ old → IsMixed (k + 1) old contents choice now
-mixed-keep k old contents choice now mixed is = record {
-  chosen = below_more (λ j. sector j now ≡ sector j (version (old ∷ contents) (get_or choice j 0))) k mixed.chosen
-      (mixed.rest k (omega arith) ∙ ap (sector k) (sym is));
-  rest = λ j above. mixed.rest j (omega (arith, above));
-}
+module _ {k : ℕ} {old : List ℕ} {contents : List (List ℕ)} {choice now : List ℕ} (mixed : IsMixed k old contents choice now) where
+  -- a sector that keeps what it had
+  pub mixed-keep : version (old ∷ contents) (get_or choice k 0) ≡ old → IsMixed (k + 1) old contents choice now
+  mixed-keep is = record {
+    chosen = below_more (λ j. sector j now ≡ sector j (version (old ∷ contents) (get_or choice j 0))) k mixed.chosen (mixed.rest k (omega arith) ∙ ap (sector k) (sym is));
+    rest = λ j above. mixed.rest j (omega (arith, above));
+  }
 
--- a sector that takes a write's
-pub mixed-put : (k : ℕ) (old : List ℕ) (contents : List (List ℕ)) (choice now bytes : List ℕ) → IsMixed k old contents choice now
-    → version (old ∷ contents) (get_or choice k 0) ≡ bytes → length bytes ≡ length now → 512 * k + 512 ≤ length now → IsMixed (k + 1) old contents choice (put_sector k bytes now)
-mixed-put k old contents choice now bytes mixed is same within = record {
-  chosen = below_more (λ j. sector j (put_sector k bytes now) ≡ sector j (version (old ∷ contents) (get_or choice j 0))) k
-      (λ j less. put_sector-below k bytes now same within j less ∙ mixed.chosen j less)
-      (put_sector-same k bytes now same within ∙ ap (sector k) (sym is));
-  rest = λ j above. put_sector-above k bytes now same within j (omega (arith, above)) ∙ mixed.rest j (omega (arith, above));
-}
+  -- a sector that takes a write's
+  pub mixed-put : {bytes : List ℕ} → version (old ∷ contents) (get_or choice k 0) ≡ bytes → length bytes ≡ length now → 512 * k + 512 ≤ length now → IsMixed (k + 1) old contents choice (put_sector k bytes now)
+  mixed-put {bytes} is same within = record {
+    chosen = below_more (λ j. sector j (put_sector k bytes now) ≡ sector j (version (old ∷ contents) (get_or choice j 0))) k
+        (λ j less. put_sector-below k bytes now same within j less ∙ mixed.chosen j less)
+        (put_sector-same k bytes now same within ∙ ap (sector k) (sym is));
+    rest = λ j above. put_sector-above k bytes now same within j (omega (arith, above)) ∙ mixed.rest j (omega (arith, above));
+  }
 
 pub version-later : (old : List ℕ) (writes : List (Bor (List ℕ))) (number : ℕ) (d : Bor (List ℕ)) → (number % (length writes + 1) ≡ 0 → ⊥)
     → version (old ∷ bytes_of_writes writes) number ≡ (get_or writes (number % (length writes + 1) - 1) d).now
