@@ -9,7 +9,6 @@ pub mod ImageVersions
 pub mod KeptOverCalls
 pub mod MemoryBuffers
 pub mod MemoryCalls
-pub mod NotedCalls
 pub mod ReplayCalls
 pub mod RunReads
 pub mod RunWrites

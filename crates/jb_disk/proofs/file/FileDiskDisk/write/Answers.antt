@@ -3,8 +3,7 @@ use Rattle.jb_block.specs.Size.{bytes_of}
 use Rattle.jb_disk.specs.Events.{write_event}
 use Rattle.jb_disk.specs.File.{size_of_blocks, events_of}
 use Rattle.jb_disk.specs.Image.{Torn}
-use Rattle.jb_disk.proofs.FileCalls.{written_block, torn_block}
-use Rattle.jb_disk.proofs.NotedCalls.{goes_event, torn_one}
+use Rattle.jb_disk.proofs.FileCalls.{goes_event, torn_block, torn_one, written_block}
 use Rattle.jb_disk.proofs.file.FileDiskDisk.write.Goals as goal
 
 pub returns-clause-written : goal.returns-clause-written

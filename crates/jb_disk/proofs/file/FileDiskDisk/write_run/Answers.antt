@@ -6,11 +6,10 @@ use Rattle.jb_disk.specs.Events.{Leaves, LeftFrom, write_event}
 use Rattle.jb_disk.specs.Faults.{CountsOne}
 use Rattle.jb_disk.specs.File.{faults_of, size_of_blocks, events_of}
 use Rattle.jb_disk.specs.Runs.{part, TornRun}
-use Rattle.jb_disk.proofs.FileCalls.{torn_file}
+use Rattle.jb_disk.proofs.FileCalls.{goes_event, torn_file}
 use Rattle.jb_disk.proofs.RunWrites.{torn_run-same}
 use Rattle.jb_disk.proofs.RunReads.{made-once}
 use Rattle.jb_disk.proofs.CallSteps.{steps-goes}
-use Rattle.jb_disk.proofs.NotedCalls.{goes_event}
 use Rattle.jb_disk.proofs.file.FileDiskDisk.write_run.Goals as goal
 
 pub returns-clause-steps : goal.returns-clause-steps
