@@ -1,47 +1,16 @@
 -- What a crash may leave of a disk in memory is what takes one version for each sector, and nothing else.
-use Rattle.std.proofs.Common.{◌≡◌, ◌<◌, ◌≤◌, ◌⊎◌, Bool, ℕ, zero, suc, ◌+◌, ◌*◌, List, [], ◌∷◌, ◌++◌, length, get_or, refl, sym, ◌∙◌, ap, subst, inl, inr, ⊎_elim, below_more, arith, length-append, ◌≢◌, set, cond, length-set, get_or-set_same, get_or-set_other}
-use Rattle.std.proofs.lemmas.Bool.{cases_lt, eq-eqb, ne_eqb}
+use Rattle.std.proofs.Common.{◌≡◌, ◌<◌, ◌⊎◌, ℕ, ◌+◌, ◌*◌, List, [], ◌∷◌, ◌++◌, length, get_or, refl, sym, ◌∙◌, ap, subst, inl, inr, ⊎_elim, arith, length-append, ◌≢◌, set, length-set, get_or-set_same, get_or-set_other}
+use Rattle.std.proofs.lemmas.Bool.{cases_lt}
 use Rattle.std.proofs.lemmas.List.{get_or_append_left, ext_get_or}
 use Rattle.std.proofs.Math.Seq.{get_or-append_seam}
-use Rattle.std.proofs.Math.Decide.{ℕ_discrete}
 use Rattle.jb_disk.specs.Image.{sector, Image, block, HasShape}
-use Rattle.jb_disk.specs.CrashWrites.{put_sector}
-use Rattle.jb_disk.specs.Versions.{IsAmong, synced, written, versions}
+use Rattle.jb_disk.specs.Versions.{IsAmong, synced, versions}
 use Rattle.jb_disk.specs.History.{HistoryStep, Wrote, Synced, replay, MayLeave, AreWhole}
 use Rattle.jb_disk.specs.Lives.{replay_shape}
 use Rattle.jb_disk.specs.Writes.{shape_set}
-use Rattle.jb_disk.proofs.Sectors.{length-put_sector, put_sector-same, put_sector-below, put_sector-above, same_sectors}
-
--- ---- a block of which each sector is picked
-
--- each of the first n sectors has what is wanted of it, and the others are as they were
-record Picked (sectors n : ℕ) (P : ℕ → List ℕ → Type 0) (now x : List ℕ) : Type 0 where
-  size : length x ≡ 512 * sectors
-  each : (k : ℕ) → k < n → P k (sector k x)
-  rest : (k : ℕ) → n ≤ k → sector k x ≡ sector k now
-
--- where some block has it for each sector, one has it for all
-picked : (sectors n : ℕ) (P : ℕ → List ℕ → Type 0) (now : List ℕ) → n ≤ sectors → length now ≡ 512 * sectors
-    → ((k : ℕ) → k < n → (y : List ℕ) × (length y ≡ 512 * sectors) × P k (sector k y)) → (x : List ℕ) × Picked sectors n P now x
-picked sectors zero P now few size from = (now, record { size = size; each = λ k below. absurd (let h : ⊥ = omega (arith, below) in h); rest = λ k above. refl })
-picked sectors (suc n) P now few size from =
-    let before : (x : List ℕ) × Picked sectors n P now x = picked sectors n P now (omega (arith, few)) size (λ k below. from k (omega (arith, below))) in
-    let x = before.0 in
-    let so = before.1 in
-    let one : (y : List ℕ) × (length y ≡ 512 * sectors) × P n (sector n y) = from n (omega arith) in
-    let y = one.0 in
-    let same : length y ≡ length x = one.1 ∙ sym so.size in
-    let within : 512 * n + 512 ≤ length x = omega (arith, so.size, few) in (
-      put_sector n y x,
-      record {
-        size = length-put_sector n y x same within ∙ so.size;
-        each = λ k below. below_more (λ j. P j (sector j (put_sector n y x))) n
-            (λ j less. subst (P j) (sym (put_sector-below n y x same within j less)) (so.each j less)) (subst (P n) (sym (put_sector-same n y x same within)) one.2) k (omega (arith, below));
-        rest = λ k above. put_sector-above n y x same within k (omega (arith, above)) ∙ so.rest k (omega (arith, above));
-      },
-    )
-
--- ---- versions
+use Rattle.jb_disk.proofs.BlockVersions.{IsPicked, picked}
+use Rattle.jb_disk.proofs.Sectors.{same_sectors}
+use Rattle.jb_disk.proofs.WritesByPlace.{written-more}
 
 -- a version after one more write is an older one or the written bytes
 older_or_last : (contents : List (List ℕ)) (k : ℕ) (bytes x : List ℕ) → IsAmong (contents ++ bytes ∷ []) k x → IsAmong contents k x ⊎ (x ≡ sector k bytes)
@@ -60,16 +29,6 @@ same_images count sectors c d shape other each =
     (λ p below. let inside : p < count = omega (arith, shape.blocks, below) in
     same_sectors sectors (block c p) (block d p) (omega (arith, shape.bytes p inside)) (shape.bytes p inside ∙ sym (other.bytes p inside)) (λ k less. each p k inside less))
 
--- the versions of a block after one more write: at its place one more, elsewhere those of before
-versions-more : (first : Image) (older : List HistoryStep) (place : ℕ) (bytes : List ℕ) (p : ℕ)
-    → ((place ≡ p) × (versions first (Wrote place bytes ∷ older) p ≡ versions first older p ++ bytes ∷ [])) ⊎ ((p ≢ place) × (versions first (Wrote place bytes ∷ older) p ≡ versions first older p))
-versions-more first older place bytes p =
-    let so : Bool → List (List ℕ) = λ b. block (synced first older) p ∷ cond b (written older p ++ bytes ∷ []) (written older p) in
-    elim (ℕ_discrete place p) [
-      | yes here ↦ inl (here, ap so (eq-eqb place p here))
-      | no other ↦ inr (λ e. other (sym e), ap so (ne_eqb place p other))
-    ]
-
 -- an older version is still one, and the written bytes are the last
 takes_written : (contents : List (List ℕ)) (k : ℕ) (bytes x old : List ℕ) → IsAmong contents k old → (x ≡ old) ⊎ (x ≡ sector k bytes) → IsAmong (contents ++ bytes ∷ []) k x
 takes_written contents k bytes x old (n, below, is) (inl same) =
@@ -83,10 +42,10 @@ image_takes first [] c left p k = (0, omega arith, ap (λ image. sector k (block
 image_takes first (Synced ∷ older) c left p k = (0, omega arith, ap (λ image. sector k (block image p)) left)
 image_takes first (Wrote place bytes ∷ older) c (d, left, torn) p k =
     let among = image_takes first older d left p k in
-    elim (versions-more first older place bytes p) [
-      | inl (here, are) ↦ subst (λ vs. IsAmong vs k (sector k (block c p))) (sym are)
+    elim (written-more older place bytes p) [
+      | inl (here, are) ↦ subst (λ ws. IsAmong (block (synced first older) p ∷ ws) k (sector k (block c p))) (sym are)
           (takes_written (versions first older p) k bytes (sector k (block c p)) (sector k (block d p)) among (rw here at torn.sectors k))
-      | inr (other, are) ↦ subst (λ vs. IsAmong vs k (sector k (block c p))) (sym are)
+      | inr (other, are) ↦ subst (λ ws. IsAmong (block (synced first older) p ∷ ws) k (sector k (block c p))) (sym are)
           (subst (IsAmong (versions first older p) k) (ap (sector k) (sym (torn.elsewhere p other))) among)
     ]
 
@@ -114,27 +73,27 @@ choice_left count sectors first (Wrote place bytes ∷ older) c shape whole chos
     let base : length (block (synced first older) place) ≡ 512 * sectors = (synced_shape count (512 * sectors) first older shape whole.2).bytes place whole.0 in
     let size : length (block c place) ≡ 512 * sectors = chosen.bytes place whole.0 in
     let now = block c place in
-    let back : (x : List ℕ) × Picked sectors sectors (λ k x. IsAmong (versions first older place) k x × ((sector k now ≡ x) ⊎ (sector k now ≡ sector k bytes))) now x
-    = picked sectors sectors _ now (omega arith) size (λ k less. elim (versions-more first older place bytes place) [
+    let back : (x : List ℕ) × (length x ≡ 512 * sectors) × IsPicked sectors (λ k x. IsAmong (versions first older place) k x × ((sector k now ≡ x) ⊎ (sector k now ≡ sector k bytes))) now x
+    = picked sectors sectors _ now (omega arith) size (λ k less. elim (written-more older place bytes place) [
       | inl (here, are) ↦ ⊎_elim (λ old. (now, size, (old, inl refl))) (λ new. (block (synced first older) place, base, ((0, omega arith, refl), inr new)))
-          (older_or_last (versions first older place) k bytes (sector k now) (subst (λ vs. IsAmong vs k (sector k now)) are (each place k whole.0 less)))
+          (older_or_last (versions first older place) k bytes (sector k now) (subst (λ ws. IsAmong (block (synced first older) place ∷ ws) k (sector k now)) are (each place k whole.0 less)))
       | inr (other, are) ↦ absurd (other refl)
     ]) in
     let d = set c place back.0 in
     let here : block d place ≡ back.0 = get_or-set_same c place back.0 [] inside in
     let others : (p : ℕ) → p ≢ place → block d p ≡ block c p = λ p other. get_or-set_other c place p back.0 [] other in (
       d,
-      choice_left count sectors first older d shape whole.2 (shape_set count (512 * sectors) c place back.0 chosen whole.0 back.1.size)
-          (λ p k below less. elim (versions-more first older place bytes p) [
+      choice_left count sectors first older d shape whole.2 (shape_set count (512 * sectors) c place back.0 chosen whole.0 back.1)
+          (λ p k below less. elim (written-more older place bytes p) [
             | inl (is, are) ↦ subst (λ q. IsAmong (versions first older q) k (sector k (block d q))) is
-                (subst (λ b. IsAmong (versions first older place) k (sector k b)) (sym here) (back.1.each k less).0)
-            | inr (other, are) ↦ subst (λ b. IsAmong (versions first older p) k (sector k b)) (sym (others p other)) (subst (λ vs. IsAmong vs k (sector k (block c p))) are (each p k below less))
+                (subst (λ b. IsAmong (versions first older place) k (sector k b)) (sym here) (back.2.chosen k less).0)
+            | inr (other, are) ↦ subst (λ b. IsAmong (versions first older p) k (sector k b)) (sym (others p other)) (subst (λ ws. IsAmong (block (synced first older) p ∷ ws) k (sector k (block c p))) are (each p k below less))
           ]),
       record {
         count = sym (length-set c place back.0);
         elsewhere = λ p other. sym (others p other);
-        size = size ∙ sym back.1.size ∙ sym (ap length here);
+        size = size ∙ sym back.1 ∙ sym (ap length here);
         sectors = λ k. subst (λ b. (sector k now ≡ sector k b) ⊎ (sector k now ≡ sector k bytes)) (sym here)
-            (⊎_elim (λ less. (back.1.each k less).1) (λ above. inl (sym (back.1.rest k above))) (cases_lt k sectors));
+            (⊎_elim (λ less. (back.2.chosen k less).1) (λ above. inl (sym (back.2.rest k above))) (cases_lt k sectors));
       },
     )
