@@ -1,4 +1,4 @@
-use Rattle.std.proofs.Common.{◌≡◌, ◌<◌, ◌*◌, ◌/◌, ◌++◌, ℕ, length, take, drop, refl, sym, ◌∙◌, ap, subst, arith, All}
+use Rattle.std.proofs.Common.{◌≡◌, ◌<◌, ◌*◌, ◌/◌, ◌++◌, ℕ, length, take, drop, refl, sym, ◌∙◌, ap, arith}
 use Rattle.jb_block.specs.Size.{bytes_of}
 use Rattle.jb_disk.specs.Calls.{steps_of, image_of}
 use Rattle.jb_disk.specs.Image.{HasShape}
@@ -15,12 +15,12 @@ use Rattle.jb_disk.proofs.sector.crash_image.Goals.{After-choose, After-deref, I
 -- the buffers of the last sync have the disk's shape
 shape : (c : In_ok-image) → HasShape (length c.args.first.now) (bytes_of c.args.size) (image_of c.in_ok-image.image.items)
 shape c =
-    subst (HasShape (length c.args.first.now) (bytes_of c.args.size)) (sym c.in_ok-image.ensures.synced)
+    rw c.in_ok-image.ensures.synced
     (replaying_shape (length c.args.first.now) (bytes_of c.args.size) (image_of c.args.first.now) c.args.calls.now c.until_sync-synced.result c.requires.shape c.requires.whole)
 
 -- they are as many as blocks
 items : (c : In_ok-image) → length c.in_ok-image.image.items ≡ length c.args.first.now
-items c = buffers_count (length c.args.first.now) (bytes_of c.args.size) (image_of c.in_ok-image.image.items) c.in_ok-image.image.items (shape c) refl
+items c = buffers_count _ _ _ c.in_ok-image.image.items (shape c) refl
 
 -- the table has what was written since
 each : (c : After-deref) (place : ℕ) → place < c.len.result → writes_at (table_of c.deref.result.now) place ≡ written (steps_of c.args.calls.now) place
@@ -30,8 +30,7 @@ each c place inside =
 
 -- the buffers after the choice
 back : (c : After-choose) → take c.in_ok-image.image.len (c.choose.new.image ++ drop (length c.choose.new.image) c.in_ok-image.image.items) ≡ c.choose.new.image
-back c = written_back c.in_ok-image.image.len c.choose.new.image (drop (length c.choose.new.image) c.in_ok-image.image.items)
-    (c.in_ok-image.image.ok.0 ∙ sym (ap length c.deref_mut.ensures.value) ∙ sym c.choose.auto.image)
+back c = written_back c.in_ok-image.image.len c.choose.new.image _ (c.in_ok-image.image.ok.0 ∙ sym (ap length c.deref_mut.ensures.value) ∙ sym c.choose.auto.image)
 
 pub synced_image-requires : goal.synced_image-requires
 synced_image-requires c =
@@ -58,9 +57,8 @@ pub choose-requires-clause-whole : goal.choose-requires-clause-whole
 choose-requires-clause-whole c = λ place inside.
     let count : c.len.result ≡ length c.deref_mut.result.now = c.len.ensures ∙ c.in_ok-image.image.ok.0 ∙ ap length (sym c.deref_mut.ensures.value) in
     let size : 512 * (c.bytes.result / 512) ≡ bytes_of c.args.size = ap (λ b. 512 * (b / 512)) c.bytes.ensures.value ∙ sym (whole_sectors c.args.size) in
-    subst (λ s. All (λ b. length b ≡ s) (writes_at (table_of c.deref.result.now) place)) (sym size)
-    (subst (All (λ b. length b ≡ bytes_of c.args.size)) (sym (each (goal.at.choose-requires-clause-whole c).After-deref place (omega (arith, inside, count))))
-    (written_whole (length c.args.first.now) (bytes_of c.args.size) (steps_of c.args.calls.now) place c.requires.whole))
+    let at = (goal.at.choose-requires-clause-whole c).After-deref in
+    rw (size, each at place (omega (arith, inside, count))) (written_whole (length c.args.first.now) (bytes_of c.args.size) (steps_of c.args.calls.now) place c.requires.whole)
 
 pub returns-clause-count : goal.returns-clause-count
 returns-clause-count c =
@@ -71,8 +69,7 @@ pub returns-clause-shape : goal.returns-clause-shape
 returns-clause-shape c =
     let at = goal.at.returns-clause-shape c in
     let size : 512 * (c.bytes.result / 512) ≡ bytes_of c.args.size = ap (λ b. 512 * (b / 512)) c.bytes.ensures.value ∙ sym (whole_sectors c.args.size) in
-    subst (λ image. HasShape (length c.args.first.now) (bytes_of c.args.size) (image_of image)) (sym (back at.After-choose))
-    (rw (ap length c.deref_mut.ensures.value ∙ items at.In_ok-image, size) at c.choose.ensures.shape)
+    rw (back at.After-choose) (rw (ap length c.deref_mut.ensures.value ∙ items at.In_ok-image, size) at c.choose.ensures.shape)
 
 pub returns-clause-chosen : goal.returns-clause-chosen
 returns-clause-chosen c =
