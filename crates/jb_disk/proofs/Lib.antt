@@ -1,13 +1,11 @@
 pub mod BlockVersions
 pub mod CallRuns
 pub mod CallSteps
-pub mod CrashChoices
 pub mod CrashImage
 pub mod CrashVersions
 pub mod FileCalls
 pub mod ImageVersions
 pub mod KeptOverCalls
-pub mod MemoryBuffers
 pub mod MemoryCalls
 pub mod ReplayCalls
 pub mod RunReads
@@ -15,6 +13,5 @@ pub mod RunWrites
 pub mod Sectors
 pub mod StartBound
 pub mod Stays
-pub mod TornRuns
 pub mod WriteBehindOwes
 pub mod WritesByPlace

@@ -5,10 +5,10 @@ use Rattle.jb_disk.specs.Calls.{image_of}
 use Rattle.jb_disk.specs.Image.{block, sector}
 use Rattle.jb_disk.specs.CrashWrites.{table_of, bytes_of_writes, writes_at}
 use Rattle.jb_disk.specs.Versions.{one_if_any, version}
-use Rattle.jb_disk.proofs.MemoryBuffers.{buffer_at}
+use Rattle.jb_disk.proofs.MemoryCalls.{buffer_at}
 use Rattle.jb_disk.proofs.ImageVersions.{AreChosen, chosen-none, chosen-some, written_back, writes_here, none_here, some_here}
-use Rattle.jb_disk.proofs.sector.choose.Goals as goal
 use Rattle.jb_disk.proofs.sector.choose.Goals.{After-as_slice-versions, then-not-is_empty, else-not-is_empty}
+use Rattle.jb_disk.proofs.sector.choose.Goals as goal
 
 -- what was written to the block
 writes : (c : After-as_slice-versions) → writes_at (table_of c.args.writes.now) c.loop-place.place ≡ bytes_of_writes c.as_slice-versions.result.now

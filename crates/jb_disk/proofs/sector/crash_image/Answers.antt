@@ -4,13 +4,13 @@ use Rattle.jb_disk.specs.Calls.{steps_of, image_of}
 use Rattle.jb_disk.specs.Image.{HasShape}
 use Rattle.jb_disk.specs.CrashWrites.{table_of, writes_at}
 use Rattle.jb_disk.specs.Versions.{written}
-use Rattle.jb_disk.proofs.MemoryBuffers.{buffers_count}
+use Rattle.jb_disk.proofs.MemoryCalls.{buffers_count}
 use Rattle.jb_disk.proofs.ImageVersions.{written_back}
 use Rattle.jb_disk.proofs.CrashImage.{rest_of_calls, whole_sectors, written_whole, chosen_by_history}
 use Rattle.jb_block.proofs.Refusals.{on-refusal}
 use Rattle.jb_disk.proofs.ReplayCalls.{replaying_shape, whole-split}
-use Rattle.jb_disk.proofs.sector.crash_image.Goals as goal
 use Rattle.jb_disk.proofs.sector.crash_image.Goals.{After-choose, After-deref, In_ok-image}
+use Rattle.jb_disk.proofs.sector.crash_image.Goals as goal
 
 -- the buffers of the last sync have the disk's shape
 shape : (c : In_ok-image) → HasShape (length c.args.first.now) (bytes_of c.args.size) (image_of c.in_ok-image.image.items)

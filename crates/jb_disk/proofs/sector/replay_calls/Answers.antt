@@ -1,10 +1,10 @@
 use Rattle.std.proofs.Common.{◌≡◌, ◌<◌, length, arith, sym, ◌∙◌, ap, vec_len}
 use Rattle.jb_disk.specs.Calls.{image_of}
 use Rattle.jb_disk.specs.History.{replay}
-use Rattle.jb_disk.proofs.MemoryBuffers.{buffer_at}
+use Rattle.jb_disk.proofs.MemoryCalls.{buffer_at}
 use Rattle.jb_disk.proofs.ReplayCalls.{write_at, replaying_shape, replay-write, steps_of-more}
-use Rattle.jb_disk.proofs.sector.replay_calls.Goals as goal
 use Rattle.jb_disk.proofs.sector.replay_calls.Goals.{In-Write, in-Write, in_default}
+use Rattle.jb_disk.proofs.sector.replay_calls.Goals as goal
 
 -- the place and length of a write
 at : (c : In-Write) → (c.in-Write.place < length c.args.image.now) × (length c.in-Write.bytes.items ≡ c.requires.0)

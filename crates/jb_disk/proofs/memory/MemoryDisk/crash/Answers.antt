@@ -1,7 +1,7 @@
 use Rattle.std.proofs.Common.{sym, subst}
 use Rattle.jb_disk.specs.Calls.{image_of}
 use Rattle.jb_disk.specs.Versions.{IsChosen}
-use Rattle.jb_disk.proofs.MemoryBuffers.{kept_sound}
+use Rattle.jb_disk.proofs.MemoryCalls.{kept_sound}
 use Rattle.jb_disk.proofs.CrashImage.{chosen_left}
 use Rattle.jb_disk.proofs.memory.MemoryDisk.crash.Goals as goal
 

@@ -1,5 +1,5 @@
 use Rattle.std.proofs.Common.{length, arith, sym, ◌∙◌, ap}
-use Rattle.jb_disk.proofs.MemoryBuffers.{kept_count, kept_size, kept_buffer}
+use Rattle.jb_disk.proofs.MemoryCalls.{kept_count, kept_size, kept_buffer}
 use Rattle.jb_disk.proofs.memory.MemoryDiskDisk.read.Goals as goal
 
 pub index-requires : goal.index-requires

@@ -1,7 +1,6 @@
 use Rattle.std.proofs.Common.{length, arith, sym, ◌∙◌, ap, map, reverse}
-use Rattle.jb_disk.proofs.MemoryBuffers.{kept_count, kept_size, kept_buffer, kept_written}
+use Rattle.jb_disk.proofs.MemoryCalls.{kept_count, kept_size, kept_buffer, kept_written, goes_refused}
 use Rattle.jb_disk.specs.Calls.{history_step}
-use Rattle.jb_disk.proofs.MemoryCalls.{goes_refused}
 use Rattle.jb_disk.proofs.memory.MemoryDiskDisk.write.Goals as goal
 
 pub index_mut-requires : goal.index_mut-requires
