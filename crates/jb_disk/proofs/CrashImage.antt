@@ -1,10 +1,9 @@
 -- From the parts of a crash to its image; and each image that a crash may leave is reached by some choice of numbers.
-use Rattle.std.proofs.Common.{◌≡◌, ◌<◌, ◌≤◌, ℕ, zero, suc, ◌+◌, ◌*◌, ◌/◌, ◌%◌, List, [], ◌∷◌, length, get_or, refl, sym, ◌∙◌, ap, arith, All, eqb, take, drop, ◌-◌, length-drop, take_all, ◌↔◌, ◌++◌, map, subst, ⊎_elim, length-append, mod-eq_of_lt, mul-le-mul_right}
+use Rattle.std.proofs.Common.{◌≡◌, ◌<◌, ◌≤◌, ℕ, zero, suc, ◌+◌, ◌*◌, ◌/◌, ◌%◌, List, [], ◌∷◌, length, get_or, refl, sym, ◌∙◌, ap, arith, All, eqb, ◌↔◌, ◌++◌, map, subst, ⊎_elim, length-append, mod-eq_of_lt, mul-le-mul_right}
 use Rattle.std.proofs.lemmas.Nat.{mod_below}
 use Rattle.jb_block.specs.declared.size.BlockSize.{BlockSize}
 use Rattle.jb_block.specs.declared.size.BlockSize.TheVariants.{OneKib}
 use Rattle.jb_block.specs.Size.{bytes_of}
-use Rattle.jb_disk.specs.declared.memory.Call.{Call}
 use Rattle.jb_disk.specs.History.{History, HistoryStep, Wrote, Synced, AreWhole, IsHistorySound, MayLeave}
 use Rattle.jb_disk.specs.CrashWrites.{writes_at, any_below}
 use Rattle.jb_disk.specs.Image.{Image, block, sector, HasShape}
@@ -48,10 +47,6 @@ chosen_by_history count sectors first stable now steps table choice before each 
     ∙ ap (λ c. sector k (version (block c place ∷ writes_at table place) (get_or choice (any_below table place * sectors + k) 0))) (sym before)
     ∙ ap (λ ws. sector k (version (block (synced first steps) place ∷ ws) (get_or choice (any_below table place * sectors + k) 0))) (each place inside)
     ∙ ap (λ n. sector k (version (versions first steps place) (get_or choice (n * sectors + k) 0))) (any_below-is count table steps each place (omega (arith, inside)))
-
--- the calls from a number on, as the code takes them
-pub rest_of_calls : (calls : List Call) (n : ℕ) → take (length calls - n) (drop n calls) ≡ drop n calls
-rest_of_calls calls n = take_all (length calls - n) (drop n calls) (omega (arith, length-drop n calls))
 
 -- an image of the disk's shape that takes a version for each sector is one that a crash may leave
 pub takes_left : (h : History) (c : Image) → IsHistorySound h → HasShape h.count (bytes_of h.size) c

@@ -1,12 +1,12 @@
 use Rattle.std.proofs.Common.{◌≡◌, ◌<◌, ◌*◌, ◌+◌, ◌∷◌, length, arith, get_or, set, drop, sym, ◌∙◌, ap, subst, refl, All}
-use Rattle.std.proofs.lemmas.List.{map-set}
+use Rattle.std.proofs.lemmas.List.{map-set, take_at}
 use Rattle.std.specs.Vec.{with_items}
 use Rattle.jb_disk.specs.Calls.{image_of}
 use Rattle.jb_disk.specs.Image.{block, sector}
 use Rattle.jb_disk.specs.CrashWrites.{table_of, bytes_of_writes, writes_at}
 use Rattle.jb_disk.specs.Versions.{one_if_any, version}
 use Rattle.jb_disk.proofs.MemoryCalls.{buffer_at}
-use Rattle.jb_disk.proofs.ImageVersions.{AreChosen, chosen-none, chosen-some, written_back, writes_here, none_here, some_here}
+use Rattle.jb_disk.proofs.ImageVersions.{AreChosen, chosen-none, chosen-some, writes_here, none_here, some_here}
 use Rattle.jb_disk.proofs.sector.choose.Goals.{After-as_slice-versions, then-not-is_empty, else-not-is_empty}
 use Rattle.jb_disk.proofs.sector.choose.Goals as goal
 
@@ -39,7 +39,7 @@ loop-place-preserved c =
           let here = buffer_at _ _ _ image place w.index-image-place.result c.loop-place.invariant.shape refl inside w.index-image-place.is in
           let before = w.deref_mut.ensures.value ∙ ap (λ v. v.items) (sym w.index-image-place.is) ∙ here in
           let size = w.mix.auto.block ∙ ap length before ∙ c.loop-place.invariant.shape.bytes place inside in
-          let back = written_back buffer.len w.mix.new.block (drop (length w.mix.new.block) buffer.items) (buffer.ok.0 ∙ sym (ap length w.deref_mut.ensures.value) ∙ sym w.mix.auto.block) in
+          let back = take_at w.mix.new.block (drop (length w.mix.new.block) buffer.items) buffer.len (w.mix.auto.block ∙ ap length w.deref_mut.ensures.value ∙ sym buffer.ok.0) in
           rw (w.image-is, w.rest-is, w.behind-rest.ensures)
           (subst (AreChosen c.args.sectors (length c.args.image.now) (place + 1) (image_of c.args.image.now) (table_of c.args.writes.now) c.args.choice.now (drop c.args.sectors c.loop-place.rest.now))
           (sym (map-set (λ v. v.items) image place (with_items buffer w.mix.new.block) ∙ ap (λ b. set (image_of image) place b) back))

@@ -5,8 +5,8 @@ use Rattle.jb_disk.specs.Image.{HasShape}
 use Rattle.jb_disk.specs.CrashWrites.{table_of, writes_at}
 use Rattle.jb_disk.specs.Versions.{written}
 use Rattle.jb_disk.proofs.MemoryCalls.{buffers_count}
-use Rattle.jb_disk.proofs.ImageVersions.{written_back}
-use Rattle.jb_disk.proofs.CrashImage.{rest_of_calls, whole_sectors, written_whole, chosen_by_history}
+use Rattle.std.proofs.lemmas.List.{take_at, take_rest}
+use Rattle.jb_disk.proofs.CrashImage.{whole_sectors, written_whole, chosen_by_history}
 use Rattle.jb_block.proofs.Refusals.{on-refusal}
 use Rattle.jb_disk.proofs.ReplayCalls.{replaying_shape, whole-split}
 use Rattle.jb_disk.proofs.sector.crash_image.Goals.{After-choose, After-deref, In_ok-image}
@@ -26,11 +26,11 @@ items c = buffers_count _ _ _ c.in_ok-image.image.items (shape c) refl
 each : (c : After-deref) (place : ℕ) → place < c.len.result → writes_at (table_of c.deref.result.now) place ≡ written (steps_of c.args.calls.now) place
 each c place inside =
     ap (λ t. writes_at (table_of t) place) c.deref.ensures.value ∙ c.in_ok-writes.ensures.writes place inside
-    ∙ ap (λ cs. written (steps_of cs) place) (rest_of_calls c.args.calls.now c.until_sync-synced.result) ∙ sym (c.until_sync-synced.ensures.behind place)
+    ∙ ap (λ cs. written (steps_of cs) place) (take_rest c.args.calls.now c.until_sync-synced.result) ∙ sym (c.until_sync-synced.ensures.behind place)
 
 -- the buffers after the choice
 back : (c : After-choose) → take c.in_ok-image.image.len (c.choose.new.image ++ drop (length c.choose.new.image) c.in_ok-image.image.items) ≡ c.choose.new.image
-back c = written_back c.in_ok-image.image.len c.choose.new.image _ (c.in_ok-image.image.ok.0 ∙ sym (ap length c.deref_mut.ensures.value) ∙ sym c.choose.auto.image)
+back c = take_at c.choose.new.image _ c.in_ok-image.image.len (c.choose.auto.image ∙ ap length c.deref_mut.ensures.value ∙ sym c.in_ok-image.image.ok.0)
 
 pub synced_image-requires : goal.synced_image-requires
 synced_image-requires c =
@@ -39,7 +39,7 @@ synced_image-requires c =
 pub writes_by_place-requires-clause-whole : goal.writes_by_place-requires-clause-whole
 writes_by_place-requires-clause-whole c = (
   bytes_of c.args.size,
-  rw (c.len.ensures ∙ c.in_ok-image.image.ok.0 ∙ items (goal.at.writes_by_place-requires-clause-whole c).In_ok-image, rest_of_calls c.args.calls.now c.until_sync-synced.result)
+  rw (c.len.ensures ∙ c.in_ok-image.image.ok.0 ∙ items (goal.at.writes_by_place-requires-clause-whole c).In_ok-image, take_rest c.args.calls.now c.until_sync-synced.result)
       (whole-split (length c.args.first.now) (bytes_of c.args.size) c.args.calls.now c.until_sync-synced.result c.requires.whole).0,
 )
 
