@@ -87,7 +87,8 @@ choice_left count sectors first (Wrote place bytes ∷ older) c shape whole chos
           (λ p k below less. elim (written-more older place bytes p) [
             | inl (is, are) ↦ subst (λ q. IsAmong (versions first older q) k (sector k (block d q))) is
                 (subst (λ b. IsAmong (versions first older place) k (sector k b)) (sym here) (back.2.chosen k less).0)
-            | inr (other, are) ↦ subst (λ b. IsAmong (versions first older p) k (sector k b)) (sym (others p other)) (subst (λ ws. IsAmong (block (synced first older) p ∷ ws) k (sector k (block c p))) are (each p k below less))
+            | inr (other, are) ↦ subst (λ b. IsAmong (versions first older p) k (sector k b)) (sym (others p other))
+                (subst (λ ws. IsAmong (block (synced first older) p ∷ ws) k (sector k (block c p))) are (each p k below less))
           ]),
       record {
         count = sym (length-set c place back.0);
