@@ -1,35 +1,47 @@
 -- How a block takes its versions, sector by sector.
-use Rattle.std.proofs.Common.{◌≡◌, ◌<◌, ◌≤◌, ℕ, suc, ◌+◌, ◌-◌, ◌*◌, ◌%◌, List, [], ◌∷◌, length, get_or, sym, ◌∙◌, ap, below_more, arith, Bor, All, Bool, true, false, cond, ◌++◌}
+use Rattle.std.proofs.Common.{◌≡◌, ◌<◌, ◌≤◌, ℕ, zero, suc, refl, subst, ◌+◌, ◌-◌, ◌*◌, ◌%◌, List, [], ◌∷◌, length, get_or, sym, ◌∙◌, ap, below_more, arith, Bor, All, Bool, true, false, cond, ◌++◌}
 use Rattle.std.proofs.lemmas.List.Elements.{All-cons, All-push}
 use Rattle.std.proofs.lemmas.Nat.{mod_below}
 use Rattle.std.proofs.lemmas.List.{length-map, get_or-map}
 use Rattle.jb_disk.specs.Image.{sector}
 use Rattle.jb_disk.specs.CrashWrites.{put_sector, bytes_of_writes}
 use Rattle.jb_disk.specs.Versions.{version}
-use Rattle.jb_disk.proofs.Sectors.{put_sector-same, put_sector-below, put_sector-above}
+use Rattle.jb_disk.proofs.Sectors.{length-put_sector, put_sector-same, put_sector-below, put_sector-above}
 
--- the sectors below the k-th have their versions, and the others are as they were
-pub record IsMixed (k : ℕ) (old : List ℕ) (contents : List (List ℕ)) (choice now : List ℕ) : Type 0 where
-  pub chosen : (j : ℕ) → j < k → sector j now ≡ sector j (version (old ∷ contents) (get_or choice j 0))
-  pub rest : (j : ℕ) → k ≤ j → sector j now ≡ sector j old
+-- each of the first n sectors has what is wanted of it, and the others are as they were
+pub record IsPicked (n : ℕ) (P : ℕ → List ℕ → Type 0) (old now : List ℕ) : Type 0 where
+  pub chosen : (k : ℕ) → k < n → P k (sector k now)
+  pub rest : (k : ℕ) → n ≤ k → sector k now ≡ sector k old
 
--- a sector that keeps what it had
-pub mixed-keep : (k : ℕ) (old : List ℕ) (contents : List (List ℕ)) (choice now : List ℕ) → IsMixed k old contents choice now → version (old ∷ contents) (get_or choice k 0) ≡ old → IsMixed (k + 1) old contents choice now
-mixed-keep k old contents choice now mixed is = record {
-  chosen = below_more (λ j. sector j now ≡ sector j (version (old ∷ contents) (get_or choice j 0))) k mixed.chosen
-      (mixed.rest k (omega arith) ∙ ap (sector k) (sym is));
-  rest = λ j above. mixed.rest j (omega (arith, above));
-}
+module _ {n : ℕ} {P : ℕ → List ℕ → Type 0} {old now : List ℕ} (so : IsPicked n P old now) where
+  -- a sector that keeps what it had
+  pub picked-keep : P n (sector n old) → IsPicked (n + 1) P old now
+  picked-keep has = record {
+    chosen = below_more (λ k. P k (sector k now)) n so.chosen (subst (P n) (sym (so.rest n (omega arith))) has);
+    rest = λ k above. so.rest k (omega (arith, above));
+  }
 
--- a sector that takes a write's
-pub mixed-put : (k : ℕ) (old : List ℕ) (contents : List (List ℕ)) (choice now bytes : List ℕ) → IsMixed k old contents choice now
-    → version (old ∷ contents) (get_or choice k 0) ≡ bytes → length bytes ≡ length now → 512 * k + 512 ≤ length now → IsMixed (k + 1) old contents choice (put_sector k bytes now)
-mixed-put k old contents choice now bytes mixed is same within = record {
-  chosen = below_more (λ j. sector j (put_sector k bytes now) ≡ sector j (version (old ∷ contents) (get_or choice j 0))) k
-      (λ j less. put_sector-below k bytes now same within j less ∙ mixed.chosen j less)
-      (put_sector-same k bytes now same within ∙ ap (sector k) (sym is));
-  rest = λ j above. put_sector-above k bytes now same within j (omega (arith, above)) ∙ mixed.rest j (omega (arith, above));
-}
+  -- a sector that takes another block's
+  pub picked-put : (y : List ℕ) → length y ≡ length now → 512 * n + 512 ≤ length now → P n (sector n y) → IsPicked (n + 1) P old (put_sector n y now)
+  picked-put y same within has = record {
+    chosen = below_more (λ k. P k (sector k (put_sector n y now))) n
+        (λ k less. subst (P k) (sym (put_sector-below n y now same within k less)) (so.chosen k less)) (subst (P n) (sym (put_sector-same n y now same within)) has);
+    rest = λ k above. put_sector-above n y now same within k (omega (arith, above)) ∙ so.rest k (omega (arith, above));
+  }
+
+-- where some block has what is wanted of each sector, one has it of all
+pub picked : (sectors n : ℕ) (P : ℕ → List ℕ → Type 0) (old : List ℕ) → n ≤ sectors → length old ≡ 512 * sectors
+    → ((k : ℕ) → k < n → (y : List ℕ) × (length y ≡ 512 * sectors) × P k (sector k y)) → (x : List ℕ) × (length x ≡ 512 * sectors) × IsPicked n P old x
+picked sectors zero P old few size from = (old, size, record { chosen = λ k below. absurd (let h : ⊥ = omega (arith, below) in h); rest = λ k above. refl })
+picked sectors (suc n) P old few size from =
+    let before : (x : List ℕ) × (length x ≡ 512 * sectors) × IsPicked n P old x = picked sectors n P old (omega (arith, few)) size (λ k below. from k (omega (arith, below))) in
+    let one : (y : List ℕ) × (length y ≡ 512 * sectors) × P n (sector n y) = from n (omega arith) in
+    let same : length one.0 ≡ length before.0 = one.1 ∙ sym before.1 in
+    let within : 512 * n + 512 ≤ length before.0 = omega (arith, before.1, few) in (
+      put_sector n one.0 before.0,
+      length-put_sector n one.0 before.0 same within ∙ before.1,
+      subst (λ m. IsPicked m P old (put_sector n one.0 before.0)) (let h : n + 1 ≡ suc n = omega arith in h) (picked-put before.2 one.0 same within one.2),
+    )
 
 pub version-later : (old : List ℕ) (writes : List (Bor (List ℕ))) (number : ℕ) (d : Bor (List ℕ)) → (number % (length writes + 1) ≡ 0 → ⊥)
     → version (old ∷ bytes_of_writes writes) number ≡ (get_or writes (number % (length writes + 1) - 1) d).now

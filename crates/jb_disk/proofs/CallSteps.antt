@@ -1,6 +1,6 @@
 -- Runs of calls, and runs as steps, for any disk: what the crates above cite for each call, each loop and each way out.
-use Rattle.std.proofs.Common.{◌≡◌, ◌≤◌, ℕ, List, refl, sym, subst, inl, inr, ⊎_elim, arith}
-use Rattle.jb_disk.specs.Image.{Image, Torn, Same, Only}
+use Rattle.std.proofs.Common.{◌≤◌, ℕ, refl, sym, subst, inl, inr, ⊎_elim, arith}
+use Rattle.jb_disk.specs.Image.{Image, Same, Only}
 use Rattle.jb_disk.specs.Time.{Goes, LeavesOnly}
 use Rattle.jb_disk.specs.Steps.{Steps}
 use Rattle.jb_disk.specs.Throughout.{AllHave, Throughout}
@@ -47,11 +47,6 @@ module _ {D : Type 0} (may_leave : D → Image → Type 0) (moment : D → ℕ) 
             (second.nothing_else t c (omega (arith, earlier, first.later)) left);
         keeps = λ t c earlier left. second.keeps t c (omega (arith, earlier, first.later)) (first.keeps t c earlier left);
       }
-
-  -- a read and then a write of what was made of it
-  pub goes-written : (place : ℕ) (bytes want : List ℕ) (old mid new : D) → bytes ≡ want → CountsNow old → Goes may_leave moment left_since Same old mid → Goes may_leave moment left_since (Torn place bytes) mid new → Goes may_leave moment left_since (Torn place want) old new
-  goes-written place bytes want old mid new is counts_now first second =
-      goes-on (Torn place want) old mid new counts_now first (subst (λ b. Goes may_leave moment left_since (Torn place b) mid new) is second)
 
   -- ---- a run
 

@@ -1,12 +1,60 @@
--- What one call of a file as a disk comes to, from the record that has it as its newest.
-use Rattle.std.proofs.Common.{◌≡◌, ◌<◌, ℕ, ◌*◌, Bool, true, false, List, [], ◌∷◌, length, set, refl, sym, subst, arith, Result, Ok, Err, is_ok, OnOk}
+-- A call of a file that is noted: what it means for a block or a run, and for what a crash may leave.
+use Rattle.std.proofs.Common.{◌≡◌, ◌≢◌, ◌<◌, ℕ, ◌*◌, Bool, true, false, List, [], ◌∷◌, length, take, drop, set, refl, sym, ◌∙◌, subst, inl, inr, ⊎_elim, ap, add-zero, arith, take_all, Result, Ok, Err, is_ok, OnOk}
 use Rattle.std.proofs.lemmas.Result.{on_ok_weaker}
 use Rattle.jb_disk.specs.Image.{Image, block, Torn, HasShape}
-use Rattle.jb_disk.specs.Runs.{ReadsRun, TornRun}
-use Rattle.jb_disk.specs.Events.{Event, InBlocks, Makes, Agree, LeftBy, Leaves, IsHonestFile, read, write_event, sync_event}
+use Rattle.jb_disk.specs.Runs.{IsOutside, ReadsRun, WroteRun, TornRun, part}
+use Rattle.jb_disk.specs.Time.{Goes}
+use Rattle.jb_disk.specs.Events.{Event, InBlocks, Makes, Agree, LeftBy, Leaves, LeftFrom, IsHonestFile, read, write_event, sync_event}
 use Rattle.jb_disk.specs.RecordLaws.{torn_of_wrote, newest_left}
-use Rattle.jb_disk.proofs.NotedCalls.{read_one, torn_one, wrote_one}
 use Rattle.jb_disk.specs.declared.fault.Fault.{Fault}
+use Rattle.jb_disk.proofs.RunWrites.{wrote_run-more, wrote_run-none, wrote_run-one}
+
+-- ---- a run of one block
+
+part_one : (size : ℕ) (bytes : List ℕ) → length bytes ≡ size → part size 0 bytes ≡ bytes
+part_one size bytes long =
+    ap (λ n. take size (drop n bytes)) (let h : size * 0 ≡ 0 = omega arith in h)
+    ∙ take_all size bytes (omega (arith, long))
+
+-- a run of one block that is read is the block
+pub read_one : (size place : ℕ) (c : Image) (bytes : List ℕ) → length bytes ≡ size → ReadsRun size 1 place c bytes → bytes ≡ block c place
+read_one size place c bytes long found =
+    sym (part_one size bytes long) ∙ found 0 (omega arith) ∙ ap (block c) (add-zero place)
+
+others : (place p : ℕ) → p ≢ place → IsOutside 1 place p
+others place p other k below = λ same. other (omega (arith, below, same))
+
+-- one that is torn is a torn block
+pub torn_one : (size place : ℕ) (bytes : List ℕ) (old new : Image) → length bytes ≡ size → TornRun size 1 place bytes old new → Torn place bytes old new
+torn_one size place bytes old new long torn = record {
+  count = torn.count;
+  elsewhere = λ p other. torn.elsewhere p (others place p other);
+  size = torn.sizes place;
+  sectors = λ k. rw (add-zero place, part_one size bytes long) at (torn.sectors 0 k (omega arith));
+}
+
+-- one that is written is a block that is set
+pub wrote_one : (size place : ℕ) (bytes : List ℕ) (old new : Image) → length bytes ≡ size → place < length old → WroteRun size 1 place bytes old new → new ≡ set old place bytes
+wrote_one size place bytes old new long inside wrote =
+    wrote_run-one size 1 place bytes old new (set old place bytes) wrote
+    (wrote_run-more size 0 place bytes old old (set old place bytes) (omega (arith, inside)) (wrote_run-none size place bytes old) (rw (add-zero place, part_one size bytes long) refl))
+
+-- ---- the calls of a disk whose record grows
+
+module _ {D : Type 0} (size : D → ℕ) (content : ℕ → Image) (events : D → List Event) where
+  -- what a crash may leave goes on as the call lets it
+  pub goes_event : (step : Image → Image → Type 0) (old new : D) (e : Event) → size new ≡ size old → events new ≡ e ∷ events old
+      → ((c : Image) → LeftBy (size old) e.0 e.1 e.2 e.3 (content (length (events old))) (Leaves (size old) content (events old)) c
+      → (d : Image) × Leaves (size old) content (events old) d × step d c)
+      → Goes (λ d. Leaves (size d) content (events d)) (λ d. length (events d)) (λ d. LeftFrom (size d) content (events d)) step old new
+  goes_event step old new e same noted comes = record {
+    crash = λ c now. comes c (rw (same, noted) at now);
+    later = omega (arith, ap length noted);
+    nothing_else = λ t c earlier left. rw (same, noted) (⊎_elim (λ now. inr now.1) inl (rw (same, noted) at left));
+    keeps = λ t c earlier left. rw (same, noted) (inr left);
+  }
+
+-- ---- the newest call of a record
 
 -- what holds of a call that succeeded
 on_ok : (P : Type 0) (r : Result Unit Fault) (ok : Bool) → is_ok r ≡ ok → (ok ≡ true → P) → OnOk r P
@@ -34,28 +82,23 @@ module _ (size count : ℕ) (content : ℕ → Image) (older events : List Event
   tears at true bytes shapes makes = λ place n here long. torn_of_wrote count size n place bytes old new (shapes (length older)) (shapes (length events)) (makes place n here long)
   tears at false bytes shapes makes = makes
 
-  pub found_run : (place n at : ℕ) (ok : Bool) (bytes : List ℕ) (r : Result Unit Fault) → is_ok r ≡ ok → at ≡ place * size → length bytes ≡ size * n
-      → events ≡ read at ok bytes ∷ older → IsHonestFile size count content events → OnOk r (ReadsRun size n place old bytes)
-  found_run place n at ok bytes r is here long are honest = on_ok (ReadsRun size n place old bytes) r ok is
-      (λ yes. (rw yes at (made 0 at ok bytes are honest)).1 place n here long)
+  -- a call at a place
+  module _ (place at : ℕ) (ok : Bool) (bytes : List ℕ) (here : at ≡ place * size) (honest : IsHonestFile size count content events) where
+    pub found_run : (n : ℕ) (r : Result Unit Fault) → is_ok r ≡ ok → length bytes ≡ size * n → events ≡ read at ok bytes ∷ older → OnOk r (ReadsRun size n place old bytes)
+    found_run n r is long are = on_ok (ReadsRun size n place old bytes) r ok is (λ yes. (rw yes at (made 0 at ok bytes are honest)).1 place n here long)
 
-  pub found_block : (place at : ℕ) (ok : Bool) (bytes : List ℕ) (r : Result Unit Fault) → is_ok r ≡ ok → at ≡ place * size → length bytes ≡ size
-      → events ≡ read at ok bytes ∷ older → IsHonestFile size count content events → OnOk r (bytes ≡ block old place)
-  found_block place at ok bytes r is here long are honest =
-      on_ok_weaker r (read_one size place old bytes long) (found_run place 1 at ok bytes r is here (omega (arith, long)) are honest)
+    pub found_block : (r : Result Unit Fault) → is_ok r ≡ ok → length bytes ≡ size → events ≡ read at ok bytes ∷ older → OnOk r (bytes ≡ block old place)
+    found_block r is long are = on_ok_weaker r (read_one size place old bytes long) (found_run 1 r is (omega (arith, long)) are)
 
-  pub written_block : (place at : ℕ) (ok : Bool) (bytes : List ℕ) (r : Result Unit Fault) → is_ok r ≡ ok → at ≡ place * size → length bytes ≡ size → place < count
-      → events ≡ write_event at ok bytes ∷ older → IsHonestFile size count content events → OnOk r (new ≡ set old place bytes)
-  written_block place at ok bytes r is here long inside are honest = on_ok (new ≡ set old place bytes) r ok is
-      (λ yes. wrote_one size place bytes old new long (omega (arith, inside, (honest.0 (length older)).blocks)) ((rw yes at (made 1 at ok bytes are honest)) place 1 here (omega (arith, long))))
+    pub written_block : (r : Result Unit Fault) → is_ok r ≡ ok → length bytes ≡ size → place < count → events ≡ write_event at ok bytes ∷ older → OnOk r (new ≡ set old place bytes)
+    written_block r is long inside are = on_ok (new ≡ set old place bytes) r ok is
+        (λ yes. wrote_one size place bytes old new long (omega (arith, inside, (honest.0 (length older)).blocks)) ((rw yes at (made 1 at ok bytes are honest)) place 1 here (omega (arith, long))))
 
-  pub torn_file : (place n at : ℕ) (ok : Bool) (bytes : List ℕ) → at ≡ place * size → length bytes ≡ size * n → events ≡ write_event at ok bytes ∷ older
-      → IsHonestFile size count content events → TornRun size n place bytes old new
-  torn_file place n at ok bytes here long are honest = tears at ok bytes honest.0 (made 1 at ok bytes are honest) place n here long
+    pub torn_file : (n : ℕ) → length bytes ≡ size * n → events ≡ write_event at ok bytes ∷ older → TornRun size n place bytes old new
+    torn_file n long are = tears at ok bytes honest.0 (made 1 at ok bytes are honest) place n here long
 
-  pub torn_block : (place at : ℕ) (ok : Bool) (bytes : List ℕ) → at ≡ place * size → length bytes ≡ size → events ≡ write_event at ok bytes ∷ older
-      → IsHonestFile size count content events → Torn place bytes old new
-  torn_block place at ok bytes here long are honest = torn_one size place bytes old new long (torn_file place 1 at ok bytes here (omega (arith, long)) are honest)
+    pub torn_block : length bytes ≡ size → events ≡ write_event at ok bytes ∷ older → Torn place bytes old new
+    torn_block long are = torn_one size place bytes old new long (torn_file 1 (omega (arith, long)) are)
 
   -- what a sync leaves could be left before it
   comes_synced : (ok : Bool) (before : Image → Type 0) (c : Image) → before old → LeftBy size 2 0 ok [] old before c → (d : Image) × before d × (c ≡ d)

@@ -1,9 +1,8 @@
 -- How the blocks of an image take their versions, block by block.
-use Rattle.std.proofs.Common.{◌≡◌, ◌≢◌, ◌<◌, ◌≤◌, ℕ, ◌+◌, ◌*◌, ◌%◌, List, [], ◌∷◌, length, get_or, set, take, drop, ◌++◌, refl, sym, ◌∙◌, ap, below_more, arith, add-one, add-zero, Vec, Global, Bor, ◌==◌, true, false, get_or-set_same, get_or-set_other}
+use Rattle.std.proofs.Common.{◌≡◌, ◌≢◌, ◌<◌, ◌≤◌, ℕ, ◌+◌, ◌*◌, ◌%◌, List, [], ◌∷◌, length, get_or, set, drop, refl, sym, ◌∙◌, ap, below_more, arith, add-one, add-zero, Vec, Global, Bor, ◌==◌, true, false, get_or-set_same, get_or-set_other}
 use Rattle.std.proofs.lemmas.List.{drop-drop, get_or-drop, get_or-map}
 use Rattle.std.proofs.lemmas.Bool.Decides.{nat_tests}
 use Rattle.std.proofs.lemmas.Nat.{mod_below}
-use Rattle.std.proofs.Math.Seq.{take-append_seam}
 use Rattle.jb_disk.specs.Image.{Image, block, sector, HasShape}
 use Rattle.jb_disk.specs.CrashWrites.{bytes_of_writes, table_of, writes_at, any_below}
 use Rattle.jb_disk.specs.Versions.{version, one_if_any}
@@ -72,7 +71,3 @@ none_here (w ∷ writes) empty = absurd (let h : ⊥ = grind (arith, nat_tests) 
 pub some_here : (writes : List (Bor (List ℕ))) → (length writes == 0) ≡ false → one_if_any (bytes_of_writes writes) ≡ 1
 some_here [] some = absurd (let h : ⊥ = cc in h)
 some_here (w ∷ writes) some = refl
-
--- what a call wrote to the slice of a `Vec` is what the `Vec` holds
-pub written_back : {X : Type 0} (n : ℕ) (xs ys : List X) → n ≡ length xs → take n (xs ++ ys) ≡ xs
-written_back n xs ys size = ap (λ m. take m (xs ++ ys)) size ∙ take-append_seam xs ys

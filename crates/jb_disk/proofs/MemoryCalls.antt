@@ -1,11 +1,59 @@
--- How the life of a disk in memory goes on.
-use Rattle.std.proofs.Common.{◌≡◌, ℕ, List, ◌∷◌, length, inl, inr, ⊎_elim, arith}
+-- The buffers of a disk in memory hold the blocks of its newest content, and how its life goes on by its calls.
+use Rattle.std.proofs.Common.{◌≡◌, ◌<◌, ℕ, List, [], ◌∷◌, length, get_or, set, sym, ◌∙◌, ap, subst, arith, Vec, Global, vec_len, inl, inr, ⊎_elim}
+use Rattle.std.proofs.lemmas.List.{length-map, get_or-map, map-set}
 use Rattle.jb_block.specs.Size.{bytes_of}
-use Rattle.jb_disk.specs.Image.{Same, Torn}
+use Rattle.jb_disk.specs.Image.{Image, block, HasShape, Same, Torn}
+use Rattle.jb_disk.specs.Calls.{image_of, steps_of}
+use Rattle.jb_disk.specs.History.{History, Wrote, IsHistorySound, newest_of, Synced, replay, MayLeave, LeftSince}
+use Rattle.jb_disk.specs.Lives.{replay_shape, newest_stays}
+use Rattle.jb_disk.specs.Memory.{history_of, IsHistoryKept}
+use Rattle.jb_disk.specs.declared.memory.MemoryDisk.TheInside.{Inside}
+use Rattle.jb_disk.specs.declared.memory.Call.{Call}
+use Rattle.std.specs.Vec.{with_item}
 use Rattle.jb_disk.specs.Time.{Goes}
-use Rattle.jb_disk.specs.History.{History, Synced, replay, MayLeave, LeftSince, IsHistorySound}
 use Rattle.jb_disk.specs.Writes.{torn_same}
-use Rattle.jb_disk.specs.Lives.{newest_stays}
+
+-- as many buffers as blocks
+pub buffers_count : (count size : ℕ) (c : Image) (buffers : List (Vec ℕ Global)) → HasShape count size c → image_of buffers ≡ c → length buffers ≡ count
+buffers_count count size c buffers shape is = sym (length-map buffers (λ b. b.items)) ∙ ap length is ∙ shape.blocks
+
+-- the buffer at a place holds the block there
+pub buffer_at : (count size : ℕ) (c : Image) (buffers : List (Vec ℕ Global)) (place : ℕ) (b : Vec ℕ Global) → HasShape count size c → image_of buffers ≡ c → place < count → b ≡ get_or buffers place b → b.items ≡ block c place
+buffer_at count size c buffers place b shape is inside here =
+    let within : place < length buffers = omega (arith, buffers_count count size c buffers shape is, inside) in
+    ap (λ v. v.items) here ∙ sym (get_or-map (λ v. v.items) buffers place b [] within) ∙ ap (λ image. block image place) is
+
+-- the newest content has the disk's shape
+newest_shape : (h : History) → IsHistorySound h → HasShape h.count (bytes_of h.size) (newest_of h)
+newest_shape h sound = replay_shape h.count (bytes_of h.size) h.first h.steps sound.shape sound.whole
+
+module _ {a : Inside} {h : History} (kept : IsHistoryKept a) (view : history_of a ≡ h) where
+  pub kept_sound : IsHistorySound h
+  kept_sound = subst IsHistorySound view kept.sound
+
+  pub kept_count : vec_len a.newest ≡ h.count
+  kept_count =
+      a.newest.ok.0 ∙ buffers_count (history_of a).count (bytes_of a.size) (newest_of (history_of a)) a.newest.items (newest_shape (history_of a) kept.sound) kept.newest
+      ∙ ap (λ g. g.count) view
+
+  pub kept_size : (place : ℕ) → place < h.count → length (block (newest_of h) place) ≡ bytes_of h.size
+  kept_size = (newest_shape h kept_sound).bytes
+
+  pub kept_buffer : (place : ℕ) (b : Vec ℕ Global) → place < h.count → b ≡ get_or a.newest.items place b → b.items ≡ block (newest_of h) place
+  kept_buffer place b inside here =
+      buffer_at h.count (bytes_of h.size) (newest_of h) a.newest.items place b (newest_shape h kept_sound) (kept.newest ∙ ap newest_of view) inside here
+
+-- a write kept in both lists
+pub kept_written : {a : Inside} {h : History} → IsHistoryKept a → history_of a ≡ h → (place : ℕ) (bytes : List ℕ) (new : Vec ℕ Global) (calls : Vec Call Global) →
+    place < h.count → length bytes ≡ bytes_of h.size → new.items ≡ bytes → steps_of calls.items ≡ Wrote place bytes ∷ steps_of a.calls.items →
+    IsHistoryKept (record a { newest = with_item a.newest place new; calls = calls })
+kept_written {a} kept view place bytes new calls inside whole is noted = record {
+  sound = record {
+    shape = kept.sound.shape;
+    whole = rw noted (subst (λ n. place < n) (sym (ap (λ g. g.count) view)) inside, whole ∙ sym (ap (λ g. bytes_of g.size) view), kept.sound.whole);
+  };
+  newest = rw noted (map-set (λ b. b.items) a.newest.items place new ∙ ap (λ b. set (image_of a.newest.items) place b) is ∙ ap (λ image. set image place bytes) kept.newest);
+}
 
 -- a sync leaves one of the images that were there
 pub goes_synced : (old new : History) → IsHistorySound old → new.first ≡ old.first → new.steps ≡ Synced ∷ old.steps →

@@ -15,9 +15,9 @@ use Rattle.jb_disk.specs.declared.fault.Fault.{Fault}
 
 -- ---- a buffer of blocks
 
--- a block is in the front of the buffer that ends with it
-part-front : (size k : ℕ) (bytes : List ℕ) → part size k bytes ≡ drop (size * k) (take (size * k + size) bytes)
-part-front size k bytes = sym (drop-take (size * k) size bytes)
+-- a block is that of a buffer with the same bytes up to its end
+part-same : (size k : ℕ) (xs ys : List ℕ) → take (size * k + size) xs ≡ take (size * k + size) ys → part size k xs ≡ part size k ys
+part-same size k xs ys same = sym (drop-take (size * k) size xs) ∙ ap (drop (size * k)) same ∙ drop-take (size * k) size ys
 
 -- the block that was read is there
 pub part-put : (size k m : ℕ) (to ys : List ℕ) → m ≡ size → length ys ≡ size → size * k + size ≤ length to → part size k (put_mid (size * k) m to ys) ≡ ys
@@ -29,22 +29,17 @@ part-put size k m to ys is long within =
 pub part-before : (size j k m : ℕ) (to ys : List ℕ) → j < k → size * k ≤ length to → part size j (put_mid (size * k) m to ys) ≡ part size j to
 part-before size j k m to ys below within =
     let up : size * j + size ≤ size * k = grind (arith, below) in
-    part-front size j (put_mid (size * k) m to ys)
-    ∙ ap (drop (size * j)) (take-put_mid_below (size * k) m to ys (size * j + size) up within)
-    ∙ sym (part-front size j to)
+    part-same size j (put_mid (size * k) m to ys) to (take-put_mid_below (size * k) m to ys (size * j + size) up within)
 
 -- the blocks of a buffer's front are those of the buffer
 pub part-front_of : (size n k : ℕ) (bytes : List ℕ) → k < n → part size k bytes ≡ part size k (take (size * n) bytes)
 part-front_of size n k bytes below =
     let up : size * k + size ≤ size * n = grind (arith, below) in
-    part-front size k bytes
-    ∙ ap (drop (size * k)) (sym (take-take (size * k + size) (size * n) bytes up))
-    ∙ sym (part-front size k (take (size * n) bytes))
+    part-same size k bytes (take (size * n) bytes) (sym (take-take (size * k + size) (size * n) bytes up))
 
 -- what is behind the blocks does not matter
 pub part-append : (size k : ℕ) (xs ys : List ℕ) → size * k + size ≤ length xs → part size k (xs ++ ys) ≡ part size k xs
-part-append size k xs ys within =
-    part-front size k (xs ++ ys) ∙ ap (drop (size * k)) (take-append-le (size * k + size) xs ys within) ∙ sym (part-front size k xs)
+part-append size k xs ys within = part-same size k (xs ++ ys) xs (take-append-le (size * k + size) xs ys within)
 
 -- one block more is read
 pub reads-more : (size n place m : ℕ) (c : Image) (to ys : List ℕ) → m ≡ size → length ys ≡ size → size * n + size ≤ length to

@@ -1,8 +1,9 @@
 -- Blocks by their sectors.
-use Rattle.std.proofs.Common.{◌≡◌, ◌<◌, ◌≤◌, ℕ, zero, suc, ◌+◌, ◌-◌, ◌*◌, List, ◌++◌, length, take, drop, refl, sym, ◌∙◌, ap, arith, length-append, length-drop}
+use Rattle.std.proofs.Common.{◌≡◌, ◌<◌, ◌≤◌, ℕ, zero, suc, ◌+◌, ◌-◌, ◌*◌, List, ◌++◌, length, take, drop, refl, sym, ◌∙◌, ap, arith, length-drop}
 use Rattle.std.proofs.lemmas.List.{nil_from_length, drop-drop, take-append-drop, length-take-le}
 use Rattle.std.proofs.lemmas.Slice.{drop-put_mid}
 use borrow.Rule.Slice.PartMut.{put_mid}
+use Rattle.jb_block.proofs.Overwrites.{length-overwritten}
 use Rattle.jb_disk.specs.Image.{sector}
 use Rattle.jb_disk.specs.CrashWrites.{put_sector}
 use Rattle.jb_disk.proofs.RunReads.{part-before, part-put}
@@ -20,14 +21,9 @@ module _ (k : ℕ) (from to : List ℕ) (same : length from ≡ length to) (with
   length-sector = length-take-le 512 (drop (512 * k) from) (omega (arith, length-drop (512 * k) from, same, within))
 
   pub length-put_sector : length (put_sector k from to) ≡ length to
-  length-put_sector = omega (
-    arith,
-    length-append (take (512 * k) to) (sector k from ++ drop (512 * k + 512) to),
-    length-append (sector k from) (drop (512 * k + 512) to),
-    length-take-le (512 * k) to (omega (arith, within)),
-    length-sector,
-    length-drop (512 * k + 512) to,
-  )
+  length-put_sector =
+      ap (λ n. length (take (512 * k) to ++ (sector k from ++ drop (512 * k + n) to))) (sym length-sector)
+      ∙ length-overwritten to (sector k from) (512 * k) (omega (arith, length-sector, within))
 
   -- the sector is the other's
   pub put_sector-same : sector k (put_sector k from to) ≡ sector k from

@@ -1,4 +1,4 @@
-use Rattle.jb_disk.proofs.CrashChoices.{left-versions, left-chosen}
+use Rattle.jb_disk.proofs.CrashImage.{left-versions, left-chosen}
 use Rattle.jb_disk.proofs.laws.crash.Goals as goal
 
 pub returns : goal.returns

@@ -1,8 +1,6 @@
-use Rattle.std.proofs.Common.{◌≡◌, length, ◌∙◌, sym, ap, subst}
+use Rattle.std.proofs.Common.{◌≡◌, length, ◌∙◌, sym, ap}
 use Rattle.std.proofs.lemmas.List.{length-map}
-use Rattle.jb_disk.specs.Calls.{steps_of, image_of}
-use Rattle.jb_disk.specs.History.{AreWhole}
-use Rattle.jb_disk.specs.Image.{HasShape}
+use Rattle.jb_disk.specs.Calls.{image_of}
 use Rattle.jb_disk.proofs.sector.synced_image.Goals as goal
 
 pub replay_calls-requires : goal.replay_calls-requires
@@ -11,6 +9,6 @@ replay_calls-requires c =
     let count : length c.deref_mut.result.now ≡ length c.args.first.now
     = sym (length-map c.deref_mut.result.now (λ b. b.items)) ∙ ap length image ∙ length-map c.args.first.now (λ b. b.items) in (
       c.requires.0,
-      subst (λ n. HasShape n c.requires.0 (image_of c.deref_mut.result.now)) (sym count) (subst (HasShape (length c.args.first.now) c.requires.0) (sym image) c.requires.1),
-      subst (λ n. AreWhole n c.requires.0 (steps_of c.args.calls.now)) (sym count) c.requires.2,
+      rw (count, image) c.requires.1,
+      rw count c.requires.2,
     )

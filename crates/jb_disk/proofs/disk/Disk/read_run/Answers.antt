@@ -1,8 +1,6 @@
-use Rattle.std.proofs.Common.{◌≡◌, ◌<◌, ◌≤◌, ◌*◌, ◌+◌, ◌-◌, length, refl, ◌∙◌, sym, ap, subst, rules, arith, IsOk}
-use borrow.Rule.Slice.PartMut.{put_mid}
+use Rattle.std.proofs.Common.{◌≡◌, ◌<◌, ◌≤◌, ◌*◌, ◌+◌, length, refl, ◌∙◌, sym, ap, subst, rules, arith, IsOk}
 use Rattle.jb_disk.specs.OneCall.{Reads}
-use Rattle.jb_disk.specs.Image.{block, Same}
-use Rattle.jb_disk.specs.Runs.{ReadsRun}
+use Rattle.jb_disk.specs.Image.{block}
 use Rattle.jb_disk.proofs.KeptOverCalls.{kept_ok}
 use Rattle.jb_disk.proofs.RunReads.{made-more, not_spent, reads-more}
 use Rattle.jb_disk.proofs.CallSteps.{goes-on}
@@ -27,15 +25,12 @@ loop-k-preserved g c =
       made = made-more G.own (λ j. Reads (c.args.place + j)) k old now c.read.new.self so.made c.in_ok-read.ensures.own;
       found = λ honest.
           let was = c.read.ensures.kept.was_honest honest in
-          subst (λ s. ReadsRun s (k + 1) c.args.place (G.newest old) (put_mid (bytes * k) (bytes * k + bytes - bytes * k) buf c.read.new.buf)) size
-          (reads-more bytes k c.args.place (bytes * k + bytes - bytes * k) (G.newest old) buf c.read.new.buf (omega arith) long within
-          (subst (λ s. ReadsRun s k c.args.place (G.newest old) buf) (sym size) (so.found was))
+          rw (← size) (reads-more bytes k c.args.place _ (G.newest old) buf c.read.new.buf (omega arith) long within (rw (← size) at so.found was)
           (c.in_ok-read.ensures.found honest ∙ ap (λ d. block d (c.args.place + k)) (so.same_newest was)));
       same_newest = λ honest. c.read.ensures.newest honest ∙ so.same_newest (c.read.ensures.kept.was_honest honest);
       goes = λ honest.
           let was = c.read.ensures.kept.was_honest honest in
-          goes-on G.may_leave G.moment G.left_since Same old now c.read.new.self (λ t d earlier left. g.met.Self.Disk.counts_now old t d (so.kept.was_honest was) earlier left)
-          (so.goes was) (c.read.ensures.goes honest);
+          goes-on _ _ _ _ _ _ _ (λ t d earlier left. g.met.Self.Disk.counts_now old t d (so.kept.was_honest was) earlier left) (so.goes was) (c.read.ensures.goes honest);
       untried = λ none. absurd (let h : ⊥ = omega (arith, none) in h);
       passed = λ some. not_spent G k old now c.read.result so.untried so.passed (λ burnt. (c.read.ensures.spent burnt).0) (subst IsOk (sym c.in_ok-read.was) refl);
     }

@@ -9,12 +9,8 @@ use Rattle.jb_disk.proofs.file.FileDiskDisk.read_run.Goals as goal
 
 pub returns-clause-found : goal.returns-clause-found
 returns-clause-found g c = λ honest.
-    let f = c.args.self.now in
-    let buf = c.read_at-succeeded.new.buf in
-    let long : length buf ≡ bytes_of f.size * c.args._blocks = search rules in
-    let here = c.offset_of-at.ensures in
-    found_run (bytes_of f.size) f.blocks g.S.Start.content f.host.log.events c.read_at-succeeded.new.self.log.events
-    c.args.place c.args._blocks c.offset_of-at.result c.read_at-succeeded.result buf c.settle.result c.settle.ensures.variant here long c.read_at-succeeded.ensures honest
+    let long : length c.read_at-succeeded.new.buf ≡ bytes_of c.args.self.now.size * c.args._blocks = search rules in
+    found_run _ _ _ _ _ c.args.place _ _ _ c.offset_of-at.ensures honest c.args._blocks _ c.settle.ensures.variant long c.read_at-succeeded.ensures
 
 pub returns-clause-own : goal.returns-clause-own
 returns-clause-own g c = λ _.

@@ -3,8 +3,7 @@ use Rattle.jb_block.specs.Size.{bytes_of}
 use Rattle.jb_disk.specs.Events.{sync_event}
 use Rattle.jb_disk.specs.File.{size_of_blocks, events_of}
 use Rattle.jb_disk.specs.Image.{Same}
-use Rattle.jb_disk.proofs.FileCalls.{synced_from}
-use Rattle.jb_disk.proofs.NotedCalls.{goes_event}
+use Rattle.jb_disk.proofs.FileCalls.{goes_event, synced_from}
 use Rattle.jb_disk.proofs.file.FileDiskDisk.sync.Goals as goal
 
 pub returns-clause-goes : goal.returns-clause-goes

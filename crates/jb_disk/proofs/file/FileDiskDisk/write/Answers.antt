@@ -3,23 +3,15 @@ use Rattle.jb_block.specs.Size.{bytes_of}
 use Rattle.jb_disk.specs.Events.{write_event}
 use Rattle.jb_disk.specs.File.{size_of_blocks, events_of}
 use Rattle.jb_disk.specs.Image.{Torn}
-use Rattle.jb_disk.proofs.FileCalls.{written_block, torn_block}
-use Rattle.jb_disk.proofs.NotedCalls.{goes_event, torn_one}
+use Rattle.jb_disk.proofs.FileCalls.{goes_event, torn_block, torn_one, written_block}
 use Rattle.jb_disk.proofs.file.FileDiskDisk.write.Goals as goal
 
 pub returns-clause-written : goal.returns-clause-written
 returns-clause-written g c = λ honest.
-    let f = c.args.self.now in
-    let here = c.offset_of-at.ensures in
-    written_block (bytes_of f.size) f.blocks g.S.Start.content f.host.log.events c.write_at-succeeded.new.self.log.events
-    c.args.place c.offset_of-at.result c.write_at-succeeded.result c.args.bytes.now c.settle.result c.settle.ensures.variant here c.requires.block c.requires.place c.write_at-succeeded.ensures honest
+    written_block _ _ _ _ _ c.args.place _ _ _ c.offset_of-at.ensures honest _ c.settle.ensures.variant c.requires.block c.requires.place c.write_at-succeeded.ensures
 
 pub returns-clause-torn : goal.returns-clause-torn
-returns-clause-torn g c = λ honest.
-    let f = c.args.self.now in
-    let here = c.offset_of-at.ensures in
-    torn_block (bytes_of f.size) f.blocks g.S.Start.content f.host.log.events c.write_at-succeeded.new.self.log.events
-    c.args.place c.offset_of-at.result c.write_at-succeeded.result c.args.bytes.now here c.requires.block c.write_at-succeeded.ensures honest
+returns-clause-torn g c = λ honest. torn_block _ _ _ _ _ c.args.place _ _ _ c.offset_of-at.ensures honest c.requires.block c.write_at-succeeded.ensures
 
 pub returns-clause-goes : goal.returns-clause-goes
 returns-clause-goes g c = λ honest.

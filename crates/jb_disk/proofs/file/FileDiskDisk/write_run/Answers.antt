@@ -6,11 +6,10 @@ use Rattle.jb_disk.specs.Events.{Leaves, LeftFrom, write_event}
 use Rattle.jb_disk.specs.Faults.{CountsOne}
 use Rattle.jb_disk.specs.File.{faults_of, size_of_blocks, events_of}
 use Rattle.jb_disk.specs.Runs.{part, TornRun}
-use Rattle.jb_disk.proofs.FileCalls.{torn_file}
+use Rattle.jb_disk.proofs.FileCalls.{goes_event, torn_file}
 use Rattle.jb_disk.proofs.RunWrites.{torn_run-same}
 use Rattle.jb_disk.proofs.RunReads.{made-once}
 use Rattle.jb_disk.proofs.CallSteps.{steps-goes}
-use Rattle.jb_disk.proofs.NotedCalls.{goes_event}
 use Rattle.jb_disk.proofs.file.FileDiskDisk.write_run.Goals as goal
 
 pub returns-clause-steps : goal.returns-clause-steps
@@ -31,10 +30,7 @@ returns-clause-steps g c = λ honest.
     (λ d left. (left.0, left.1, left.3 place n here c.requires.run.long)))
 
 pub returns-clause-torn : goal.returns-clause-torn
-returns-clause-torn g c = λ honest.
-    let f = c.args.self.now in
-    torn_file (bytes_of f.size) f.blocks g.S.Start.content f.host.log.events c.write_at-succeeded.new.self.log.events
-    c.args.place c.args._blocks c.offset_of-at.result c.write_at-succeeded.result c.args.bytes.now c.offset_of-at.ensures c.requires.run.long c.write_at-succeeded.ensures honest
+returns-clause-torn g c = λ honest. torn_file _ _ _ _ _ c.args.place _ _ _ c.offset_of-at.ensures honest c.args._blocks c.requires.run.long c.write_at-succeeded.ensures
 
 pub returns-clause-own : goal.returns-clause-own
 returns-clause-own g c = λ _.

@@ -1,22 +1,20 @@
 use Rattle.std.proofs.Common.{length, arith, sym, ◌∙◌, ap, map, reverse}
-use Rattle.jb_disk.proofs.MemoryBuffers.{kept_count, kept_size, kept_buffer, kept_written}
+use Rattle.jb_disk.proofs.MemoryCalls.{kept_count, kept_size, kept_buffer, kept_written, goes_refused}
 use Rattle.jb_disk.specs.Calls.{history_step}
-use Rattle.jb_disk.proofs.MemoryCalls.{goes_refused}
 use Rattle.jb_disk.proofs.memory.MemoryDiskDisk.write.Goals as goal
 
 pub index_mut-requires : goal.index_mut-requires
-index_mut-requires c =
-    omega (arith, kept_count c.self.inside c.self.invariant c.args.self.now c.self.view_is, c.requires.place)
+index_mut-requires c = omega (arith, kept_count c.self.invariant c.self.view_is, c.requires.place)
 
 pub copy_from_slice-requires : goal.copy_from_slice-requires
 copy_from_slice-requires c =
-    let here = kept_buffer c.self.inside c.self.invariant c.args.self.now c.self.view_is c.args.place c.index_mut.result.now c.requires.place c.index_mut.ensures.value in
-    let size = kept_size c.self.inside c.self.invariant c.args.self.now c.self.view_is c.args.place c.requires.place in
+    let here = kept_buffer c.self.invariant c.self.view_is c.args.place c.index_mut.result.now c.requires.place c.index_mut.ensures.value in
+    let size = kept_size c.self.invariant c.self.view_is c.args.place c.requires.place in
     c.index_mut.result.now.ok.0 ∙ ap length here ∙ size ∙ sym c.requires.block
 
 pub invariant_of-self : goal.invariant_of-self
 invariant_of-self c =
-    kept_written c.self.inside c.self.invariant c.args.self.now c.self.view_is c.args.place c.args.bytes.now c.copy_from_slice.new.self c.note_write.new.calls
+    kept_written c.self.invariant c.self.view_is c.args.place c.args.bytes.now c.copy_from_slice.new.self c.note_write.new.calls
     c.requires.place c.requires.block c.copy_from_slice.ensures.items c.in-Ok.ensures.ok
 
 pub returns-in-Err-clause-goes : goal.returns-in-Err-clause-goes
