@@ -53,5 +53,7 @@ put-words es fs are b w fit is =
     let each = each-word (λ q. HasBytes) m (subst (All EntryHasBytes) (sym (map.entries-from_sorted nat_cmp es are.rising)) are.bytes) in
     record {
       rising = view.0;
-      bytes = subst (All EntryHasBytes) (ap map.entries (sym view.1) ∙ map.entries-from_sorted nat_cmp fs view.0) (each-entry (λ q. HasBytes) (map.insert m b w) (each-put (λ q. HasBytes) m b w fit each));
+      bytes =
+          subst (All EntryHasBytes) (ap map.entries (sym view.1) ∙ map.entries-from_sorted nat_cmp fs view.0)
+          (each-entry (λ q. HasBytes) (map.insert m b w) (each-put (λ q. HasBytes) m b w fit each));
     }

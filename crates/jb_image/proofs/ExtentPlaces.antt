@@ -1,7 +1,8 @@
 -- Which place a block of the image is, and what a call for one changes.
-use Rattle.std.proofs.Common.{◌≡◌, ◌≢◌, ◌<◌, ◌≤◌, ◌+◌, ◌-◌, ℕ, Bool, true, false, not, ◌&&◌, ◌||◌, cond, max, List, [], ◌∷◌, length, set, Option, Some, None, All, refl, sym, ◌∙◌, ap, subst, inl, inr, ⊎_elim, arith, length-set, get_or-set_same, get_or-set_other}
+use Rattle.std.proofs.Common.{◌≡◌, ◌≢◌, ◌<◌, ◌≤◌, ◌+◌, ◌-◌, ℕ, true, false, not, cond, List, [], ◌∷◌, length, set, Option, Some, None, All, refl, sym, ◌∙◌, ap, subst, inl, inr, ⊎_elim, arith, length-set, get_or-set_same, get_or-set_other}
 use Rattle.std.specs.Prelude.{nat_lt}
-use Rattle.std.proofs.lemmas.Bool.{and_from, and_parts, cases_Bool, cases_lt, le-ltb, not-true, or_cases, or_right, ltb-false, ltb-true, true≢false}
+use Rattle.std.proofs.lemmas.Bool.{cases_lt, true≢false}
+use Rattle.std.proofs.lemmas.Bool.Decides.{nat_tests}
 use Rattle.std.proofs.lemmas.List.{ext_get_or, get_or_past}
 use Rattle.std.proofs.lemmas.List.Elements.{All-head, All-tail}
 use Rattle.std.proofs.lemmas.Option.{none-some, same_Some}
@@ -26,28 +27,15 @@ or_else-none (Some x) b is = absurd (none-some x (sym is))
 
 -- a block that an extent has
 has-within : (e : Extent) (b : ℕ) → e.first ≤ b → b ≤ e.last → has_block e b ≡ true
-has-within e b past behind =
-    and_from (not (nat_lt b e.first)) (not (nat_lt e.last b)) (ap not (le-ltb b e.first past)) (ap not (le-ltb e.last b behind))
+has-within e b past behind = grind (arith, nat_tests)
 
 has-inside : (e : Extent) (b : ℕ) → has_block e b ≡ true → (e.first ≤ b) × (b ≤ e.last)
-has-inside e b has =
-    let both = and_parts (not (nat_lt b e.first)) (not (nat_lt e.last b)) has in
-    (ltb-false b e.first (not-true (nat_lt b e.first) both.0), ltb-false e.last b (not-true (nat_lt e.last b) both.1))
+has-inside e b has = (grind (arith, nat_tests), grind (arith, nat_tests))
 
 -- is in no other that does not meet it
 meets-held : (e : Extent) (es : List Extent) (b : ℕ) → e.first ≤ b → b ≤ e.last → holds_in es b ≡ true → meets_in e es ≡ None → ⊥
 meets-held e [] b past behind held apart = true≢false (sym held)
-meets-held e (f ∷ fs) b past behind held apart =
-    let Meets = λ (t : Bool). cond t (Some (max e.first f.first)) (meets_in e fs) ≡ None in
-    let test = not (nat_lt f.last e.first) && not (nat_lt e.last f.first) in
-    let none : test ≡ true → ⊥ = λ meets. none-some (max e.first f.first) (sym (subst Meets meets apart)) in
-    ⊎_elim
-    (λ has.
-    let inside = has-inside f b has in
-    none (and_from (not (nat_lt f.last e.first)) (not (nat_lt e.last f.first))
-    (ap not (le-ltb f.last e.first (omega (arith, past, inside.1)))) (ap not (le-ltb e.last f.first (omega (arith, behind, inside.0))))))
-    (λ later. ⊎_elim none (λ other. meets-held e fs b past behind later (subst Meets other apart)) (cases_Bool test))
-    (or_cases (has_block f b) (holds_in fs b) held)
+meets-held e (f ∷ fs) b past behind held apart = grind (arith, nat_tests, meets-held e fs b past behind)
 
 -- ---- the blocks of the journal
 
@@ -65,13 +53,7 @@ place-later e es i b later is =
 place-held : (es : List Extent) → All (λ e. e.first ≤ e.last) es → (i b : ℕ) → place_within es i ≡ Some b → holds_in es b ≡ true
 place-held [] forward i b is = absurd (none-some b is)
 place-held (e ∷ es) forward i b is =
-    ⊎_elim
-    (λ first.
-    let at = place-first e es i b first is in
-    let here = has-within e b (omega (arith, at)) (omega (arith, All-head (λ e. e.first ≤ e.last) e es forward, ltb-true i (extent_count e) first, at)) in
-    ap (λ t. t || holds_in es b) here)
-    (λ later. or_right (has_block e b) (holds_in es b) (place-held es (All-tail (λ e. e.first ≤ e.last) e es forward) (i - extent_count e) b (place-later e es i b later is)))
-    (cases_Bool (nat_lt i (extent_count e)))
+    grind (arith, nat_tests, All-head (λ e. e.first ≤ e.last) e es forward, place-held es (All-tail (λ e. e.first ≤ e.last) e es forward) (i - extent_count e) b)
 
 -- and each in one of its own
 place-apart : (es : List Extent) → All (λ e. e.first ≤ e.last) es → shared_in es ≡ None → (i j b : ℕ) → place_within es i ≡ Some b → place_within es j ≡ Some b → i ≡ j
@@ -81,25 +63,7 @@ place-apart (e ∷ es) forward apart i j b one other =
     let head = All-head (λ e. e.first ≤ e.last) e es forward in
     let tail = All-tail (λ e. e.first ≤ e.last) e es forward in
     let none = or_else-none (meets_in e es) (shared_in es) apart in
-    let twice : (k l : ℕ) → nat_lt k n ≡ true → nat_lt l n ≡ false → place_within (e ∷ es) k ≡ Some b → place_within (e ∷ es) l ≡ Some b → ⊥
-    = λ k l first later in_first in_later.
-    let at = place-first e es k b first in_first in
-    meets-held e es b (omega (arith, at)) (omega (arith, head, ltb-true k n first, at)) (place-held es tail (l - n) b (place-later e es l b later in_later)) none.0 in
-    ⊎_elim
-    (λ first. ⊎_elim
-    (λ too. omega (arith, place-first e es i b first one, place-first e es j b too other))
-    (λ later. absurd (twice i j first later one other))
-    (cases_Bool (nat_lt j n)))
-    (λ later. ⊎_elim
-    (λ first. absurd (twice j i first later other one))
-    (λ too. omega (
-      arith,
-      place-apart es tail none.1 (i - n) (j - n) b (place-later e es i b later one) (place-later e es j b too other),
-      ltb-false i n later,
-      ltb-false j n too,
-    ))
-    (cases_Bool (nat_lt j n)))
-    (cases_Bool (nat_lt i n))
+    grind (arith, nat_tests, head, meets-held e es b, place-held es tail (i - n) b, place-held es tail (j - n) b, place-apart es tail none.1 (i - n) (j - n) b, none.0)
 
 -- so no two places are one block of the image
 pub at_block-apart : (extents : Extents) (journal blocks p q b : ℕ) → AreApart (list_of extents) → at_block extents journal blocks p ≡ Some b → at_block extents journal blocks q ≡ Some b → p ≡ q
@@ -107,16 +71,7 @@ at_block-apart extents journal blocks p q b apart one other =
     let es = list_of extents in
     let at_p = at_block-is extents journal blocks p b one in
     let at_q = at_block-is extents journal blocks q b other in
-    ⊎_elim
-    (λ here. ⊎_elim
-    (λ there. place-apart es apart.forward apart.unshared p q b here.1 there.1)
-    (λ home. absurd (true≢false (sym (place-held es apart.forward p b here.1) ∙ home.1)))
-    at_q.either)
-    (λ home. ⊎_elim
-    (λ there. absurd (true≢false (sym (place-held es apart.forward q b there.1) ∙ home.1)))
-    (λ next. omega (arith, home.0, home.2, next.0, next.2))
-    at_q.either)
-    at_p.either
+    grind (arith, at_p.either, at_q.either, place-apart es apart.forward apart.unshared p q b, place-held es apart.forward p b, place-held es apart.forward q b)
 
 -- a place that was found, by the number of the image's blocks
 pub found-at : (extents : Extents) (journal n m place b : ℕ) (o : Option ℕ) → n ≡ m → o ≡ at_block extents journal n place → o ≡ Some b → at_block extents journal m place ≡ Some b

@@ -37,23 +37,14 @@ word-opens (b ∷ bs) = opens-by b bs (is_between b) refl
 pub word-goes : (text : List ℕ) (at : ℕ) → at < length text → is_between (get_or text at 0) ≡ false
     → fronted (take at text) (listed (drop at text)) ≡ listed text → fronted (take (at + 1) text) (listed (drop (at + 1) text)) ≡ listed text
 word-goes text at within other so_far =
-    ap (λ front. fronted front (listed (drop (at + 1) text))) (take_more text at 0 within)
-    ∙ fronted-grow (take at text) (get_or text at 0) (listed (drop (at + 1) text))
-    ∙ ap (fronted (take at text)) (sym (listed-goes (get_or text at 0) (drop (at + 1) text) other))
-    ∙ ap (λ rest. fronted (take at text) (listed rest)) (sym (drop_more text at 0 within))
-    ∙ so_far
+    rw (take_more text at 0 within) (fronted-grow (take at text) (get_or text at 0) (listed (drop (at + 1) text))
+    ∙ (rw (drop_more text at 0 within, listed-goes (get_or text at 0) (drop (at + 1) text) other) at so_far))
 
 pub word-ends : (text : List ℕ) (at : ℕ) → at < length text → is_between (get_or text at 0) ≡ true
     → fronted (take at text) (listed (drop at text)) ≡ listed text → listed text ≡ take at text ∷ listed (drop (at + 1) text)
 word-ends text at within same so_far =
-    sym so_far
-    ∙ ap (λ rest. fronted (take at text) (listed rest)) (drop_more text at 0 within)
-    ∙ ap (fronted (take at text)) (listed-ends (get_or text at 0) (drop (at + 1) text) same)
-    ∙ ap (λ word. word ∷ listed (drop (at + 1) text)) (append-nil (take at text))
+    sym (rw (drop_more text at 0 within, listed-ends (get_or text at 0) (drop (at + 1) text) same, append-nil (take at text)) at so_far)
 
 pub word-last : (text : List ℕ) (at : ℕ) → length text ≤ at → fronted (take at text) (listed (drop at text)) ≡ listed text → listed text ≡ text ∷ []
 unfolding listed
-word-last text at past so_far =
-    sym so_far
-    ∙ ap (λ rest. fronted (take at text) (listed rest)) (drop_all at text past)
-    ∙ ap (λ word. word ∷ []) (append-nil (take at text) ∙ take_all at text past)
+word-last text at past so_far = sym (rw (drop_all at text past, append-nil (take at text), take_all at text past) at so_far)

@@ -24,17 +24,10 @@ module _ (one two : Stopped) where
   both P together apart a [] start is = absurd (let h : ⊥ = omega (arith, start, is) in h)
   both P together apart a (b ∷ []) start is = let ends : b ≡ 2 = is.1 in rw (start, ends) together
   both P together apart a (b ∷ c ∷ []) start is =
-      let less = is.0 in
-      let more = is.1.0 in
       let ends : c ≡ 2 = is.1.1 in
-      let mid : b ≡ 1 = omega (arith, start, less, more, ends) in
+      let mid : b ≡ 1 = omega (arith, start, is.0, is.1.0, ends) in
       rw (start, mid, ends) apart
-  both P together apart a (b ∷ c ∷ d ∷ bs) start is =
-      let less = is.0 in
-      let more = is.1.0 in
-      let most = is.1.1.0 in
-      let inside = rises-le 2 d bs is.1.1.1 in
-      absurd (let h : ⊥ = omega (arith, start, less, more, most, inside) in h)
+  both P together apart a (b ∷ c ∷ d ∷ bs) start is = absurd (let h : ⊥ = omega (arith, start, is.0, is.1.0, is.1.1.0, rises-le 2 d bs is.1.1.1) in h)
 
   in-one : (k : ℕ) → Have one two (take k ((one ∷ two ∷ []) ∷ []))
   in-one zero = tt
