@@ -1,16 +1,15 @@
 -- Which place a block of the image is, and what a call for one changes.
-use Rattle.std.proofs.Common.{◌≡◌, ◌≢◌, ◌<◌, ◌≤◌, ◌+◌, ◌-◌, ℕ, true, false, not, cond, List, [], ◌∷◌, length, set, Option, Some, None, All, refl, sym, ◌∙◌, ap, subst, inl, inr, ⊎_elim, arith, length-set, get_or-set_same, get_or-set_other}
-use Rattle.std.specs.Prelude.{nat_lt}
+use Rattle.std.proofs.Common.{◌≡◌, ◌≢◌, ◌<◌, ◌≤◌, ◌-◌, ℕ, true, not, List, [], ◌∷◌, length, set, Option, Some, None, All, refl, sym, ◌∙◌, ap, subst, inl, inr, ⊎_elim, arith, length-set, get_or-set_same, get_or-set_other}
 use Rattle.std.proofs.lemmas.Bool.{cases_lt, true≢false}
 use Rattle.std.proofs.lemmas.Bool.Decides.{nat_tests}
 use Rattle.std.proofs.lemmas.List.{ext_get_or, get_or_past}
 use Rattle.std.proofs.lemmas.List.Elements.{All-head, All-tail}
-use Rattle.std.proofs.lemmas.Option.{none-some, same_Some}
+use Rattle.std.proofs.lemmas.Option.{none-some}
 use Rattle.std.proofs.Math.Decide.{ℕ_discrete}
 use Rattle.jb_disk.specs.Image.{Image, block, sector, Torn}
 use Rattle.jb_disk.specs.Time.{Goes}
 use Rattle.jb_disk.specs.declared.disk.Disk.{Ghosts}
-use Rattle.jb_image.specs.Blocks.{extent_count, has_block}
+use Rattle.jb_image.specs.Blocks.{extent_count}
 use Rattle.jb_image.specs.Disks.{at_block, spread_count, whole_disk}
 use Rattle.jb_image.specs.Lists.{holds_in, list_of, meets_in, or_else, place_within, shared_in}
 use Rattle.jb_image.specs.ExtentImage.{AreApart, at_block-is, block_given, block-spread, length-spread, spread, within, WithinLeaves, WithinLeft}
@@ -25,31 +24,14 @@ or_else-none : (a b : Option ℕ) → or_else a b ≡ None → (a ≡ None) × (
 or_else-none None b is = (refl, is)
 or_else-none (Some x) b is = absurd (none-some x (sym is))
 
--- a block that an extent has
-has-within : (e : Extent) (b : ℕ) → e.first ≤ b → b ≤ e.last → has_block e b ≡ true
-has-within e b past behind = grind (arith, nat_tests)
-
-has-inside : (e : Extent) (b : ℕ) → has_block e b ≡ true → (e.first ≤ b) × (b ≤ e.last)
-has-inside e b has = (grind (arith, nat_tests), grind (arith, nat_tests))
-
--- is in no other that does not meet it
+-- a block that an extent has is in no other that does not meet it
 meets-held : (e : Extent) (es : List Extent) (b : ℕ) → e.first ≤ b → b ≤ e.last → holds_in es b ≡ true → meets_in e es ≡ None → ⊥
 meets-held e [] b past behind held apart = true≢false (sym held)
 meets-held e (f ∷ fs) b past behind held apart = grind (arith, nat_tests, meets-held e fs b past behind)
 
 -- ---- the blocks of the journal
 
--- one of the first extent's
-place-first : (e : Extent) (es : List Extent) (i b : ℕ) → nat_lt i (extent_count e) ≡ true → place_within (e ∷ es) i ≡ Some b → e.first + i ≡ b
-place-first e es i b first is =
-    same_Some (e.first + i) b (subst (λ t. cond t (Some (e.first + i)) (place_within es (i - extent_count e)) ≡ Some b) first is)
-
--- one of a later one's
-place-later : (e : Extent) (es : List Extent) (i b : ℕ) → nat_lt i (extent_count e) ≡ false → place_within (e ∷ es) i ≡ Some b → place_within es (i - extent_count e) ≡ Some b
-place-later e es i b later is =
-    subst (λ t. cond t (Some (e.first + i)) (place_within es (i - extent_count e)) ≡ Some b) later is
-
--- they stand in the extents
+-- the blocks of the journal stand in the extents
 place-held : (es : List Extent) → All (λ e. e.first ≤ e.last) es → (i b : ℕ) → place_within es i ≡ Some b → holds_in es b ≡ true
 place-held [] forward i b is = absurd (none-some b is)
 place-held (e ∷ es) forward i b is =

@@ -1,5 +1,6 @@
 -- The loop over the bytes of a list's word.
-use Rattle.std.proofs.Common.{Bool, ◌≡◌, ◌∙◌, sym, ap, ℕ, ◌+◌, ◌<◌, ◌≤◌, true, false, List, [], ◌∷◌, ◌++◌, length, take, drop, get_or, refl}
+use Rattle.std.proofs.Common.{◌≡◌, ◌∙◌, sym, ap, ℕ, ◌+◌, ◌<◌, ◌≤◌, true, false, List, [], ◌∷◌, ◌++◌, length, take, drop, get_or, refl}
+use Rattle.std.proofs.lemmas.Bool.{cond_both}
 use Rattle.std.proofs.lemmas.List.{append-nil, append_assoc, take_all, take_more, drop_all, drop_more}
 use Rattle.jb_text.specs.Parts.{grow}
 use Rattle.jb_image.specs.Lists.{is_between, listed}
@@ -25,14 +26,10 @@ grow-opens : (b : ℕ) (words : List (List ℕ)) → fronted [] (grow b words) �
 grow-opens b [] = refl
 grow-opens b (word ∷ more) = refl
 
-opens-by : (b : ℕ) (bs : List ℕ) (between : Bool) → is_between b ≡ between → fronted [] (listed (b ∷ bs)) ≡ listed (b ∷ bs)
-opens-by b bs true is = rw (listed-ends b bs is) refl
-opens-by b bs false is = rw (listed-goes b bs is) (grow-opens b (listed bs))
-
 pub word-opens : (text : List ℕ) → fronted [] (listed text) ≡ listed text
 unfolding listed
 word-opens [] = refl
-word-opens (b ∷ bs) = opens-by b bs (is_between b) refl
+word-opens (b ∷ bs) = cond_both (is_between b) ([] ∷ listed bs) (grow b (listed bs)) (λ words. fronted [] words ≡ words) (λ _. refl) (λ _. grow-opens b (listed bs))
 
 pub word-goes : (text : List ℕ) (at : ℕ) → at < length text → is_between (get_or text at 0) ≡ false
     → fronted (take at text) (listed (drop at text)) ≡ listed text → fronted (take (at + 1) text) (listed (drop (at + 1) text)) ≡ listed text

@@ -1,8 +1,4 @@
-use Rattle.std.proofs.Common.{OnOk, sym, subst}
-use Rattle.jb_disk.specs.Image.{Only, Same}
-use Rattle.jb_image.specs.ExtentImage.{WithinLeaves}
-use Rattle.jb_image.specs.Images.{image_newest}
-use Rattle.jb_image.specs.Pair.{PairLeaves}
+use Rattle.jb_disk.specs.Image.{Same}
 use Rattle.jb_image.proofs.ImageCalls.{goes-two, goes-within}
 use Rattle.jb_image.proofs.image.ImageDiskDisk.sync.Goals as goal
 
@@ -15,11 +11,7 @@ returns-in-Within-clause-goes g c honest =
     goes-within g.D.Disk g.E.Disk Same c.args.self.now c.in-Within.disk c.sync-in-Within.new.self c.in-Within.is (c.sync-in-Within.ensures.goes honest)
 
 pub returns-in-Two-clause-durable : goal.returns-in-Two-clause-durable
-returns-in-Two-clause-durable g c honest =
-    subst (λ o. OnOk c.sync-in-Two.result (Only (image_newest g.D.Disk g.E.Disk o) (PairLeaves g.E.Disk g.D.Disk c.sync-in-Two.new.self)))
-    (sym c.in-Two.is) (c.sync-in-Two.ensures.durable honest)
+returns-in-Two-clause-durable g c honest = rw c.in-Two.is (c.sync-in-Two.ensures.durable honest)
 
 pub returns-in-Within-clause-durable : goal.returns-in-Within-clause-durable
-returns-in-Within-clause-durable g c honest =
-    subst (λ o. OnOk c.sync-in-Within.result (Only (image_newest g.D.Disk g.E.Disk o) (WithinLeaves g.D.Disk c.sync-in-Within.new.self)))
-    (sym c.in-Within.is) (c.sync-in-Within.ensures.durable honest)
+returns-in-Within-clause-durable g c honest = rw c.in-Within.is (c.sync-in-Within.ensures.durable honest)
