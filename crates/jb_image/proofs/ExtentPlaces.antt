@@ -5,7 +5,6 @@ use Rattle.std.proofs.lemmas.Bool.Decides.{nat_tests}
 use Rattle.std.proofs.lemmas.List.{ext_get_or, get_or_past}
 use Rattle.std.proofs.lemmas.List.Elements.{All-head, All-tail}
 use Rattle.std.proofs.lemmas.Option.{none-some}
-use Rattle.std.proofs.Math.Decide.{ℕ_discrete}
 use Rattle.jb_disk.specs.Image.{Image, block, sector, Torn}
 use Rattle.jb_disk.specs.Time.{Goes}
 use Rattle.jb_disk.specs.declared.disk.Disk.{Ghosts}
@@ -92,11 +91,8 @@ module _ (extents : Extents) (journal size blocks place b : ℕ) (apart : AreApa
   given-set x bytes within =
       let long = length-spread extents journal size blocks in
       ext_get_or [] (given (set x b bytes)) (set (given x) place bytes) (long (set x b bytes) ∙ sym (long x) ∙ sym (length-set (given x) place bytes))
-      (λ p below. elim (ℕ_discrete p place) [
-        | yes here ↦ ap (block (given (set x b bytes))) here ∙ given-here (set x b bytes) ∙ get_or-set_same x b bytes [] within
-            ∙ sym (get_or-set_same (given x) place bytes [] (omega (arith, long x, inside))) ∙ ap (block (set (given x) place bytes)) (sym here)
-        | no other ↦ given-elsewhere x (set x b bytes) (λ q apart. get_or-set_other x b q bytes [] apart) p other ∙ sym (get_or-set_other (given x) place p bytes [] other)
-      ])
+      (λ p below. grind (arith, given-here x, given-here (set x b bytes), get_or-set_same x b bytes [] within, get_or-set_same (given x) place bytes [] (omega (arith, long x, inside)),
+      given-elsewhere x (set x b bytes) (λ q other. get_or-set_other x b q bytes [] other) p, get_or-set_other (given x) place p bytes []))
 
   -- so is a torn one
   pub given-torn : (x x' : Image) (bytes : List ℕ) → Torn b bytes x x' → Torn place bytes (given x) (given x')

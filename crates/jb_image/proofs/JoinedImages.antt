@@ -12,10 +12,8 @@ by_place : (P : List ℕ → List ℕ → Type 0) (x x' y y' : Image) (p : ℕ) 
     → (p < length x → P (block x p) (block x' p)) → (length x ≤ p → P (block y (p - length x)) (block y' (p - length x))) → P (block (x ++ y) p) (block (x' ++ y') p)
 by_place P x x' y y' p same front back =
     ⊎_elim
-    (λ below. subst (λ b. P b (block (x' ++ y') p)) (sym (get_or_append_left x y [] p below))
-    (subst (P (block x p)) (sym (get_or_append_left x' y' [] p (omega (arith, below, same)))) (front below)))
-    (λ past. subst (λ b. P b (block (x' ++ y') p)) (sym (get_or-append_right x y (length x) p [] refl past))
-    (subst (P (block y (p - length x))) (sym (get_or-append_right x' y' (length x) p [] same past)) (back past)))
+    (λ below. rw (get_or_append_left x y [] p below, get_or_append_left x' y' [] p (omega (arith, below, same))) (front below))
+    (λ past. rw (get_or-append_right x y (length x) p [] refl past, get_or-append_right x' y' (length x) p [] same past) (back past))
     (cases_lt p (length x))
 
 -- ---- what a call changes
@@ -59,9 +57,7 @@ changes-then R n m place c d e first second = record {
       let number : n + (k - n) ≡ k = omega (arith, past) in
       let at : place + n + (k - n) ≡ place + k = omega (arith, past) in
       let as_before : block d (place + k) ≡ block c (place + k) = first.elsewhere (place + k) (λ j less same. omega (arith, less, past, same)) in
-      subst (λ b. R k b (block e (place + k))) as_before
-      (subst (λ i. R k (block d i) (block e i)) at
-      (subst (λ j. R j (block d (place + n + (k - n))) (block e (place + n + (k - n)))) number (second.inside (k - n) (omega (arith, past, below))))))
+      rw (number, at, as_before) at (second.inside (k - n) (omega (arith, past, below))))
       (cases_lt k n);
   elsewhere = λ p outside.
       second.elsewhere p (λ k below same. outside (n + k) (omega (arith, below)) (omega (arith, same)))
@@ -173,8 +169,7 @@ module _ {size n m blocks : ℕ} {first rest bytes : List ℕ} (halves : Halves 
   runs-then : (R : List ℕ → List ℕ → List ℕ → Type 0) (c d e : Image) → Changes (λ k. R (part size k first)) n place c d → Changes (λ k. R (part size k rest)) m (place + n) d e
       → Changes (λ k. R (part size k bytes)) blocks place c e
   runs-then R c d e begun ended =
-      subst (λ b. Changes (λ k. R (part size k b)) blocks place c e) halves.whole
-      (subst (λ k. Changes (λ k. R (part size k (first ++ rest))) k place c e) halves.all
+      rw (← halves.whole, ← halves.all)
       (changes-then (λ k. R (part size k (first ++ rest))) n m place c d e
       (record {
         count = begun.count;
@@ -185,7 +180,7 @@ module _ {size n m blocks : ℕ} {first rest bytes : List ℕ} (halves : Halves 
         count = ended.count;
         inside = λ k below. subst (λ b. R b (block d (place + n + k)) (block e (place + n + k))) (sym (part-back size n k first rest halves.long)) (ended.inside k below);
         elsewhere = ended.elsewhere;
-      })))
+      }))
 
   pub torn_run-then : (c d e : Image) → TornRun size n place first c d → TornRun size m (place + n) rest d e → TornRun size blocks place bytes c e
   torn_run-then c d e begun ended =
