@@ -69,15 +69,13 @@ module _ {W : Type 0} where
   find-stands [] s b i d h = absurd (omega (arith, h.inside))
   find-stands (e ∷ es) s b zero d h = grind (arith, nat_tests, h.home d)
   find-stands (e ∷ es) s b (suc i) d h =
-      let later : e.0 < b = omega (arith, homes-rise (e ∷ es) s 0 (suc i) d (omega arith) h.inside, h.home d) in
-      grind (arith, nat_tests, find-stands es (rising-tail e es s) b i d (stands-tail e es b i h))
+      grind (arith, nat_tests, homes-rise (e ∷ es) s 0 (suc i) d (omega arith) h.inside, h.home d, find-stands es (rising-tail e es s) b i d (stands-tail e es b i h))
 
   pub put-stands : (es : List (ℕ × W)) → T (map.is_sorted nat_cmp es) → (b i : ℕ) (w : W) → StandsAt es b i → map.put nat_cmp b w es ≡ set es i (b, w)
   put-stands [] s b i w h = absurd (omega (arith, h.inside))
   put-stands (e ∷ es) s b zero w h = grind (arith, nat_tests, h.home e)
   put-stands (e ∷ es) s b (suc i) w h =
-      let later : e.0 < b = omega (arith, homes-rise (e ∷ es) s 0 (suc i) e (omega arith) h.inside, h.home e) in
-      grind (arith, nat_tests, put-stands es (rising-tail e es s) b i w (stands-tail e es b i h))
+      grind (arith, nat_tests, homes-rise (e ∷ es) s 0 (suc i) e (omega arith) h.inside, h.home e, put-stands es (rising-tail e es s) b i w (stands-tail e es b i h))
 
   -- nothing is found of a home that no entry has
   lacks : (es : List (ℕ × W)) (b : ℕ) → ((j : ℕ) (d : ℕ × W) → j < length es → (get_or es j d).0 ≢ b) → map.find nat_cmp b es ≡ None
@@ -91,10 +89,8 @@ module _ {W : Type 0} where
   pub put-goes : (es : List (ℕ × W)) (b i : ℕ) (w : W) → GoesTo es b i → map.put nat_cmp b w es ≡ insert es i (b, w)
   put-goes [] b zero w h = refl
   put-goes [] b (suc i) w h = absurd (omega (arith, h.inside))
-  put-goes (e ∷ es) b zero w h = let below : b < e.0 = h.after 0 e (omega arith) (omega arith) in grind (arith, nat_tests)
-  put-goes (e ∷ es) b (suc i) w h =
-      let below : e.0 < b = h.before 0 e (omega arith) in
-      grind (arith, nat_tests, put-goes es b i w (goes-tail e es b i h))
+  put-goes (e ∷ es) b zero w h = grind (arith, nat_tests, h.after 0 e (omega arith) (omega arith))
+  put-goes (e ∷ es) b (suc i) w h = grind (arith, nat_tests, h.before 0 e (omega arith), put-goes es b i w (goes-tail e es b i h))
 
   -- the map of entries among which a word was put
   pub view-put : (es fs : List (ℕ × W)) (m : map.FinMap nat_cmp W) → map.from_sorted es ≡ m → T (map.is_sorted nat_cmp es) → (b : ℕ) (w : W) → map.put nat_cmp b w es ≡ fs
