@@ -126,9 +126,7 @@ module _ {W : Type 0} where
   -- what is found among one entry more
   pub find-take : (es : List (ℕ × W)) → T (map.is_sorted nat_cmp es) → (i : ℕ) (d : ℕ × W) → i < length es → (q : ℕ) → map.find nat_cmp q (take (i + 1) es) ≡ cond (nat_eq q (get_or es i d).0) (Some (get_or es i d).1) (map.find nat_cmp q (take i es))
   find-take es h i d lt q =
-      ap (map.find nat_cmp q) (take_more es i d lt)
-      ∙ find-append nat_cmp nat_cmp_total (take i es) (get_or es i d).0 (get_or es i d).1 q (find-before es h i d lt)
-      ∙ tied-cond q (get_or es i d).0 _ _
+      rw (take_more es i d lt, find-append nat_cmp nat_cmp_total (take i es) (get_or es i d).0 (get_or es i d).1 q (find-before es h i d lt)) (tied-cond q (get_or es i d).0 _ _)
 
   -- the entry e is the next one: what is found with it, and that its home is not among those before it
   module _ (es : List (ℕ × W)) (rising : T (map.is_sorted nat_cmp es)) (i : ℕ) (e : ℕ × W) (here : e ≡ get_or es i e) (inside : i < length es) where

@@ -1,4 +1,4 @@
-use Rattle.std.proofs.Common.{◌≡◌, ◌<◌, ◌-◌, IfOk, OnErr, length, drop, ap, sym, subst, ◌∙◌, arith, nat_cmp}
+use Rattle.std.proofs.Common.{◌≡◌, ◌<◌, ◌-◌, IfOk, OnErr, length, drop, refl, ap, sym, subst, ◌∙◌, arith, nat_cmp}
 use Rattle.std.proofs.lemmas.List.{drop_all}
 use Rattle.std.specs.Option.{option_or}
 use Rattle.std.specs.FinMap as map
@@ -10,10 +10,7 @@ use Rattle.jb_handle.proofs.words.Words.joined.Goals as goal
 use Rattle.jb_handle.proofs.words.Words.joined.Goals.{After-into_words}
 
 pub loop-at-init : goal.loop-at-init
-loop-at-init c q =
-    ap (λ m. map.get m q) c.new-gathered.ensures
-    ∙ map.get-empty nat_cmp q
-    ∙ ap (λ hs. word hs q) (sym (drop_all (length c.args.handles.now) c.args.handles.now (omega arith)))
+loop-at-init c q = rw (c.new-gathered.ensures, map.get-empty nat_cmp q, drop_all (length c.args.handles.now) c.args.handles.now (omega arith)) refl
 
 pub returns-in_err-add_all-clause-err : goal.returns-in_err-add_all-clause-err
 returns-in_err-add_all-clause-err c =
