@@ -1,5 +1,5 @@
 -- The words of handles, gathered one after the other.
-use Rattle.std.proofs.Common.{◌≡◌, ◌⊎◌, ℕ, zero, suc, ◌+◌, ◌<◌, ◌≤◌, Bool, true, false, cond, nat_eq, T, List, [], ◌∷◌, length, get_or, take, drop, Option, Some, None, is_some, Result, Ok, Err, OnOk, inl, inr, ⊎_elim, refl, sym, ap, ◌∙◌, arith}
+use Rattle.std.proofs.Common.{◌≡◌, ◌⊎◌, ℕ, zero, suc, ◌+◌, ◌<◌, ◌≤◌, Bool, true, false, cond, nat_eq, T, List, [], ◌∷◌, length, get_or, take, drop, Option, Some, None, is_some, inl, inr, ⊎_elim, refl, sym, ap, ◌∙◌, arith}
 use Rattle.std.specs.Option.{option_or}
 use Rattle.std.specs.Ordering.{eq_by_cmp, nat_cmp}
 use Rattle.std.specs.Cmp.{nat_cmp_total}
@@ -41,12 +41,11 @@ put-by true v (Some w) none = absurd (both_ways true (none refl) refl)
 put-by false v had none = sym (or-nothing had)
 
 -- a word on a home that has none
-pub put-added : {V E : Type 0} (r : Result V E) (m n : WordMap) (home : ℕ) (w v : Word) → w ≡ v → is_some (map.get m home) ≡ false → OnOk r (n ≡ map.insert m home w)
-    → OnOk r ((q : ℕ) → map.get n q ≡ option_or (map.get m q) (cond (nat_eq q home) (Some v) None))
-put-added (Err e) m n home w v same none put = tt
-put-added (Ok x) m n home w v same none put = λ q.
-    get-put m n home w v same put q
-    ∙ put-by (nat_eq q home) v (map.get m q) (λ tied. let there : q ≡ home = grind (arith, nat_tests, tied) in ap (λ h. is_some (map.get m h)) there ∙ none)
+pub put-added : (m n : WordMap) (home : ℕ) (w v : Word) → w ≡ v → is_some (map.get m home) ≡ false → n ≡ map.insert m home w
+    → (q : ℕ) → map.get n q ≡ option_or (map.get m q) (cond (nat_eq q home) (Some v) None)
+put-added m n home w v same none put q =
+    rw (get-put m n home w v same put q)
+    (put-by (nat_eq q home) v (map.get m q) (λ tied. let there : q ≡ home = grind (arith, nat_tests, tied) in rw there none))
 
 -- all words of a handle
 pub words-whole : (words : WordMap) (es : List (ℕ × Word)) → es ≡ map.entries words → (i : ℕ) → length es ≤ i → (q : ℕ) (before : Option Word) → option_or (map.find nat_cmp q (take i es)) before ≡ option_or (map.get words q) before
@@ -74,13 +73,12 @@ none-each (h ∷ hs) (suc i) d q inside none = none-each hs i d q (omega arith) 
 
 -- handles of which one has words leave some
 pub some-words : (hs : List Stopped) (i : ℕ) (h : Stopped) → h ≡ get_or hs i h → i < length hs → 0 < map.len h.words → 0 < map.len (words_of hs)
-some-words hs i h here inside some = grind (arith, λ (none : map.len (words_of hs) ≡ 0). empty none)
-  where
-    empty : map.len (words_of hs) ≡ 0 → map.len h.words ≡ 0
-    empty none =
-        let nothing : words_of hs ≡ map.empty = map.empty_of_len (words_of hs) none in
-        let lacks : (q : ℕ) → map.get h.words q ≡ None = λ q. ap (λ (g : Stopped). map.get g.words q) here ∙ none-each hs i h q inside (sym (get-words_of hs q) ∙ ap (λ m. map.get m q) nothing ∙ map.get-empty nat_cmp q) in
-        ap map.len (map.same_map nat_cmp_total map.nat_cmp-IsAntisymmetric h.words map.empty (λ q. lacks q ∙ sym (map.get-empty nat_cmp q))) ∙ map.len-empty nat_cmp Word
+some-words hs i h here inside some =
+    grind (arith, λ (none : map.len (words_of hs) ≡ 0).
+    let nothing : words_of hs ≡ map.empty = map.empty_of_len (words_of hs) none in
+    let lacks : (q : ℕ) → word hs q ≡ None = λ q. sym (get-words_of hs q) ∙ ap (λ m. map.get m q) nothing ∙ map.get-empty nat_cmp q in
+    let own : (q : ℕ) → map.get h.words q ≡ None = λ q. ap (λ (g : Stopped). map.get g.words q) here ∙ none-each hs i h q inside (lacks q) in
+    ap map.len (map.same_map nat_cmp_total map.nat_cmp-IsAntisymmetric h.words map.empty (λ q. own q ∙ sym (map.get-empty nat_cmp q))) ∙ map.len-empty nat_cmp Word)
 
 -- ---- some of the words of a handle
 

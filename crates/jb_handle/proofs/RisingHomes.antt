@@ -17,10 +17,6 @@ both_parts true true h = (tt, tt)
 both_parts true false h = absurd h
 both_parts false b h = absurd h
 
-both : (a b : Bool) → T a → T b → T (a && b)
-both true b p q = q
-both false b p q = absurd p
-
 pub is_lt-less : (x y : ℕ) → T (is_lt (nat_cmp x y)) → x < y
 is_lt-less x y h = grind (arith, nat_tests, h)
 
@@ -115,7 +111,7 @@ module _ {W : Type 0} where
   pub ordered-rise : (es : List (ℕ × W)) → IsStrictlySortedBy nat_cmp (keys_of es) → T (map.is_sorted nat_cmp es)
   unfolding IsStrictlySortedBy
   ordered-rise [] h = tt
-  ordered-rise (e ∷ es) h = both _ _ (below-all e.0 es h.0) (ordered-rise es h.1)
+  ordered-rise (e ∷ es) h = grind (arith, nat_tests, below-all e.0 es h.0, ordered-rise es h.1)
 
   -- no home is among the entries before it
   pub find-before : (es : List (ℕ × W)) → T (map.is_sorted nat_cmp es) → (i : ℕ) (d : ℕ × W) → i < length es → map.find nat_cmp (get_or es i d).0 (take i es) ≡ None
