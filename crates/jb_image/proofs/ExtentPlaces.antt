@@ -5,7 +5,7 @@ use Rattle.std.proofs.lemmas.Bool.Decides.{nat_tests}
 use Rattle.std.proofs.lemmas.List.{ext_get_or, get_or_past}
 use Rattle.std.proofs.lemmas.List.Elements.{All-head, All-tail}
 use Rattle.std.proofs.lemmas.Option.{none-some}
-use Rattle.jb_disk.specs.Image.{Image, block, sector, Torn}
+use Rattle.jb_disk.specs.Image.{Image, block, Torn}
 use Rattle.jb_disk.specs.Time.{Goes}
 use Rattle.jb_disk.specs.declared.disk.Disk.{Ghosts}
 use Rattle.jb_image.specs.Blocks.{extent_count}
@@ -76,14 +76,10 @@ module _ (extents : Extents) (journal size blocks place b : ℕ) (apart : AreApa
   -- and at no other
   given-elsewhere : (x x' : Image) → ((q : ℕ) → q ≢ b → block x' q ≡ block x q) → (p : ℕ) → p ≢ place → block (given x') p ≡ block (given x) p
   given-elsewhere x x' same p other = ⊎_elim
-      (λ within.
-      block-spread extents journal size blocks x' p within
-      ∙ given-same x x' same (at_block extents journal blocks p)
-      (λ q at here. other (at_block-apart extents journal blocks p place b apart (at ∙ ap Some here) is))
-      ∙ sym (block-spread extents journal size blocks x p within))
-      (λ past.
-      get_or_past (given x') p [] (omega (arith, past, length-spread extents journal size blocks x'))
-      ∙ sym (get_or_past (given x) p [] (omega (arith, past, length-spread extents journal size blocks x))))
+      (λ within. rw (block-spread extents journal size blocks x' p within, block-spread extents journal size blocks x p within)
+      (given-same x x' same (at_block extents journal blocks p) (λ q at here. other (at_block-apart extents journal blocks p place b apart (at ∙ ap Some here) is))))
+      (λ past. let long = length-spread extents journal size blocks in
+      rw (get_or_past (given x') p [] (omega (arith, past, long x')), get_or_past (given x) p [] (omega (arith, past, long x))) refl)
       (cases_lt p (spread_count journal blocks))
 
   -- a write of the block is one of its place
@@ -99,11 +95,8 @@ module _ (extents : Extents) (journal size blocks place b : ℕ) (apart : AreApa
   given-torn x x' bytes torn = record {
     count = length-spread extents journal size blocks x' ∙ sym (length-spread extents journal size blocks x);
     elsewhere = given-elsewhere x x' torn.elsewhere;
-    size = ap length (given-here x') ∙ torn.size ∙ sym (ap length (given-here x));
-    sectors = λ k. ⊎_elim
-        (λ old. inl (ap (sector k) (given-here x') ∙ old ∙ ap (sector k) (sym (given-here x))))
-        (λ written. inr (ap (sector k) (given-here x') ∙ written))
-        (torn.sectors k);
+    size = rw (given-here x', given-here x) torn.size;
+    sectors = λ k. rw (given-here x', given-here x) (torn.sectors k);
   }
 
 -- ---- how a crash goes on

@@ -1,5 +1,5 @@
 -- Images one after the other, and what a call changes of both.
-use Rattle.std.proofs.Common.{◌≡◌, ◌<◌, ◌≤◌, ◌⊎◌, ℕ, ◌+◌, ◌-◌, ◌*◌, List, [], ◌++◌, length, take, drop, refl, sym, ◌∙◌, ap, subst, inl, inr, ⊎_elim, arith, length-append, length-drop}
+use Rattle.std.proofs.Common.{◌≡◌, ◌<◌, ◌≤◌, ◌⊎◌, ℕ, ◌+◌, ◌-◌, ◌*◌, List, [], ◌++◌, length, drop, refl, sym, ◌∙◌, ap, subst, inl, inr, ⊎_elim, arith, length-append, length-drop}
 use Rattle.std.proofs.lemmas.Bool.{cases_lt}
 use Rattle.std.proofs.lemmas.List.{get_or_append_left, get_or-append_right, take-append-le, drop-append-le}
 use Rattle.std.proofs.Math.Seq.{drop-append-add}
@@ -24,13 +24,10 @@ pub record Changes (R : ℕ → List ℕ → List ℕ → Type 0) (n place : ℕ
   pub inside : (k : ℕ) → k < n → R k (block old (place + k)) (block new (place + k))
   pub elsewhere : (p : ℕ) → IsOutside n place p → block new p ≡ block old p
 
-same_length : (x x' y y' : Image) → length x' ≡ length x → length y' ≡ length y → length (x' ++ y') ≡ length (x ++ y)
-same_length x x' y y' first second = omega (arith, length-append x y, length-append x' y', first, second)
-
 -- blocks of the first image
 pub changes-front : (R : ℕ → List ℕ → List ℕ → Type 0) (n place : ℕ) (x x' y : Image) → place + n ≤ length x → Changes R n place x x' → Changes R n place (x ++ y) (x' ++ y)
 changes-front R n place x x' y within changes = record {
-  count = same_length x x' y y changes.count refl;
+  count = omega (arith, length-append x y, length-append x' y, changes.count);
   inside = λ k below. by_place (R k) x x' y y (place + k) changes.count
       (λ _. changes.inside k below) (λ past. absurd (let h : ⊥ = omega (arith, within, below, past) in h));
   elsewhere = λ p outside. by_place (λ a b. b ≡ a) x x' y y p changes.count (λ _. changes.elsewhere p outside) (λ _. refl);
@@ -39,7 +36,7 @@ changes-front R n place x x' y within changes = record {
 -- blocks of the second
 pub changes-back : (R : ℕ → List ℕ → List ℕ → Type 0) (n q place : ℕ) (x y y' : Image) → place ≡ length x + q → Changes R n q y y' → Changes R n place (x ++ y) (x ++ y')
 changes-back R n q place x y y' is changes = record {
-  count = same_length x x y y' refl changes.count;
+  count = omega (arith, length-append x y, length-append x y', changes.count);
   inside = λ k below. by_place (R k) x x y y' (place + k) refl
       (λ less. absurd (let h : ⊥ = omega (arith, is, less) in h))
       (λ _. subst (λ i. R k (block y i) (block y' i)) (let h : q + k ≡ place + k - length x = omega (arith, is) in h) (changes.inside k below));
@@ -148,14 +145,13 @@ written_blocks size n bytes = record {
 pub part-front : (size n k : ℕ) (a b : List ℕ) → length a ≡ size * n → k < n → part size k (a ++ b) ≡ part size k a
 part-front size n k a b is below =
     let within : size * k + size ≤ length a = omega (arith, is, mul-le-mul_left {m = k + 1} {n = n} size (omega (arith, below))) in
-    ap (take size) (drop-append-le (size * k) a b (omega (arith, within)))
-    ∙ take-append-le size (drop (size * k) a) b (omega (arith, length-drop (size * k) a, within))
+    rw (drop-append-le (size * k) a b (omega (arith, within))) (take-append-le size (drop (size * k) a) b (omega (arith, length-drop (size * k) a, within)))
 
 -- of the rest
 pub part-back : (size n k : ℕ) (a b : List ℕ) → length a ≡ size * n → part size (n + k) (a ++ b) ≡ part size k b
 part-back size n k a b is =
     let sum : size * (n + k) ≡ length a + size * k = omega (arith, is) in
-    ap (take size) (ap (λ i. drop i (a ++ b)) sum ∙ drop-append-add a b (size * k))
+    rw (sum, drop-append-add a b (size * k)) refl
 
 -- ---- a run, and then the one behind it
 
