@@ -5,7 +5,6 @@ use Rattle.jb_disk.specs.Time.{LeavesOnly}
 use Rattle.jb_super.specs.Superblock.{Superblock}
 use Rattle.jb_handle.specs.declared.stopped.Stopped.{Stopped}
 use Rattle.jb_format.specs.Front.{super_on}
-use Rattle.jb_deck.specs.Deck.{IsShapeOf}
 use Rattle.jb_deck.specs.GroupsOfBatch.{groups_in}
 use Rattle.proof_clients.specs.Lives.{IsBatchOf, LeftByLife, of_batch}
 use Rattle.proof_clients.specs.Programs.{all_changes, commits}
@@ -37,7 +36,7 @@ is-batch g c honest =
     let is = (opened g c).is honest in
     let ok = c.in-Some.ensures in
     batch-opened (G.size entry) (G.count entry) (G.newest entry) is.opens.sb log is.opens.taken is.opens.log c.args.handles.items c.in-Some.batch
-    ok.planned ok.batch.0 (subst (IsShapeOf log.sb (G.count entry)) (sym (ok.batch.1 ∙ c.shape.ensures.value)) is.shaped)
+    ok.planned ok.batch.0 (rw (ok.batch.1 ∙ c.shape.ensures.value) is.shaped)
 
 -- what a crash leaves of the program, it leaves of the life
 abbrev Ends : (g : Over) → g.row.D.Denot → List Stopped → g.row.D.Denot → Type 0
