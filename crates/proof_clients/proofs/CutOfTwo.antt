@@ -12,7 +12,7 @@ use Rattle.jb_plan.specs.Batch.{gathered}
 use Rattle.jb_deck.specs.declared.done.Entry.{Entry}
 use Rattle.jb_book.specs.declared.fault.BeginFault.{BeginFault}
 use Rattle.jb_book.specs.Account.{Account, failed_of}
-use Rattle.jb_book.specs.Calls.{Call, Opened, Enqueued, Took, Settled, Failed, CallsMake, IsCutOf, handles_in, stops_of}
+use Rattle.jb_book.specs.Calls.{Call, Opened, Enqueued, Took, Settled, Failed, CallsMake, handles_in, stops_of}
 use Rattle.jb_book.specs.MachineTie.{EveryRun}
 use Rattle.proof_clients.specs.BookClient.{Have, SettlesQueue, Stand, two_stops}
 
@@ -71,8 +71,7 @@ module _ (any : Vec Entry) (run : EveryRun) (shape : Shape) (usable : ℕ) (smal
       let named : stops_of calls ≡ two = λ i. record { ticket = numbers.0 i; words = first } ∷ record { ticket = numbers.1.0 i; words = second } ∷ [] in
       let queue : mid.shadow.queue ≡ two = first_kept.running settles.could.running ∙ named in
       let none : mid.trail ≡ [] = no-map (handles_in (stops_of calls)) mid.trail (sym first_kept.trail) in
-      let least : IsCutOf (gathered 0 two shape) settles.cut =
-      subst (λ hs. IsCutOf (gathered 0 hs shape) settles.cut) queue (subst (λ sh. IsCutOf (gathered 0 mid.shadow.queue sh) settles.cut) first_kept.same_shape settles.least) in
+      let least = rw (first_kept.same_shape, queue) at settles.least in
       let groups : map (handles_in two) trail ≡ take (length settles.entries) parts =
       ap (map (handles_in two)) is
       ∙ ap (λ stops. map (handles_in stops) last.trail) (sym named)

@@ -1,6 +1,5 @@
 -- Three handles that changed nothing, of which two are settled: the events, and how a desk ends with them.
 use Rattle.std.proofs.Common.{◌≡◌, ℕ, zero, suc, ◌<◌, ◌≤◌, true, false, List, [], ◌∷◌, Ok, Vec, Global, refl, sym, ap, subst, arith, rules}
-use Rattle.std.specs.Int.{div_ceil}
 use Rattle.std.specs.FinMap as map
 use Rattle.std.proofs.lemmas.List.Elements.{All-nil, All-cons}
 use Rattle.jb_disk.specs.declared.disk.Disk.{Ghosts}
@@ -74,7 +73,7 @@ least =
 most-four : IsMost g 6 4
 most-four = record {
   within = omega arith;
-  greatest = λ credits few. let five : 5 ≤ credits → 1 ≤ div_ceil credits g.t = ceil-mono 5 credits g.t g.tags in omega (arith, five, few);
+  greatest = λ credits few. omega (arith, ceil-mono 5 credits g.t g.tags, few);
 }
 
 abbrev m0 : Machine

@@ -19,7 +19,7 @@ use Rattle.jb_log.specs.declared.log.Log.{Log}
 use Rattle.jb_log.proofs.FrameKeeps.{frame-start}
 use Rattle.jb_log.proofs.OwnSuperblock.{same-then}
 use Rattle.jb_deck.specs.Calls.{IsCleanAt}
-use Rattle.jb_deck.specs.Changes.{Change, HoldsAfter}
+use Rattle.jb_deck.specs.Changes.{Change}
 use Rattle.jb_deck.specs.Deck.{IsShapeOf}
 use Rattle.jb_deck.specs.GroupsOfBatch.{groups_in}
 use Rattle.jb_deck.specs.Open.{home_by, opened_log, recovered_home}
@@ -149,10 +149,7 @@ module _ (on : HoldsOn) (size count : ℕ) (own : Superblock) (last : ℕ) (befo
             clean = after.clean;
             number = refl;
             homes = λ home.
-                let now : List ℕ = block r (own.maxlen + home) in
-                on done l.changes home (before home) (block base (own.maxlen + home)) now (entry.homes home)
-                (subst (λ b. HoldsAfter l.changes home (λ bytes. bytes ≡ b) now) (stood home)
-                (subst (λ m. HoldsAfter l.changes home (λ bytes. bytes ≡ recovered_home size count base home) (block r (m + home))) (own-maxlen sb owned) (l.has.holds home)));
+                on done l.changes home (before home) (block base (own.maxlen + home)) (block r (own.maxlen + home)) (entry.homes home) (rw (own-maxlen sb owned, stood home) at (l.has.holds home));
           };
         }
 

@@ -3,13 +3,12 @@ use Rattle.std.proofs.Common.{◌≡◌, ℕ, ◌+◌, false, List, [], ◌∷�
 use Rattle.jb_plan.specs.Prepare.{Planned}
 use Rattle.jb_disk.specs.declared.disk.Disk.{Ghosts}
 use Rattle.jb_disk.specs.Image.{Image}
-use Rattle.jb_disk.specs.Faults.{CountsAny}
 use Rattle.jb_disk.specs.KeptOn.{KeptOn}
 use Rattle.jb_disk.specs.Throughout.{AllHave}
 use Rattle.jb_disk.proofs.KeptOverCalls.{kept_same}
 use Rattle.jb_disk.proofs.CallRuns.{after, weaken}
 use Rattle.jb_handle.specs.declared.shape.Shape.{Shape}
-use Rattle.jb_deck.specs.Calls.{OpeningIsRecovered, Reaches, at_first, one_more}
+use Rattle.jb_deck.specs.Calls.{OpeningIsRecovered, at_first, one_more}
 use Rattle.jb_deck.specs.Changes.{Change, fills, settles, torn_by}
 use Rattle.jb_deck.specs.Deck.{IsShapeOf, OpenDeck, on_disk}
 use Rattle.jb_deck.specs.GroupsOfBatch.{groups_in}
@@ -72,9 +71,7 @@ module _ {D : Type 0} {G : Ghosts D} {entry : D} where
       same_size = kept.same_size ∙ so.same_size;
       same_count = kept.same_count ∙ so.same_count;
       is = λ honest. so.is (kept.was_honest honest);
-      calls = λ honest.
-          subst (λ cs. Reaches (λ before. IsEnded G.newest) opened cs new) (sym all)
-          (one_more (all_changes made) now changes new (so.calls (kept.was_honest honest)) (ended honest));
+      calls = λ honest. rw all (one_more (all_changes made) now changes new (so.calls (kept.was_honest honest)) (ended honest));
       run = λ honest. subst (λ ps. Runs G entry ps new.disk) parts (run honest);
     }
 
@@ -103,7 +100,7 @@ module _ {D : Type 0} {G : Ghosts D} {entry : D} where
     pub take-on : {new : OpenDeck D} → new ≡ record now { trail = new.trail } → IsEnded G.newest now [] new → SoFar G entry opened made rest new
     take-on {new = new} same ended =
         let disk : new.disk ≡ now.disk = ap (λ (d : OpenDeck D). d.disk) same in
-        idle-step (subst (KeptOn G CountsAny now.disk) (sym disk) (kept_same now.disk tt)) (λ honest. ended)
+        idle-step (rw disk (kept_same now.disk tt)) (λ honest. ended)
         (ap (λ (d : OpenDeck D). d.log.next) same) (ap (λ (d : OpenDeck D). d.aborted) same ∙ so.up)
         (λ honest. subst (Runs G entry (made ++ rest)) (sym disk) (so.run (subst G.honest disk honest)))
 
@@ -114,9 +111,7 @@ module _ {D : Type 0} {G : Ghosts D} {entry : D} where
     still-has {n = n} many honest left =
         let sum : all_groups made + 0 ≡ n = omega (arith, many) in
         record {
-          each = λ c may.
-              subst (λ (x : List Change × ℕ). Has G entry x.0 x.1 c) (λ i. (append-nil (all_changes made) i, sum i))
-              (left-has G entry so honest [] 0 c (left.each c may) (omega arith));
+          each = λ c may. rw (append-nil (all_changes made), sum) at (left-has G entry so honest [] 0 c (left.each c may) (omega arith));
         }
 
     -- once the journal is closed

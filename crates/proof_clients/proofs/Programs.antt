@@ -22,7 +22,7 @@ use Rattle.jb_disk.specs.Throughout.{AllHave}
 use Rattle.jb_disk.specs.Time.{LeavesOnly}
 use Rattle.jb_disk.proofs.CallRuns.{weaken}
 use Rattle.jb_recover.specs.Outcomes.{recovered}
-use Rattle.jb_deck.specs.Changes.{Change, HoldsAfter, settled_in}
+use Rattle.jb_deck.specs.Changes.{Change, settled_in}
 use Rattle.jb_deck.specs.CallsSinceOpen.{CrashKeeps}
 use Rattle.jb_deck.specs.Since.{CrashHolds, IsEnded, IsLeft, LeftInCommit, SinceIsRecovered, deck_homes}
 use Rattle.proof_clients.specs.Programs.{HasChanges, IsPartOf, LeftByProgram, Part, all_changes, all_groups, no_more}
@@ -59,8 +59,7 @@ keeps-own l sb shape count base c is shaped has =
     let first : l.sb.first ≡ sb.first = ap (λ (x : Log). x.sb.first) is ∙ but.first in
     let maxlen : l.sb.maxlen ≡ sb.maxlen = ap (λ (x : Log). x.sb.maxlen) is ∙ but.maxlen in
     let homes : shape.homes ≡ homes_in sb count = shaped.homes ∙ ap (λ (x : Log). homes_in x.sb count) is ∙ ap₂ (λ w m. min (count - m) (if w then 2 ^ 64 - 1 else 2 ^ 32)) (wide-revoking sb) but.maxlen in
-    let past : l.sb.maxlen + shape.homes ≡ sb.maxlen + homes_in sb count = ap₂ (λ m n. m + n) maxlen homes in
-    subst (λ n. KeepsOutside sb.first n base c) past (subst (λ n. KeepsOutside n (l.sb.maxlen + shape.homes) base c) first has)
+    rw (first, maxlen, homes) at has
 
 -- ---- what a program has done so far, and what a crash leaves of it
 
@@ -186,9 +185,7 @@ module _ {D : Type 0} (G : Ghosts D) where
           let to = is.since size count before opened now (all_changes made) changes next c is.new is.stands (so.calls honest) here in
           let start : opened.log.next ≡ is.opens.sb.sequence + 1 = ap (λ (x : Log). x.next) is.opens.log in
           let number : next ≡ n = omega (arith, start, so.next, many, sum) in
-          subst (λ m. IsRecoveredTo (revoking is.opens.sb) m size count before hs c) number
-          (opened-recovered opened.log is.opens.sb is.opens.log next size count before hs c
-          (subst (λ xs. IsRecoveredTo opened.log.sb next size count before xs c) settled to))
+          rw number at (opened-recovered opened.log is.opens.sb is.opens.log next size count before hs c (rw settled at to))
 
       pub left-has : Has (all_changes made ++ changes) (all_groups made + more) c
       left-has =
@@ -198,9 +195,7 @@ module _ {D : Type 0} (G : Ghosts D) where
             own = is.opens.sb;
             was = is.opens.taken;
             recovered_to = inr (left-to refl refl);
-            holds = λ home.
-                subst (λ m. HoldsAfter (all_changes made ++ changes) home (λ bytes. bytes ≡ before home) (block (recovered size count c) (m + home))) maxlen
-                (is.holds size count before opened now (all_changes made) changes next c is.new is.stands (so.calls honest) here home);
+            holds = λ home. rw maxlen at (is.holds size count before opened now (all_changes made) changes next c is.new is.stands (so.calls honest) here home);
             keeps =
                 keeps-own opened.log is.opens.sb opened.shape count base c is.opens.log is.shaped
                 (is.keeps size count base opened now (all_changes made) changes next c is.opens is.shaped (so.calls honest) here).0;
