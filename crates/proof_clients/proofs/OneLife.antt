@@ -2,7 +2,7 @@
 use Rattle.std.proofs.Common.{◌≡◌, ℕ, ◌+◌, ◌%◌, ◌^◌, ◌⊎◌, Bool, true, false, nat_eq, List, [], ◌∷◌, ◌++◌, Ok, inl, inr, ⊎_elim, refl, ap, ap₂, sym, subst, ◌∙◌, arith, add-zero}
 use Rattle.std.proofs.lemmas.Bool.{false≢true}
 use Rattle.jb_block.specs.Size.{bytes_of}
-use Rattle.jb_disk.specs.History.{History, IsHistorySound, MayLeave, newest_of, replay}
+use Rattle.jb_disk.specs.History.{History, IsHistorySound, MayLeave, newest_of}
 use Rattle.jb_disk.specs.declared.disk.Disk.{Ghosts}
 use Rattle.jb_disk.specs.Image.{Image, Only, block}
 use Rattle.jb_disk.specs.Time.{LeavesOnly}
@@ -32,7 +32,7 @@ use Rattle.proof_clients.specs.Programs.{HasChanges, IsPartOf, LeftByProgram, Pa
 
 -- a disk on which nothing is pending
 pub fresh-only : (h : History) → h.steps ≡ [] → Only (newest_of h) (MayLeave h.first h.steps)
-fresh-only h none = subst (λ steps. Only (replay h.first steps) (MayLeave h.first steps)) (sym none) (λ c is. is)
+fresh-only h none = rw none (λ c is. is)
 
 -- ---- up to the crash
 
@@ -124,10 +124,7 @@ module _ (on : HoldsOn) (size count : ℕ) (own : Superblock) (last : ℕ) (befo
     owned = subst Own (sym is_own) entry.same
 
     stood : (home : ℕ) → recovered_home size count base home ≡ block base (own.maxlen + home)
-    stood home =
-        ap (λ x. home_by x (recovered size count base) home) l.has.was
-        ∙ ap (λ e. block e (sb.maxlen + home)) still
-        ∙ ap (λ m. block base (m + home)) (own-maxlen sb owned)
+    stood home = rw (l.has.was, still, own-maxlen sb owned) refl
 
     clean-more : (x : Superblock) → Own x → IsCleanAt x (sb.sequence + 1 + l.groups) size count r → HoldsLife own last size count before done handles committed r
     clean-more x is after =

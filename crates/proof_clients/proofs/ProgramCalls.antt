@@ -28,25 +28,23 @@ module _ {D : Type 0} {G : Ghosts D} {entry : D} where
       → (G.honest opened.disk → OpensAs G entry opened) → (G.honest opened.disk → Stands G entry opened) → KeptOn G counts entry opened.disk
       → (G.honest opened.disk → Opening G entry opened.disk) → shape ≡ opened.shape → IsShapeOf opened.log.sb (G.count opened.disk) shape
       → SoFar G entry opened [] parts opened
-  begun {opened = opened} recovers since holds keeps new opens stands kept run same shaped =
-      let own = subst (IsShapeOf opened.log.sb (G.count opened.disk)) same shaped in
-      record {
-        next = sym (add-zero opened.log.next);
-        up = new.aborted;
-        same_size = kept.same_size;
-        same_count = kept.same_count;
-        is = λ honest. record {
-          since = since;
-          holds = holds;
-          keeps = keeps;
-          new = new;
-          opens = opens honest;
-          shaped = subst (λ n. IsShapeOf opened.log.sb n opened.shape) kept.same_count own;
-          stands = stands honest;
-        };
-        calls = λ honest. at_first;
-        run = λ honest. opening-runs G entry recovers (run honest);
-      }
+  begun {opened = opened} recovers since holds keeps new opens stands kept run same shaped = record {
+    next = sym (add-zero opened.log.next);
+    up = new.aborted;
+    same_size = kept.same_size;
+    same_count = kept.same_count;
+    is = λ honest. record {
+      since = since;
+      holds = holds;
+      keeps = keeps;
+      new = new;
+      opens = opens honest;
+      shaped = rw (same, kept.same_count) at shaped;
+      stands = stands honest;
+    };
+    calls = λ honest. at_first;
+    run = λ honest. opening-runs G entry recovers (run honest);
+  }
 
   module _ {opened now : OpenDeck D} {made rest : List Part} (so : SoFar G entry opened made rest now) where
     -- what a crash leaves in the next call, or once the journal is closed after it

@@ -1,5 +1,5 @@
 -- What a program has done so far, and what a crash leaves of it.
-use Rattle.std.proofs.Common.{◌≡◌, ℕ, ◌+◌, Bool, true, false, not, nat_eq, List, refl, ap, ap₂, subst, ◌∙◌, ◌⊎◌, [], ◌++◌, inl, inr, ⊎_elim, sym, arith, ◌-◌, ◌^◌, min, if◌then◌else◌}
+use Rattle.std.proofs.Common.{◌≡◌, add-zero, ℕ, ◌+◌, Bool, true, false, not, nat_eq, List, refl, ap, ap₂, subst, ◌∙◌, ◌⊎◌, [], ◌++◌, inl, inr, ⊎_elim, sym, arith, ◌-◌, ◌^◌, min, if◌then◌else◌}
 use Rattle.std.proofs.lemmas.Nat.{and_or_apart}
 use Rattle.jb_disk.specs.Image.{Image, block}
 use Rattle.jb_super.specs.Superblock.{Superblock}
@@ -67,14 +67,13 @@ keeps-own l sb shape count base c is shaped has =
 entry-has : OpeningIsRecovered → (size count : ℕ) (base c : Image) → FollowsEntry size count base c → HasChanges size count base [] 0 c
 entry-has opening size count base c f =
     let before : ℕ → List ℕ = recovered_home size count base in
-    let none : f.sb.sequence + 1 ≡ f.sb.sequence + 1 + 0 = omega arith in
     let here : (home maxlen : ℕ) → maxlen ≡ f.sb.maxlen → block (recovered size count c) (f.sb.maxlen + home) ≡ block (recovered size count c) (maxlen + home)
     = λ home maxlen same. ap (λ m. block (recovered size count c) (m + home)) (sym same) in
     let is = opening size count base c f in
     record {
       own = f.sb;
       was = f.was;
-      recovered_to = subst (λ n. IsRecoveredTo f.sb n size count before [] c ⊎ IsRecoveredTo (revoking f.sb) n size count before [] c) none is;
+      recovered_to = rw (add-zero (f.sb.sequence + 1)) is;
       holds = λ home. elim is [
         | inl early ↦ here home _ (ap (λ (x : Superblock). x.maxlen) early.same) ∙ early.each home
         | inr late ↦ here home _ (ap (λ (x : Superblock). x.maxlen) late.same ∙ (revoking-same f.sb).maxlen) ∙ late.each home
