@@ -1,5 +1,5 @@
 -- The cuts of three handles, by what their groups cost.
-use Rattle.std.proofs.Common.{◌≡◌, ℕ, zero, suc, ◌+◌, ◌<◌, ◌≤◌, List, [], ◌∷◌, length, Option, Some, refl, sym, ap, ◌∙◌, subst, arith}
+use Rattle.std.proofs.Common.{◌≡◌, ℕ, zero, suc, ◌+◌, ◌<◌, ◌≤◌, List, [], ◌∷◌, length, Option, Some, refl, sym, ap, ◌∙◌, arith}
 use Rattle.std.proofs.lemmas.Option.{none-some, same_Some}
 use Rattle.jb_cost.specs.Cut.{FitsCut, IsLeastCut, IsReached, ArePrices, Hold, IsFirstToAttain, EachPiece, price, total}
 use Rattle.jb_cost.specs.declared.geometry.Geometry.{Geometry}
@@ -143,8 +143,7 @@ module _ (c : ℕ → ℕ → ℕ) (costs : Costs c) where
         record { before = omega arith; fits = omega (arith, costs.late); sum = (4, refl, ap Some (let same : 9 ≡ 4 + c 1 3 = omega (arith, costs.late) in same)) },
         λ k less attains.
             let here : k ≡ 0 = omega arith in
-            let fits : c 0 3 ≤ 6 = subst (λ x. c x 3 ≤ 6) here attains.fits in
-            omega (arith, fits, costs.whole),
+            omega (arith, rw here at attains.fits, costs.whole),
       ),
       tt,
     ),
