@@ -1,5 +1,5 @@
 -- Two handles stand in the first groups of a least cut of them.
-use Rattle.std.proofs.Common.{◌≡◌, inl, inr, ℕ, zero, suc, ◌≤◌, List, [], ◌∷◌, ◌++◌, map, length, take, Result, Ok, refl, sym, ap, subst, ◌∙◌, arith}
+use Rattle.std.proofs.Common.{◌≡◌, inl, inr, ℕ, zero, suc, ◌≤◌, List, [], ◌∷◌, ◌++◌, map, length, take, Result, Ok, refl, sym, ap, ◌∙◌, arith}
 use Rattle.std.specs.Global.{Vec}
 use Rattle.std.proofs.lemmas.List.{length-map, length-take, nil_from_length, take_min}
 use Rattle.jb_handle.specs.declared.shape.Shape.{Shape}
@@ -72,18 +72,13 @@ module _ (any : Vec Entry) (run : EveryRun) (shape : Shape) (usable : ℕ) (smal
       let queue : mid.shadow.queue ≡ two = first_kept.running settles.could.running ∙ named in
       let none : mid.trail ≡ [] = no-map (handles_in (stops_of calls)) mid.trail (sym first_kept.trail) in
       let least = rw (first_kept.same_shape, queue) at settles.least in
-      let groups : map (handles_in two) trail ≡ take (length settles.entries) parts =
-      ap (map (handles_in two)) is
-      ∙ ap (λ stops. map (handles_in stops) last.trail) (sym named)
-      ∙ sym kept.trail
-      ∙ ap (λ hs. take (length settles.entries) (pieces settles.cut hs)) queue in
+      let groups : map (handles_in two) trail ≡ take (length settles.entries) parts = rw (is, ← named, ← kept.trail, first_kept.running settles.could.running) refl in
       let long = sym (length-map trail (handles_in two)) ∙ ap length groups ∙ length-take (length settles.entries) parts in (
         settles.told ∙ ap (λ es. before ++ es) (sym (is ∙ ap (λ (a : Account). a.trail) fails ∙ settles.trail ∙ ap (λ es. es ++ settles.entries) none)),
         record {
           cut = settles.cut;
           least = least;
           groups = groups ∙ sym (ap (λ n. take n parts) long ∙ take_min (length settles.entries) parts);
-          have = subst (Have (record { ticket = 0; words = first }) (record { ticket = 1; words = second })) (sym groups)
-              (have-first (record { ticket = 0; words = first }) (record { ticket = 1; words = second }) settles.cut least.fitting.cut (length settles.entries));
+          have = rw groups (have-first (record { ticket = 0; words = first }) (record { ticket = 1; words = second }) settles.cut least.fitting.cut (length settles.entries));
         },
       )
