@@ -1,5 +1,5 @@
 -- How a crash of two disks goes on where one of them is called.
-use Rattle.std.proofs.Common.{◌≡◌, ◌⊎◌, ℕ, ◌+◌, List, ◌∷◌, ◌++◌, length, refl, sym, ap, subst, inl, inr, ⊎_elim, arith}
+use Rattle.std.proofs.Common.{◌≡◌, ◌⊎◌, ℕ, ◌+◌, List, ◌∷◌, ◌++◌, length, refl, sym, ap, subst, inl, inr, ⊎_elim, arith, rules}
 use Rattle.jb_disk.specs.Image.{Image, Same, HasShape}
 use Rattle.jb_disk.specs.KeptOn.{KeptOn}
 use Rattle.jb_disk.specs.Runs.{TornRun}
@@ -172,21 +172,11 @@ module _ {A B : Type 0} (G : Ghosts A) (H : Ghosts B) where
 
       -- they were honest in between
       between : IsHonestPair G H midway
-      between = record {
-        first = honest.first;
-        second = kept'.was_honest honest.second;
-        same_size = rw (sym kept'.same_size) honest.same_size;
-        all_counted = rw (sym kept'.same_count) honest.all_counted;
-      }
+      between = search (rules, kept'.was_honest honest.second, rw kept'.same_size at honest.same_size, rw kept'.same_count at honest.all_counted)
 
       -- and before
       was : IsHonestPair G H p
-      was = record {
-        first = kept.was_honest honest.first;
-        second = between.second;
-        same_size = rw (sym kept.same_size) between.same_size;
-        all_counted = rw (sym kept.same_count) between.all_counted;
-      }
+      was = search (rules, kept.was_honest honest.first, between.second, rw kept.same_size at between.same_size, rw kept.same_count at between.all_counted)
 
       -- calls that change no block
       pub goes-both : (G.honest a' → Goes G.may_leave G.moment G.left_since Same p.front a') → (H.honest b' → Goes H.may_leave H.moment H.left_since Same p.back b') → PairGoes Same p end

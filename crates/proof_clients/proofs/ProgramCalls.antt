@@ -1,5 +1,5 @@
 -- A program goes on call by call, and a crash leaves a first part of what it changes.
-use Rattle.std.proofs.Common.{◌≡◌, ℕ, ◌+◌, false, List, [], ◌∷◌, ◌++◌, map, append_assoc, Result, inr, refl, ap, sym, subst, ◌∙◌, arith, add-zero, append-nil}
+use Rattle.std.proofs.Common.{◌≡◌, ℕ, ◌+◌, false, List, [], ◌∷◌, ◌++◌, map, append_assoc, Result, inr, refl, ap, sym, subst, ◌∙◌, arith, rules, add-zero, append-nil}
 use Rattle.jb_plan.specs.Prepare.{Planned}
 use Rattle.jb_disk.specs.declared.disk.Disk.{Ghosts}
 use Rattle.jb_disk.specs.Image.{Image}
@@ -33,15 +33,7 @@ module _ {D : Type 0} {G : Ghosts D} {entry : D} where
     up = new.aborted;
     same_size = kept.same_size;
     same_count = kept.same_count;
-    is = λ honest. record {
-      since = since;
-      holds = holds;
-      keeps = keeps;
-      new = new;
-      opens = opens honest;
-      shaped = rw (same, kept.same_count) at shaped;
-      stands = stands honest;
-    };
+    is = λ honest. search (rules, opens honest, stands honest, rw (same, kept.same_count) at shaped);
     calls = λ honest. at_first;
     run = λ honest. opening-runs G entry recovers (run honest);
   }
