@@ -93,4 +93,5 @@ module _ {D : Type 0} (G : Ghosts D) (disk : D) (ran : Ran (Result (Unit {0}) Fa
 
   -- the same of a run with as many workers
   pub keeps-by : (workers : ℕ) → workers ≡ 1 → RanOn G disk (started_on G disk) (λ shape sure workers at stops known answer. Acknowledges stops known.notes answer) workers ran → Kept
-  keeps-by workers one on = keeps (rw one at on)
+  keeps-by workers one on =
+      keeps (subst (λ n. RanOn G disk (started_on G disk) (λ shape sure workers at stops known answer. Acknowledges stops known.notes answer) n ran) one on)

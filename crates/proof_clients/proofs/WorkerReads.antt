@@ -74,7 +74,8 @@ module _ {D : Type 0} (G : Ghosts D) (bytes : List ℕ) (disk : D) (ran : Ran Fo
     found-at : (at : ℕ) (found : Found) → at < 2 → slice_get ran.answers.items at ≡ Some found
         → HasFound bytes b (AreHonest G (get_or on.all.seen at [])) (get_or on.all.stopped at []) (get_or on.all.known at nothing) found
     found-at at found lt is =
-        rw (get_or_from_slice_get ran.answers.items at found found is) at (on.all.answers.each at [] nothing [] found lt)
+        subst (HasFound bytes b (AreHonest G (get_or on.all.seen at [])) (get_or on.all.stopped at []) (get_or on.all.known at nothing))
+        (get_or_from_slice_get ran.answers.items at found found is) (on.all.answers.each at [] nothing [] found lt)
 
     pub told : TwoHaveWorked G bytes disk ran
     told =
@@ -109,5 +110,7 @@ pub told-of : {D E : Type 0} (G : Ghosts D) (disk : D) (bytes written : List ℕ
     → (r : Result (Ran Found D) E) → IfOk r (RanOn G disk (started_on G disk) (λ shape sure workers at stops known found. HasFound written (started_on G disk) sure stops known found) workers)
     → IfOk r (TwoHaveWorked G bytes disk)
 told-of G disk bytes written workers same two (Ok ran) on =
-    rw same at (told G written disk ran (rw two at on))
+    subst (λ text. TwoHaveWorked G text disk ran) same
+    (told G written disk ran
+    (subst (λ n. RanOn G disk (started_on G disk) (λ shape sure workers at stops known found. HasFound written (started_on G disk) sure stops known found) n ran) two on))
 told-of G disk bytes written workers same two (Err fault) on = tt

@@ -1,12 +1,14 @@
 use Rattle.std.proofs.Common.{rules}
 use Rattle.jb_journal.specs.Client.{client_known, client_stops}
+use Rattle.example_store.specs.AcknowledgedPuts.{AreInNotesButOne}
 use Rattle.example_store.proofs.StoreKeeps.{ack, but_one, put_noted, same_noted}
 use Rattle.example_store.proofs.serving.Serving.obey.Goals as goal
 
 pub returns-in_err-put-in-Put-clause-acknowledged : goal.returns-in_err-put-in-Put-clause-acknowledged
 returns-in_err-put-in-Put-clause-acknowledged g c =
-    search (rules, but_one (client_known c.args.client.now) (client_known c.put.new.client) (client_stops c.args.client.now) (client_stops c.put.new.client)
-    c.put.ensures.begins c.requires.noted c.in_err-put-in-Put.ensures.puts)
+    let one : AreInNotesButOne (client_known c.put.new.client).notes (client_stops c.put.new.client) =
+    but_one (client_known c.args.client.now) (client_known c.put.new.client) _ _ c.put.ensures.begins c.requires.noted c.in_err-put-in-Put.ensures.puts in
+    search (rules, one)
 
 pub returns-in_err-say-in-Put-clause-acknowledged : goal.returns-in_err-say-in-Put-clause-acknowledged
 returns-in_err-say-in-Put-clause-acknowledged g c =
@@ -19,8 +21,9 @@ returns-in_ok-say-in-Put-clause-acknowledged g c =
 
 pub returns-in_err-delete-in-Delete-clause-acknowledged : goal.returns-in_err-delete-in-Delete-clause-acknowledged
 returns-in_err-delete-in-Delete-clause-acknowledged g c =
-    search (rules, but_one (client_known c.args.client.now) (client_known c.delete.new.client) (client_stops c.args.client.now) (client_stops c.delete.new.client)
-    c.delete.ensures.begins c.requires.noted c.in_err-delete-in-Delete.ensures.puts)
+    let one : AreInNotesButOne (client_known c.delete.new.client).notes (client_stops c.delete.new.client) =
+    but_one (client_known c.args.client.now) (client_known c.delete.new.client) _ _ c.delete.ensures.begins c.requires.noted c.in_err-delete-in-Delete.ensures.puts in
+    search (rules, one)
 
 pub returns-in_err-say-in-Delete-clause-acknowledged : goal.returns-in_err-say-in-Delete-clause-acknowledged
 returns-in_err-say-in-Delete-clause-acknowledged g c =
