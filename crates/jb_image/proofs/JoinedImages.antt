@@ -61,6 +61,10 @@ changes-then R n m place c d e first second = record {
       ∙ first.elsewhere p (λ k below. outside k (omega (arith, below)));
 }
 
+-- what is said of each of the blocks may be said otherwise
+changes-said : {R S : ℕ → List ℕ → List ℕ → Type 0} (n place : ℕ) (c d : Image) → ((k : ℕ) (a b : List ℕ) → k < n → R k a b → S k a b) → Changes R n place c d → Changes S n place c d
+changes-said n place c d said changes = record { count = changes.count; inside = λ k below. said k _ _ below (changes.inside k below); elsewhere = changes.elsewhere }
+
 -- ---- words for what is changed
 
 -- a word that says of n blocks how they are changed, and of no other block
@@ -167,16 +171,8 @@ module _ {size n m blocks : ℕ} {first rest bytes : List ℕ} (halves : Halves 
   runs-then R c d e begun ended =
       rw (← halves.whole, ← halves.all)
       (changes-then (λ k. R (part size k (first ++ rest))) n m place c d e
-      (record {
-        count = begun.count;
-        inside = λ k below. subst (λ b. R b (block c (place + k)) (block d (place + k))) (sym (part-front size n k first rest halves.long below)) (begun.inside k below);
-        elsewhere = begun.elsewhere;
-      })
-      (record {
-        count = ended.count;
-        inside = λ k below. subst (λ b. R b (block d (place + n + k)) (block e (place + n + k))) (sym (part-back size n k first rest halves.long)) (ended.inside k below);
-        elsewhere = ended.elsewhere;
-      }))
+      (changes-said n place c d (λ k a b below. subst (λ bs. R bs a b) (sym (part-front size n k first rest halves.long below))) begun)
+      (changes-said m (place + n) d e (λ k a b below. subst (λ bs. R bs a b) (sym (part-back size n k first rest halves.long))) ended))
 
   pub torn_run-then : (c d e : Image) → TornRun size n place first c d → TornRun size m (place + n) rest d e → TornRun size blocks place bytes c e
   torn_run-then c d e begun ended =

@@ -30,10 +30,6 @@ use Rattle.proof_clients.specs.Lives.{HasLives, HoldsChanges, HoldsLife, IsAtRes
 use Rattle.proof_clients.proofs.Programs.{Left, Runs}
 use Rattle.proof_clients.specs.Programs.{HasChanges, IsPartOf, LeftByProgram, Part, after_batch, all_changes, commits, no_more}
 
--- a disk on which nothing is pending
-pub fresh-only : (h : History) → h.steps ≡ [] → Only (newest_of h) (MayLeave h.first h.steps)
-fresh-only h none = rw none (λ c is. is)
-
 -- ---- up to the crash
 
 -- a life without a batch

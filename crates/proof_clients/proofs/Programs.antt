@@ -1,14 +1,12 @@
 -- What a program has done so far, and what a crash leaves of it.
-use Rattle.std.proofs.Common.{◌≡◌, add-zero, ℕ, ◌+◌, Bool, true, false, not, nat_eq, List, refl, ap, ap₂, subst, ◌∙◌, ◌⊎◌, [], ◌++◌, inl, inr, ⊎_elim, sym, arith, ◌-◌, ◌^◌, min, if◌then◌else◌}
+use Rattle.std.proofs.Common.{◌≡◌, add-zero, ℕ, ◌+◌, true, false, not, nat_eq, List, refl, ap, ap₂, subst, ◌∙◌, ◌⊎◌, [], ◌++◌, inl, inr, ⊎_elim, sym, arith, ◌-◌, ◌^◌, min, if◌then◌else◌}
 use Rattle.std.proofs.lemmas.Nat.{and_or_apart}
 use Rattle.jb_disk.specs.Image.{Image, block}
 use Rattle.jb_super.specs.Superblock.{Superblock}
 use Rattle.jb_handle.specs.declared.stopped.Stopped.{Stopped}
-use Rattle.jb_handle.specs.declared.shape.Shape.{Shape}
 use Rattle.jb_super.specs.Features.{wide_in}
 use Rattle.jb_format.specs.Front.{homes_in}
 use Rattle.jb_format.specs.Ready.{has_revoke, revoking, revoking_if}
-use Rattle.jb_log.specs.Frame.{KeepsFrame, KeepsOutside}
 use Rattle.jb_deck.specs.Deck.{IsShapeOf, OpenDeck}
 use Rattle.jb_deck.specs.Open.{opened_log, FollowsEntry, IsNew, Opens, recovered_home}
 use Rattle.jb_log.specs.declared.log.Log.{Log}
@@ -46,20 +44,7 @@ opened-recovered l sb is next size count before hs c has =
 
 -- the feature for revoke blocks does not change how wide block numbers are
 wide-revoking : (sb : Superblock) → wide_in (revoking sb) ≡ wide_in sb
-wide-revoking sb = go (has_revoke sb)
-  where
-    go : (b : Bool) → wide_in (revoking_if b sb) ≡ wide_in sb
-    go true = refl
-    go false = ap (λ m. not (nat_eq m 0)) (and_or_apart 2 sb.incompat 1 refl)
-
--- what has not changed, by the superblock at first
-pub keeps-own : (l : Log) (sb : Superblock) (shape : Shape) (count : ℕ) (base c : Image) → l ≡ opened_log sb → IsShapeOf l.sb count shape → KeepsOutside l.sb.first (l.sb.maxlen + shape.homes) base c → KeepsFrame sb count base c
-keeps-own l sb shape count base c is shaped has =
-    let but = revoking-same sb in
-    let first : l.sb.first ≡ sb.first = ap (λ (x : Log). x.sb.first) is ∙ but.first in
-    let maxlen : l.sb.maxlen ≡ sb.maxlen = ap (λ (x : Log). x.sb.maxlen) is ∙ but.maxlen in
-    let homes : shape.homes ≡ homes_in sb count = shaped.homes ∙ ap (λ (x : Log). homes_in x.sb count) is ∙ ap₂ (λ w m. min (count - m) (if w then 2 ^ 64 - 1 else 2 ^ 32)) (wide-revoking sb) but.maxlen in
-    rw (first, maxlen, homes) at has
+wide-revoking sb = elim (has_revoke sb) as (λ b. wide_in (revoking_if b sb) ≡ wide_in sb) [ true ↦ refl | false ↦ ap (λ m. not (nat_eq m 0)) (and_or_apart 2 sb.incompat 1 refl) ]
 
 -- ---- what a program has done so far, and what a crash leaves of it
 
@@ -189,15 +174,17 @@ module _ {D : Type 0} (G : Ghosts D) where
       pub left-has : Has (all_changes made ++ changes) (all_groups made + more) c
       left-has =
           let is = so.is honest in
-          let maxlen : opened.log.sb.maxlen ≡ is.opens.sb.maxlen = ap (λ (x : Log). x.sb.maxlen) is.opens.log ∙ (revoking-same is.opens.sb).maxlen in
+          let but = revoking-same is.opens.sb in
+          let first : opened.log.sb.first ≡ is.opens.sb.first = ap (λ (x : Log). x.sb.first) is.opens.log ∙ but.first in
+          let maxlen : opened.log.sb.maxlen ≡ is.opens.sb.maxlen = ap (λ (x : Log). x.sb.maxlen) is.opens.log ∙ but.maxlen in
+          let homes : opened.shape.homes ≡ homes_in is.opens.sb count =
+          is.shaped.homes ∙ ap (λ (x : Log). homes_in x.sb count) is.opens.log ∙ ap₂ (λ w m. min (count - m) (if w then 2 ^ 64 - 1 else 2 ^ 32)) (wide-revoking is.opens.sb) but.maxlen in
           record {
             own = is.opens.sb;
             was = is.opens.taken;
             recovered_to = inr (left-to refl refl);
             holds = λ home. rw maxlen at (is.holds size count before opened now (all_changes made) changes next c is.new is.stands (so.calls honest) here home);
-            keeps =
-                keeps-own opened.log is.opens.sb opened.shape count base c is.opens.log is.shaped
-                (is.keeps size count base opened now (all_changes made) changes next c is.opens is.shaped (so.calls honest) here).0;
+            keeps = rw (first, maxlen, homes) at (is.keeps size count base opened now (all_changes made) changes next c is.opens is.shaped (so.calls honest) here).0;
           }
 
       pub left-program : IsPartOf rest changes more → LeftByProgram size count base (made ++ rest) c

@@ -4,7 +4,7 @@ use Rattle.jb_disk.specs.History.{History, newest_of, replay}
 use Rattle.jb_disk.specs.Lives.{left_since_now}
 use Rattle.jb_format.proofs.CallEntry.{entry-as}
 use Rattle.jb_recover.specs.Outcomes.{RecoversAs, recovered}
-use Rattle.proof_clients.proofs.OneLife.{fresh-only, life-more, rested}
+use Rattle.proof_clients.proofs.OneLife.{life-more, rested}
 use Rattle.proof_clients.proofs.lives.live.Goals as goal
 
 pub returns-clause-rest : goal.returns-clause-rest
@@ -43,7 +43,7 @@ returns-clause-lives c = λ rest own last_number before done entry.
     let part = c.recover_in_part.result.disk in
     let kept_cut = c.recover_in_part.ensures.kept in
     let sound_part = rw c.into_inner-cut.ensures at c.always_sound-2.ensures.sound in
-    let leaves_cut = c.recover_in_part.ensures.leaves sound_part (rw is_cut (fresh-only crashed c.in_ok-crashed.ensures.fresh.0)) in
+    let leaves_cut = c.recover_in_part.ensures.leaves sound_part (rw (is_cut, c.in_ok-crashed.ensures.fresh.0) (λ image still. still)) in
     let allowed_cut = rw c.into_inner-cut.ensures at c.in_ok-disk.ensures.allowed in
     let recovers = leaves_cut.each again.first (left_since_now part.first part.steps (length cut.steps) again.first leaves_cut.later allowed_cut) in
     let cut_size : bytes_of cut.size ≡ size = ap (λ (h : History). bytes_of h.size) is_cut ∙ same_size in
