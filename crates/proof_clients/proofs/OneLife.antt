@@ -9,20 +9,19 @@ use Rattle.jb_disk.specs.Time.{LeavesOnly}
 use Rattle.jb_disk.proofs.CallRuns.{weaken}
 use Rattle.jb_super.specs.Journal.{SameJournal}
 use Rattle.jb_super.specs.Superblock.{Superblock}
-use Rattle.jb_plan.specs.Prepare.{IsPlanned, Planned}
+use Rattle.jb_plan.specs.Prepare.{Planned}
 use Rattle.jb_handle.specs.declared.stopped.Stopped.{Stopped}
 use Rattle.jb_format.specs.Front.{homes_in, super_on}
 use Rattle.jb_format.specs.Ready.{revoking}
 use Rattle.jb_recover.specs.Outcomes.{KeepsJournal, recovered}
 use Rattle.jb_recover.proofs.RecoveredImage.{own-clean_refusal}
-use Rattle.jb_log.specs.declared.log.Log.{Log}
 use Rattle.jb_log.proofs.FrameKeeps.{frame-start}
 use Rattle.jb_log.proofs.OwnSuperblock.{same-then}
 use Rattle.jb_deck.specs.Calls.{IsCleanAt}
 use Rattle.jb_deck.specs.Changes.{Change}
 use Rattle.jb_deck.specs.Deck.{IsShapeOf}
 use Rattle.jb_deck.specs.GroupsOfBatch.{groups_in}
-use Rattle.jb_deck.specs.Open.{home_by, opened_log, recovered_home}
+use Rattle.jb_deck.specs.Open.{home_by, recovered_home}
 use Rattle.jb_deck.specs.Since.{HoldsOn}
 use Rattle.jb_deck.proofs.Lives.{one-super, revoking-twice, same-revoking}
 use Rattle.jb_deck.proofs.OpenedJournal.{revoking-same}
@@ -35,13 +34,6 @@ use Rattle.proof_clients.specs.Programs.{HasChanges, IsPartOf, LeftByProgram, Pa
 -- a life without a batch
 none-part : (own : Superblock) (count : ℕ) (handles : List Stopped) (changes : List Change) (groups : ℕ) → IsPartOf [] changes groups → IsPartOfLife own count handles changes groups
 none-part own count handles changes groups (no_more _) = nothing
-
--- the batch is one of the life's handles, planned for the journal that was opened, by the superblock that an image had
-pub batch-opened : (size count : ℕ) (base : Image) (sb : Superblock) (l : Log) → super_on size count base ≡ Ok sb → l ≡ opened_log sb → (handles : List Stopped) (batch : Planned) → IsPlanned batch → batch.batch.handles ≡ handles → IsShapeOf l.sb count batch.batch.shape
-    → (own : Superblock) → super_on size count base ≡ Ok own → IsBatchOf own count handles batch
-batch-opened size count base sb l taken is handles batch planned same shaped own was =
-    let at = subst (λ (m : Log). IsShapeOf m.sb count batch.batch.shape) (is ∙ ap opened_log (one-super size count base sb own taken was)) shaped in
-    record { planned = planned; same = same; shape = record { size = at.size; homes = at.homes; limit = at.limit; width = at.width } }
 
 -- a crash after the life
 pub left-whole : (size count : ℕ) (base : Image) (handles : List Stopped) (batch : Planned) (c : Image) → ((own : Superblock) → super_on size count base ≡ Ok own → IsBatchOf own count handles batch)
