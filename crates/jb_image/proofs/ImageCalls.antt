@@ -13,14 +13,14 @@ use Rattle.jb_image.specs.declared.pair.PairDisk.{PairDisk}
 use Rattle.jb_image.specs.Images.{image_moment, image_size, ImageLeaves, ImageLeft}
 use Rattle.jb_image.specs.Pair.{front_disk, past_states, PairLeaves, PairLeftSince}
 
-module _ {D E : Type 0} (G : Ghosts D) (H : Ghosts E) (step : Image → Image → Type 0) (old : ImageDisk D E) where
-  pub goes-two : (p q : PairDisk E D) → old ≡ Two p → Goes (PairLeaves H G) (λ p. length (past_states p)) (PairLeftSince H G) step p q
+module _ {D E : Type 0} (G : Ghosts D) (H : Ghosts E) {step : Image → Image → Type 0} {old : ImageDisk D E} where
+  pub goes-two : {p q : PairDisk E D} → old ≡ Two p → Goes (PairLeaves H G) (λ p. length (past_states p)) (PairLeftSince H G) step p q
       → Goes (ImageLeaves G H) (image_moment G H) (ImageLeft G H) step old (Two q)
-  goes-two p q is call = rw is (record { crash = call.crash; later = call.later; nothing_else = call.nothing_else; keeps = call.keeps })
+  goes-two is call = rw is (record { crash = call.crash; later = call.later; nothing_else = call.nothing_else; keeps = call.keeps })
 
-  pub goes-within : (d e : ExtentsDisk D) → old ≡ Within d → Goes (WithinLeaves G) (λ d. G.moment (whole_disk d)) (WithinLeft G) step d e
+  pub goes-within : {d e : ExtentsDisk D} → old ≡ Within d → Goes (WithinLeaves G) (λ d. G.moment (whole_disk d)) (WithinLeft G) step d e
       → Goes (ImageLeaves G H) (image_moment G H) (ImageLeft G H) step old (Within e)
-  goes-within d e is call = rw is (record { crash = call.crash; later = call.later; nothing_else = call.nothing_else; keeps = call.keeps })
+  goes-within is call = rw is (record { crash = call.crash; later = call.later; nothing_else = call.nothing_else; keeps = call.keeps })
 
 -- a run of blocks of its size
 module _ {D E : Type 0} (G : Ghosts D) (H : Ghosts E) (step : ℕ → Image → Image → Type 0) (old : ImageDisk D E) where
