@@ -13,9 +13,7 @@ invariant_of-result c =
     }
 
 pub returns-clause-ok : goal.returns-clause-ok
-returns-clause-ok c =
-    let same : c.in_ok-entries.entries.items ≡ c.args.tree.entries = search rules in
-    map.entries-from_sorted nat_cmp _ (invariant_of-result c).rising ∙ same
+returns-clause-ok c = map.entries-from_sorted nat_cmp c.in_ok-entries.entries.items (invariant_of-result c).rising ∙ (search rules)
 
 pub returns-then-is_empty-clause-ok : goal.returns-then-is_empty-clause-ok
 returns-then-is_empty-clause-ok c =
