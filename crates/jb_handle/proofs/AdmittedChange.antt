@@ -1,14 +1,14 @@
 -- A change that is not refused leaves a handle within its credits and its shape.
-use Rattle.std.proofs.Common.{◌≡◌, ℕ, ◌+◌, ◌^◌, ◌<◌, ◌≤◌, Bool, true, false, not, nat_le, cond, ◌==◌, ◌&&◌, [], ◌∷◌, Some, None, sym, ap, subst, refl, ◌∙◌, arith, nat_cmp}
+use Rattle.std.proofs.Common.{◌≡◌, ℕ, ◌^◌, ◌<◌, Bool, true, false, not, nat_le, [], ◌∷◌, Some, None, sym, refl, ◌∙◌, arith, nat_cmp}
 use Rattle.std.proofs.lemmas.Bool.Decides.{nat_tests}
-use Rattle.std.specs.Cmp.{nat_cmp_total, unsigned_ties}
+use Rattle.std.specs.Cmp.{nat_cmp_total}
 use Rattle.std.specs.FinMap as map
 use Rattle.jb_handle.specs.declared.word.Word.{Word}
 use Rattle.jb_handle.specs.declared.word.Word.TheVariants.{Copy, Free}
 use Rattle.jb_handle.specs.declared.shape.Shape.{Shape}
 use Rattle.jb_handle.specs.declared.changes.TouchFault.TheVariants.{NoCredit, OutOfRange, Length}
-use Rattle.jb_handle.specs.Word.{WordMap}
-use Rattle.jb_handle.specs.HeldChanges.{Held, held, FitsWord, Fits, IsKept, is_spent, is_misfit, first_of, len_in, refusal_at, put_at}
+use Rattle.jb_handle.specs.HeldChanges.{Held, held, FitsWord, IsKept, is_spent, is_misfit, first_of, len_in, refusal_at, put_at}
+use Rattle.jb_handle.proofs.EachWord.{each-put}
 
 -- no words are within any credits, and fit any shape
 pub kept-new : (credits : ℕ) (shape : Shape) → credits < 2 ^ 32 → IsKept (held credits shape map.empty)
@@ -16,29 +16,6 @@ kept-new credits shape narrow = record {
   narrow = narrow;
   within = rw (map.len-empty nat_cmp Word) (omega arith);
   fits = λ home word is. let never : None ≡ Some word = sym (map.get-empty nat_cmp home) ∙ is in absurd (let h : ⊥ = cc in h);
-}
-
-within-put : (has : Bool) (n credits : ℕ) → (not has && nat_le credits n) ≡ false → n ≤ credits → cond has n (n + 1) ≤ credits
-within-put true n credits room le = le
-within-put false n credits room le = let lt : n < credits = grind (arith, nat_tests) in omega arith
-
-module _ (shape : Shape) (words : WordMap) (home : ℕ) (word : Word) (fits : Fits shape words) (new : FitsWord shape home word) where
-  fits-test : (q : ℕ) (w : Word) (same : Bool) → (q == home) ≡ same → cond same (Some word) (map.get words q) ≡ Some w → FitsWord shape q w
-  fits-test q w true at is =
-      let here : q ≡ home = grind (arith, nat_tests) in
-      let this : word ≡ w = cc in
-      subst (λ x. FitsWord shape q x) this (subst (λ x. FitsWord shape x word) (sym here) new)
-  fits-test q w false at is = fits q w is
-
-  fits-put : Fits shape (map.insert words home word)
-  fits-put q w is = fits-test q w (q == home) refl (ap (λ b. cond b (Some word) (map.get words q)) (unsigned_ties q home) ∙ sym (map.get-insert nat_cmp_total words home word q) ∙ is)
-
--- a word that fits, where there is a credit for it, keeps the rest
-pub kept-put : (h : Held) (home : ℕ) (word : Word) → IsKept h → FitsWord h.shape home word → is_spent h home ≡ false → IsKept (put_at h home word)
-kept-put h home word kept fits room = record {
-  narrow = kept.narrow;
-  within = rw (map.len-insert nat_cmp_total h.words home word) (within-put (map.contains_key h.words home) (map.len h.words) h.credits room kept.within);
-  fits = fits-put h.shape h.words home word kept.fits fits;
 }
 
 -- what three tests let pass
@@ -52,7 +29,12 @@ fitting : (shape : Shape) (home : ℕ) (word : Word) → nat_le shape.homes home
 fitting shape home (Copy bytes) there misfit = (grind (arith, nat_tests), grind (arith, nat_tests))
 fitting shape home Free there misfit = grind (arith, nat_tests)
 
+-- a word that fits, where there is a credit for it, keeps the rest
 pub word-kept : (h : Held) (home : ℕ) (word : Word) → IsKept h → refusal_at h home (len_in word) ≡ None → IsKept (put_at h home word)
 word-kept h home word kept none =
     let p = passed (is_spent h home) (nat_le h.shape.homes home) (is_misfit h.shape (len_in word)) (NoCredit h.credits) (OutOfRange home) Length none in
-    kept-put h home word kept (fitting h.shape home word p.1 p.2) p.0
+    record {
+      narrow = kept.narrow;
+      within = rw (map.len-insert nat_cmp_total h.words home word) (let room = p.0 in grind (arith, nat_tests, room, kept.within));
+      fits = each-put (FitsWord h.shape) h.words home word (fitting h.shape home word p.1 p.2) kept.fits;
+    }

@@ -1,5 +1,5 @@
 -- The words of several handles as one map.
-use Rattle.std.proofs.Common.{◌≡◌, ℕ, Bool, true, false, cond, List, [], ◌∷◌, ◌++◌, Option, Some, refl, sym, ap, ◌∙◌}
+use Rattle.std.proofs.Common.{◌≡◌, ℕ, Bool, true, false, cond, List, [], ◌∷◌, ◌++◌, Option, Some, refl, ap, ◌∙◌}
 use Rattle.std.specs.Option.{option_or}
 use Rattle.std.specs.Ordering.{nat_cmp, eq_by_cmp}
 use Rattle.std.specs.Cmp.{nat_cmp_total}
@@ -18,10 +18,7 @@ find-append b (e ∷ es) fs = ap (cond (eq_by_cmp nat_cmp b e.0) (Some e.1)) (fi
 
 find-latest : (hs : List Stopped) (b : ℕ) → map.find nat_cmp b (latest_first hs) ≡ word hs b
 find-latest [] b = refl
-find-latest (h ∷ hs) b =
-    find-append b (latest_first hs) (map.entries h.words)
-    ∙ ap (λ w. option_or w (map.find nat_cmp b (map.entries h.words))) (find-latest hs b)
-    ∙ ap (option_or (word hs b)) (sym (map.get-entries h.words b))
+find-latest (h ∷ hs) b = rw (find-append b (latest_first hs) (map.entries h.words), find-latest hs b, ← map.get-entries h.words b) refl
 
 pub get-words_of : (hs : List Stopped) (b : ℕ) → map.get (words_of hs) b ≡ word hs b
 unfolding words_of

@@ -1,24 +1,14 @@
 -- The first bytes of a block of which some are kept and the others are zeros.
-use Rattle.std.proofs.Common.{◌≡◌, ap, sym, ◌∙◌, ℕ, zero, suc, ◌+◌, ◌-◌, ◌≤◌, ◌<◌, min, List, [], ◌∷◌, ◌++◌, length, take, drop, replicate, get_or, arith, inl, inr, append-nil, length-append}
-use Rattle.std.proofs.lemmas.Bool.{cases_lt}
-use Rattle.std.proofs.lemmas.List.{take-append-le, take-replicate, drop-replicate, take_all, drop_all, length-replicate}
-use Rattle.std.proofs.Math.Seq.{take-append-add}
+use Rattle.std.proofs.Common.{◌≡◌, refl, ap, sym, ℕ, zero, suc, ◌+◌, ◌-◌, ◌≤◌, ◌<◌, min, List, [], ◌∷◌, ◌++◌, length, take, drop, replicate, get_or, arith, length-append}
+use Rattle.std.proofs.lemmas.List.{take-replicate, length-replicate}
 use Rattle.jb_block.specs.Fields.{AreBytes}
 
 -- zeros over which so many of the bytes are written, up to n of them
-pub take-padded : (n len k : ℕ) (bytes : List ℕ) → n ≤ len → length bytes ≤ len → k ≡ min (length bytes) n → take k bytes ++ drop k (replicate n 0) ≡ take n (bytes ++ replicate (len - length bytes) 0)
-take-padded n len k bytes long fits is = elim (cases_lt (length bytes) n) [
-  | inl few ↦ short few (let e : k ≡ length bytes = omega arith in e)
-  | inr many ↦ whole many (let e : k ≡ n = omega arith in e)
-]
-  where
-    whole : n ≤ length bytes → k ≡ n → take k bytes ++ drop k (replicate n 0) ≡ take n (bytes ++ replicate (len - length bytes) 0)
-    whole many e = rw e (ap (λ zs. take n bytes ++ zs) (drop_all n (replicate n 0) (let l : length (replicate {A = ℕ} n 0) ≡ n = length-replicate n 0 in omega arith)) ∙ append-nil (take n bytes) ∙ sym (take-append-le n bytes (replicate (len - length bytes) 0) many))
-
-    short : length bytes < n → k ≡ length bytes → take k bytes ++ drop k (replicate n 0) ≡ take n (bytes ++ replicate (len - length bytes) 0)
-    short few e = rw e (ap (λ bs. bs ++ drop (length bytes) (replicate n 0)) (take_all (length bytes) bytes (omega arith))
-        ∙ ap (λ zs. bytes ++ zs) (drop-replicate (length bytes) n 0 ∙ sym (take-replicate (n - length bytes) (len - length bytes) 0 (omega arith)))
-        ∙ sym (take-append-add bytes (replicate (len - length bytes) 0) (n - length bytes)) ∙ ap (λ m. take m (bytes ++ replicate (len - length bytes) 0)) (let e : length bytes + (n - length bytes) ≡ n = omega arith in e))
+pub take-padded : (n more k : ℕ) (bytes : List ℕ) → n ≤ length bytes + more → k ≡ min (length bytes) n → take k bytes ++ drop k (replicate n 0) ≡ take n (bytes ++ replicate more 0)
+take-padded n more k [] long is = let none : k ≡ 0 = omega arith in rw none (sym (take-replicate n more 0 (omega arith)))
+take-padded zero more k (b ∷ bytes) long is = let none : k ≡ 0 = omega arith in rw none refl
+take-padded (suc n) more zero (b ∷ bytes) long is = absurd (omega arith)
+take-padded (suc n) more (suc k) (b ∷ bytes) long is = ap (λ bs. b ∷ bs) (take-padded n more k bytes (omega arith) (omega arith))
 
 -- bytes and the zeros that fill them up are as many as they are to be
 pub length-filled : (len : ℕ) (bytes : List ℕ) → length bytes ≤ len → length (bytes ++ replicate (len - length bytes) 0) ≡ len

@@ -1,5 +1,5 @@
 -- Entries whose homes rise: where a search among them ends, what is found there, and what is put there.
-use Rattle.std.proofs.Common.{◌≡◌, ℕ, zero, suc, ◌+◌, ◌<◌, ◌≤◌, Bool, true, false, ◌&&◌, cond, nat_eq, T, List, [], ◌∷◌, length, get_or, set, take, Some, None, Less, Result, Ok, Err, sym, ap, subst, refl, ◌∙◌, arith}
+use Rattle.std.proofs.Common.{◌≡◌, ◌≢◌, ℕ, zero, suc, ◌+◌, ◌<◌, ◌≤◌, Bool, true, false, ◌&&◌, cond, nat_eq, T, List, [], ◌∷◌, length, get_or, set, take, Some, None, Less, Result, Ok, Err, sym, ap, subst, refl, ◌∙◌, arith}
 use Rattle.std.specs.List.{insert, AllByRecursion}
 use Rattle.std.specs.List.Sorted.{IsSearchInRange, IsBinarySearchResult, IsNonDecreasingBy, IsStrictlySortedBy}
 use Rattle.std.specs.Map.{keys_of}
@@ -8,7 +8,7 @@ use Rattle.std.specs.FinMap as map
 use Rattle.std.specs.FinMap.Entries.{below_all, is_sorted-put, find-append}
 use Rattle.std.specs.Cmp.{nat_cmp_total}
 use Rattle.std.proofs.lemmas.Cmp.{ranked}
-use Rattle.std.proofs.lemmas.List.{take_all, take_more}
+use Rattle.std.proofs.lemmas.List.{get_or_default, take_all, take_more, get_or-take, length-take-le}
 use Rattle.std.proofs.lemmas.Bool.Decides.{nat_tests}
 use Rattle.jb_handle.specs.HomeSearch.{StandsAt, GoesTo, IsPlaced}
 
@@ -17,15 +17,8 @@ both_parts true true h = (tt, tt)
 both_parts true false h = absurd h
 both_parts false b h = absurd h
 
-both : (a b : Bool) → T a → T b → T (a && b)
-both true b p q = q
-both false b p q = absurd p
-
 pub is_lt-less : (x y : ℕ) → T (is_lt (nat_cmp x y)) → x < y
 is_lt-less x y h = grind (arith, nat_tests, h)
-
-less-is_lt : (x y : ℕ) → x < y → T (is_lt (nat_cmp x y))
-less-is_lt x y h = grind (arith, nat_tests)
 
 pub tied-cond : {A : Type 0} (q b : ℕ) (x y : A) → cond (eq_by_cmp nat_cmp q b) x y ≡ cond (nat_eq q b) x y
 tied-cond q b x y = grind (arith, nat_tests)
@@ -72,70 +65,64 @@ module _ {W : Type 0} where
   find-stands [] s b i d h = absurd (omega (arith, h.inside))
   find-stands (e ∷ es) s b zero d h = grind (arith, nat_tests, h.home d)
   find-stands (e ∷ es) s b (suc i) d h =
-      let later : e.0 < b = omega (arith, homes-rise (e ∷ es) s 0 (suc i) d (omega arith) h.inside, h.home d) in
-      grind (arith, nat_tests, find-stands es (rising-tail e es s) b i d (stands-tail e es b i h))
+      grind (arith, nat_tests, homes-rise (e ∷ es) s 0 (suc i) d (omega arith) h.inside, h.home d, find-stands es (rising-tail e es s) b i d (stands-tail e es b i h))
 
   pub put-stands : (es : List (ℕ × W)) → T (map.is_sorted nat_cmp es) → (b i : ℕ) (w : W) → StandsAt es b i → map.put nat_cmp b w es ≡ set es i (b, w)
   put-stands [] s b i w h = absurd (omega (arith, h.inside))
   put-stands (e ∷ es) s b zero w h = grind (arith, nat_tests, h.home e)
   put-stands (e ∷ es) s b (suc i) w h =
-      let later : e.0 < b = omega (arith, homes-rise (e ∷ es) s 0 (suc i) e (omega arith) h.inside, h.home e) in
-      grind (arith, nat_tests, put-stands es (rising-tail e es s) b i w (stands-tail e es b i h))
+      grind (arith, nat_tests, homes-rise (e ∷ es) s 0 (suc i) e (omega arith) h.inside, h.home e, put-stands es (rising-tail e es s) b i w (stands-tail e es b i h))
+
+  -- nothing is found of a home that no entry has
+  lacks : (es : List (ℕ × W)) (b : ℕ) → ((j : ℕ) (d : ℕ × W) → j < length es → (get_or es j d).0 ≢ b) → map.find nat_cmp b es ≡ None
+  lacks [] b apart = refl
+  lacks (e ∷ es) b apart = let other : e.0 ≢ b = apart 0 e (omega arith) in grind (arith, nat_tests, lacks es b (λ j d within. apart (suc j) d (omega arith)))
 
   -- where it would go, nothing is found, and its word is put there
   pub find-goes : (es : List (ℕ × W)) (b i : ℕ) → GoesTo es b i → map.find nat_cmp b es ≡ None
-  find-goes [] b i h = refl
-  find-goes (e ∷ es) b zero h =
-      let below : b < e.0 = h.after 0 e (omega arith) (omega arith) in
-      let tail : GoesTo es b 0 = record { inside = omega arith; before = λ j d lt. absurd (omega arith); after = λ j d le lt. h.after (suc j) d (omega arith) (omega arith) } in
-      grind (arith, nat_tests, find-goes es b 0 tail)
-  find-goes (e ∷ es) b (suc i) h =
-      let below : e.0 < b = h.before 0 e (omega arith) in
-      grind (arith, nat_tests, find-goes es b i (goes-tail e es b i h))
+  find-goes es b i h = lacks es b (λ j d within same. grind (arith, h.before j d, h.after j d, same))
 
   pub put-goes : (es : List (ℕ × W)) (b i : ℕ) (w : W) → GoesTo es b i → map.put nat_cmp b w es ≡ insert es i (b, w)
   put-goes [] b zero w h = refl
   put-goes [] b (suc i) w h = absurd (omega (arith, h.inside))
-  put-goes (e ∷ es) b zero w h = let below : b < e.0 = h.after 0 e (omega arith) (omega arith) in grind (arith, nat_tests)
-  put-goes (e ∷ es) b (suc i) w h =
-      let below : e.0 < b = h.before 0 e (omega arith) in
-      grind (arith, nat_tests, put-goes es b i w (goes-tail e es b i h))
+  put-goes (e ∷ es) b zero w h = grind (arith, nat_tests, h.after 0 e (omega arith) (omega arith))
+  put-goes (e ∷ es) b (suc i) w h = grind (arith, nat_tests, h.before 0 e (omega arith), put-goes es b i w (goes-tail e es b i h))
 
   -- the map of entries among which a word was put
-  pub view-put : (es fs : List (ℕ × W)) → T (map.is_sorted nat_cmp es) → (b : ℕ) (w : W) → map.put nat_cmp b w es ≡ fs → T (map.is_sorted nat_cmp fs) × (map.from_sorted {R = nat_cmp} fs ≡ map.insert (map.from_sorted es) b w)
-  view-put es fs rising b w is =
+  pub view-put : (es fs : List (ℕ × W)) (m : map.FinMap nat_cmp W) → map.from_sorted es ≡ m → T (map.is_sorted nat_cmp es) → (b : ℕ) (w : W) → map.put nat_cmp b w es ≡ fs
+      → T (map.is_sorted nat_cmp fs) × (map.from_sorted {R = nat_cmp} fs ≡ map.insert m b w)
+  view-put es fs m view rising b w is =
       let still : T (map.is_sorted nat_cmp fs) = subst (λ gs. T (map.is_sorted nat_cmp gs)) is (is_sorted-put nat_cmp nat_cmp_total b w es rising) in
-      let put_there : map.entries (map.insert (map.from_sorted {R = nat_cmp} es) b w) ≡ fs = map.entries-insert nat_cmp_total _ b w ∙ ap (map.put nat_cmp b w) (map.entries-from_sorted nat_cmp es rising) ∙ is in
+      let put_there = map.entries-insert nat_cmp_total m b w ∙ ap (map.put nat_cmp b w) (ap map.entries (sym view) ∙ map.entries-from_sorted nat_cmp es rising) ∙ is in
       (still, map.same_entries_map _ _ (map.entries-from_sorted nat_cmp fs still ∙ sym put_there))
+
+  -- what is found in a list is what the map has that it is viewed as
+  pub view-get : (es : List (ℕ × W)) (m : map.FinMap nat_cmp W) → map.from_sorted es ≡ m → T (map.is_sorted nat_cmp es) → (b : ℕ) → map.get m b ≡ map.find nat_cmp b es
+  view-get es m view rising b = ap (λ n. map.get n b) (sym view) ∙ map.get-from_sorted nat_cmp es b rising
 
   pub view-empty : ◌≡◌ {A = map.FinMap nat_cmp W} (map.from_sorted []) map.empty
   view-empty = map.empty_of_len _ (map.len-entries _ ∙ ap length (map.entries-from_sorted nat_cmp [] tt))
 
   below-all : (b : ℕ) (es : List (ℕ × W)) → AllByRecursion (λ x. nat_cmp b x ≡ Less) (keys_of es) → T (below_all nat_cmp b es)
   below-all b [] h = tt
-  below-all b (e ∷ es) h = both _ _ (less-is_lt b e.0 (ranked b e.0 Less (sym h.0))) (below-all b es h.1)
+  below-all b (e ∷ es) h = rw h.0 (below-all b es h.1)
 
   -- a tree keeps its entries in this order
   pub ordered-rise : (es : List (ℕ × W)) → IsStrictlySortedBy nat_cmp (keys_of es) → T (map.is_sorted nat_cmp es)
   unfolding IsStrictlySortedBy
   ordered-rise [] h = tt
-  ordered-rise (e ∷ es) h = both _ _ (below-all e.0 es h.0) (ordered-rise es h.1)
+  ordered-rise (e ∷ es) h = grind (arith, nat_tests, below-all e.0 es h.0, ordered-rise es h.1)
 
   -- no home is among the entries before it
   pub find-before : (es : List (ℕ × W)) → T (map.is_sorted nat_cmp es) → (i : ℕ) (d : ℕ × W) → i < length es → map.find nat_cmp (get_or es i d).0 (take i es) ≡ None
-  find-before [] h i d lt = absurd (omega arith)
-  find-before (e ∷ es) h zero d lt = refl
-  find-before (e ∷ es) h (suc i) d lt =
-      let less : e.0 < (get_or es i d).0 = homes-rise (e ∷ es) h 0 (suc i) d (omega arith) lt in
-      let apart : eq_by_cmp nat_cmp (get_or es i d).0 e.0 ≡ false = grind (arith, nat_tests) in
-      rw apart (find-before es (rising-tail e es h) i d (omega arith))
+  find-before es h i d lt =
+      lacks (take i es) (get_or es i d).0 (λ j e within same. let inside : j < i = omega (arith, length-take-le i es (omega arith), within) in
+      omega (arith, homes-rise es h j i d inside lt, rw (get_or-take, get_or_default es j e d (omega arith)) at same))
 
   -- what is found among one entry more
   pub find-take : (es : List (ℕ × W)) → T (map.is_sorted nat_cmp es) → (i : ℕ) (d : ℕ × W) → i < length es → (q : ℕ) → map.find nat_cmp q (take (i + 1) es) ≡ cond (nat_eq q (get_or es i d).0) (Some (get_or es i d).1) (map.find nat_cmp q (take i es))
   find-take es h i d lt q =
-      ap (map.find nat_cmp q) (take_more es i d lt)
-      ∙ find-append nat_cmp nat_cmp_total (take i es) (get_or es i d).0 (get_or es i d).1 q (find-before es h i d lt)
-      ∙ tied-cond q (get_or es i d).0 _ _
+      rw (take_more es i d lt, find-append nat_cmp nat_cmp_total (take i es) (get_or es i d).0 (get_or es i d).1 q (find-before es h i d lt)) (tied-cond q (get_or es i d).0 _ _)
 
   -- the entry e is the next one: what is found with it, and that its home is not among those before it
   module _ (es : List (ℕ × W)) (rising : T (map.is_sorted nat_cmp es)) (i : ℕ) (e : ℕ × W) (here : e ≡ get_or es i e) (inside : i < length es) where

@@ -1,5 +1,5 @@
 -- Which homes handles touch, copy and free.
-use Rattle.std.proofs.Common.{◌≡◌, ℕ, Bool, false, ◌&&◌, ◌||◌, List, [], ◌∷◌, ◌++◌, Option, Some, None, is_some, refl, sym, ap, ◌∙◌, flat_map}
+use Rattle.std.proofs.Common.{◌≡◌, ℕ, Bool, false, ◌&&◌, List, [], ◌∷◌, ◌++◌, Option, Some, None, is_some, refl, sym, ap, ◌∙◌, flat_map}
 use Rattle.std.specs.Option.{option_or}
 use Rattle.std.specs.Ordering.{nat_cmp, eq_by_cmp}
 use Rattle.std.specs.Cmp.{nat_cmp_total}
@@ -41,10 +41,7 @@ frees-homes_of hs i = set.retain (touched hs) (λ b. freed-is_of (word hs b) i)
 
 any-word : (hs : List Stopped) (q : ℕ) → list_any (eq_by_cmp nat_cmp q) (flat_map (λ h. map.keys h.words) hs) ≡ is_some (word hs q)
 any-word [] q = refl
-any-word (h ∷ hs) q =
-    list_any-append (eq_by_cmp nat_cmp q) (map.keys h.words) _
-    ∙ (λ i. sym (map.contains_key-keys h.words q) i || any-word hs q i)
-    ∙ sym (or-some (word hs q) (map.get h.words q))
+any-word (h ∷ hs) q = rw (list_any-append (eq_by_cmp nat_cmp q) (map.keys h.words), ← map.contains_key-keys h.words q, any-word hs q, or-some (word hs q) (map.get h.words q)) refl
 
 -- a home is touched where it has a word
 pub contains-touched : (hs : List Stopped) (q : ℕ) → set.contains (touched hs) q ≡ is_some (word hs q)

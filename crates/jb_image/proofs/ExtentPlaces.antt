@@ -1,15 +1,14 @@
 -- Which place a block of the image is, and what a call for one changes.
-use Rattle.std.proofs.Common.{◌≡◌, ◌≢◌, ◌<◌, ◌≤◌, ◌+◌, ◌-◌, ℕ, Bool, true, false, not, ◌&&◌, ◌||◌, cond, max, List, [], ◌∷◌, length, set, Option, Some, None, All, refl, sym, ◌∙◌, ap, subst, inl, inr, ⊎_elim, arith, length-set, get_or-set_same, get_or-set_other}
-use Rattle.std.specs.Prelude.{nat_lt}
-use Rattle.std.proofs.lemmas.Bool.{and_from, and_parts, cases_Bool, cases_lt, le-ltb, not-true, or_cases, or_right, ltb-false, ltb-true, true≢false}
+use Rattle.std.proofs.Common.{◌≡◌, ◌≢◌, ◌<◌, ◌≤◌, ◌-◌, ℕ, true, not, List, [], ◌∷◌, length, set, Option, Some, None, All, refl, sym, ◌∙◌, ap, subst, inl, inr, ⊎_elim, arith, length-set, get_or-set_same, get_or-set_other}
+use Rattle.std.proofs.lemmas.Bool.{cases_lt, true≢false}
+use Rattle.std.proofs.lemmas.Bool.Decides.{nat_tests}
 use Rattle.std.proofs.lemmas.List.{ext_get_or, get_or_past}
 use Rattle.std.proofs.lemmas.List.Elements.{All-head, All-tail}
-use Rattle.std.proofs.lemmas.Option.{none-some, same_Some}
-use Rattle.std.proofs.Math.Decide.{ℕ_discrete}
-use Rattle.jb_disk.specs.Image.{Image, block, sector, Torn}
+use Rattle.std.proofs.lemmas.Option.{none-some}
+use Rattle.jb_disk.specs.Image.{Image, block, Torn}
 use Rattle.jb_disk.specs.Time.{Goes}
 use Rattle.jb_disk.specs.declared.disk.Disk.{Ghosts}
-use Rattle.jb_image.specs.Blocks.{extent_count, has_block}
+use Rattle.jb_image.specs.Blocks.{extent_count}
 use Rattle.jb_image.specs.Disks.{at_block, spread_count, whole_disk}
 use Rattle.jb_image.specs.Lists.{holds_in, list_of, meets_in, or_else, place_within, shared_in}
 use Rattle.jb_image.specs.ExtentImage.{AreApart, at_block-is, block_given, block-spread, length-spread, spread, within, WithinLeaves, WithinLeft}
@@ -24,54 +23,18 @@ or_else-none : (a b : Option ℕ) → or_else a b ≡ None → (a ≡ None) × (
 or_else-none None b is = (refl, is)
 or_else-none (Some x) b is = absurd (none-some x (sym is))
 
--- a block that an extent has
-has-within : (e : Extent) (b : ℕ) → e.first ≤ b → b ≤ e.last → has_block e b ≡ true
-has-within e b past behind =
-    and_from (not (nat_lt b e.first)) (not (nat_lt e.last b)) (ap not (le-ltb b e.first past)) (ap not (le-ltb e.last b behind))
-
-has-inside : (e : Extent) (b : ℕ) → has_block e b ≡ true → (e.first ≤ b) × (b ≤ e.last)
-has-inside e b has =
-    let both = and_parts (not (nat_lt b e.first)) (not (nat_lt e.last b)) has in
-    (ltb-false b e.first (not-true (nat_lt b e.first) both.0), ltb-false e.last b (not-true (nat_lt e.last b) both.1))
-
--- is in no other that does not meet it
+-- a block that an extent has is in no other that does not meet it
 meets-held : (e : Extent) (es : List Extent) (b : ℕ) → e.first ≤ b → b ≤ e.last → holds_in es b ≡ true → meets_in e es ≡ None → ⊥
 meets-held e [] b past behind held apart = true≢false (sym held)
-meets-held e (f ∷ fs) b past behind held apart =
-    let Meets = λ (t : Bool). cond t (Some (max e.first f.first)) (meets_in e fs) ≡ None in
-    let test = not (nat_lt f.last e.first) && not (nat_lt e.last f.first) in
-    let none : test ≡ true → ⊥ = λ meets. none-some (max e.first f.first) (sym (subst Meets meets apart)) in
-    ⊎_elim
-    (λ has.
-    let inside = has-inside f b has in
-    none (and_from (not (nat_lt f.last e.first)) (not (nat_lt e.last f.first))
-    (ap not (le-ltb f.last e.first (omega (arith, past, inside.1)))) (ap not (le-ltb e.last f.first (omega (arith, behind, inside.0))))))
-    (λ later. ⊎_elim none (λ other. meets-held e fs b past behind later (subst Meets other apart)) (cases_Bool test))
-    (or_cases (has_block f b) (holds_in fs b) held)
+meets-held e (f ∷ fs) b past behind held apart = grind (arith, nat_tests, meets-held e fs b past behind)
 
 -- ---- the blocks of the journal
 
--- one of the first extent's
-place-first : (e : Extent) (es : List Extent) (i b : ℕ) → nat_lt i (extent_count e) ≡ true → place_within (e ∷ es) i ≡ Some b → e.first + i ≡ b
-place-first e es i b first is =
-    same_Some (e.first + i) b (subst (λ t. cond t (Some (e.first + i)) (place_within es (i - extent_count e)) ≡ Some b) first is)
-
--- one of a later one's
-place-later : (e : Extent) (es : List Extent) (i b : ℕ) → nat_lt i (extent_count e) ≡ false → place_within (e ∷ es) i ≡ Some b → place_within es (i - extent_count e) ≡ Some b
-place-later e es i b later is =
-    subst (λ t. cond t (Some (e.first + i)) (place_within es (i - extent_count e)) ≡ Some b) later is
-
--- they stand in the extents
+-- the blocks of the journal stand in the extents
 place-held : (es : List Extent) → All (λ e. e.first ≤ e.last) es → (i b : ℕ) → place_within es i ≡ Some b → holds_in es b ≡ true
 place-held [] forward i b is = absurd (none-some b is)
 place-held (e ∷ es) forward i b is =
-    ⊎_elim
-    (λ first.
-    let at = place-first e es i b first is in
-    let here = has-within e b (omega (arith, at)) (omega (arith, All-head (λ e. e.first ≤ e.last) e es forward, ltb-true i (extent_count e) first, at)) in
-    ap (λ t. t || holds_in es b) here)
-    (λ later. or_right (has_block e b) (holds_in es b) (place-held es (All-tail (λ e. e.first ≤ e.last) e es forward) (i - extent_count e) b (place-later e es i b later is)))
-    (cases_Bool (nat_lt i (extent_count e)))
+    grind (arith, nat_tests, All-head (λ e. e.first ≤ e.last) e es forward, place-held es (All-tail (λ e. e.first ≤ e.last) e es forward) (i - extent_count e) b)
 
 -- and each in one of its own
 place-apart : (es : List Extent) → All (λ e. e.first ≤ e.last) es → shared_in es ≡ None → (i j b : ℕ) → place_within es i ≡ Some b → place_within es j ≡ Some b → i ≡ j
@@ -81,25 +44,7 @@ place-apart (e ∷ es) forward apart i j b one other =
     let head = All-head (λ e. e.first ≤ e.last) e es forward in
     let tail = All-tail (λ e. e.first ≤ e.last) e es forward in
     let none = or_else-none (meets_in e es) (shared_in es) apart in
-    let twice : (k l : ℕ) → nat_lt k n ≡ true → nat_lt l n ≡ false → place_within (e ∷ es) k ≡ Some b → place_within (e ∷ es) l ≡ Some b → ⊥
-    = λ k l first later in_first in_later.
-    let at = place-first e es k b first in_first in
-    meets-held e es b (omega (arith, at)) (omega (arith, head, ltb-true k n first, at)) (place-held es tail (l - n) b (place-later e es l b later in_later)) none.0 in
-    ⊎_elim
-    (λ first. ⊎_elim
-    (λ too. omega (arith, place-first e es i b first one, place-first e es j b too other))
-    (λ later. absurd (twice i j first later one other))
-    (cases_Bool (nat_lt j n)))
-    (λ later. ⊎_elim
-    (λ first. absurd (twice j i first later other one))
-    (λ too. omega (
-      arith,
-      place-apart es tail none.1 (i - n) (j - n) b (place-later e es i b later one) (place-later e es j b too other),
-      ltb-false i n later,
-      ltb-false j n too,
-    ))
-    (cases_Bool (nat_lt j n)))
-    (cases_Bool (nat_lt i n))
+    grind (arith, nat_tests, head, meets-held e es b, place-held es tail (i - n) b, place-held es tail (j - n) b, place-apart es tail none.1 (i - n) (j - n) b, none.0)
 
 -- so no two places are one block of the image
 pub at_block-apart : (extents : Extents) (journal blocks p q b : ℕ) → AreApart (list_of extents) → at_block extents journal blocks p ≡ Some b → at_block extents journal blocks q ≡ Some b → p ≡ q
@@ -107,16 +52,7 @@ at_block-apart extents journal blocks p q b apart one other =
     let es = list_of extents in
     let at_p = at_block-is extents journal blocks p b one in
     let at_q = at_block-is extents journal blocks q b other in
-    ⊎_elim
-    (λ here. ⊎_elim
-    (λ there. place-apart es apart.forward apart.unshared p q b here.1 there.1)
-    (λ home. absurd (true≢false (sym (place-held es apart.forward p b here.1) ∙ home.1)))
-    at_q.either)
-    (λ home. ⊎_elim
-    (λ there. absurd (true≢false (sym (place-held es apart.forward q b there.1) ∙ home.1)))
-    (λ next. omega (arith, home.0, home.2, next.0, next.2))
-    at_q.either)
-    at_p.either
+    grind (arith, at_p.either, at_q.either, place-apart es apart.forward apart.unshared p q b, place-held es apart.forward p b, place-held es apart.forward q b)
 
 -- a place that was found, by the number of the image's blocks
 pub found-at : (extents : Extents) (journal n m place b : ℕ) (o : Option ℕ) → n ≡ m → o ≡ at_block extents journal n place → o ≡ Some b → at_block extents journal m place ≡ Some b
@@ -140,14 +76,10 @@ module _ (extents : Extents) (journal size blocks place b : ℕ) (apart : AreApa
   -- and at no other
   given-elsewhere : (x x' : Image) → ((q : ℕ) → q ≢ b → block x' q ≡ block x q) → (p : ℕ) → p ≢ place → block (given x') p ≡ block (given x) p
   given-elsewhere x x' same p other = ⊎_elim
-      (λ within.
-      block-spread extents journal size blocks x' p within
-      ∙ given-same x x' same (at_block extents journal blocks p)
-      (λ q at here. other (at_block-apart extents journal blocks p place b apart (at ∙ ap Some here) is))
-      ∙ sym (block-spread extents journal size blocks x p within))
-      (λ past.
-      get_or_past (given x') p [] (omega (arith, past, length-spread extents journal size blocks x'))
-      ∙ sym (get_or_past (given x) p [] (omega (arith, past, length-spread extents journal size blocks x))))
+      (λ within. rw (block-spread extents journal size blocks x' p within, block-spread extents journal size blocks x p within)
+      (given-same x x' same (at_block extents journal blocks p) (λ q at here. other (at_block-apart extents journal blocks p place b apart (at ∙ ap Some here) is))))
+      (λ past. let long = length-spread extents journal size blocks in
+      rw (get_or_past (given x') p [] (omega (arith, past, long x')), get_or_past (given x) p [] (omega (arith, past, long x))) refl)
       (cases_lt p (spread_count journal blocks))
 
   -- a write of the block is one of its place
@@ -155,22 +87,16 @@ module _ (extents : Extents) (journal size blocks place b : ℕ) (apart : AreApa
   given-set x bytes within =
       let long = length-spread extents journal size blocks in
       ext_get_or [] (given (set x b bytes)) (set (given x) place bytes) (long (set x b bytes) ∙ sym (long x) ∙ sym (length-set (given x) place bytes))
-      (λ p below. elim (ℕ_discrete p place) [
-        | yes here ↦ ap (block (given (set x b bytes))) here ∙ given-here (set x b bytes) ∙ get_or-set_same x b bytes [] within
-            ∙ sym (get_or-set_same (given x) place bytes [] (omega (arith, long x, inside))) ∙ ap (block (set (given x) place bytes)) (sym here)
-        | no other ↦ given-elsewhere x (set x b bytes) (λ q apart. get_or-set_other x b q bytes [] apart) p other ∙ sym (get_or-set_other (given x) place p bytes [] other)
-      ])
+      (λ p below. grind (arith, given-here x, given-here (set x b bytes), get_or-set_same x b bytes [] within, get_or-set_same (given x) place bytes [] (omega (arith, long x, inside)),
+      given-elsewhere x (set x b bytes) (λ q other. get_or-set_other x b q bytes [] other) p, get_or-set_other (given x) place p bytes []))
 
   -- so is a torn one
   pub given-torn : (x x' : Image) (bytes : List ℕ) → Torn b bytes x x' → Torn place bytes (given x) (given x')
   given-torn x x' bytes torn = record {
     count = length-spread extents journal size blocks x' ∙ sym (length-spread extents journal size blocks x);
     elsewhere = given-elsewhere x x' torn.elsewhere;
-    size = ap length (given-here x') ∙ torn.size ∙ sym (ap length (given-here x));
-    sectors = λ k. ⊎_elim
-        (λ old. inl (ap (sector k) (given-here x') ∙ old ∙ ap (sector k) (sym (given-here x))))
-        (λ written. inr (ap (sector k) (given-here x') ∙ written))
-        (torn.sectors k);
+    size = rw (given-here x', given-here x) torn.size;
+    sectors = λ k. rw (given-here x', given-here x) (torn.sectors k);
   }
 
 -- ---- how a crash goes on

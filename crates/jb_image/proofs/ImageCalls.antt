@@ -1,5 +1,5 @@
 -- A call of an image that is two disks, or one in extents of which the journal stands, is one of these.
-use Rattle.std.proofs.Common.{◌≡◌, ℕ, length, sym, subst}
+use Rattle.std.proofs.Common.{◌≡◌, ℕ, length}
 use Rattle.jb_disk.specs.Image.{Image}
 use Rattle.jb_disk.specs.Steps.{Steps}
 use Rattle.jb_disk.specs.Time.{Goes}
@@ -13,33 +13,21 @@ use Rattle.jb_image.specs.declared.pair.PairDisk.{PairDisk}
 use Rattle.jb_image.specs.Images.{image_moment, image_size, ImageLeaves, ImageLeft}
 use Rattle.jb_image.specs.Pair.{front_disk, past_states, PairLeaves, PairLeftSince}
 
-module _ {D E : Type 0} (G : Ghosts D) (H : Ghosts E) (step : Image → Image → Type 0) (old : ImageDisk D E) where
-  pub goes-two : (p q : PairDisk E D) → old ≡ Two p → Goes (PairLeaves H G) (λ p. length (past_states p)) (PairLeftSince H G) step p q
+module _ {D E : Type 0} (G : Ghosts D) (H : Ghosts E) {step : Image → Image → Type 0} {old : ImageDisk D E} where
+  pub goes-two : {p q : PairDisk E D} → old ≡ Two p → Goes (PairLeaves H G) (λ p. length (past_states p)) (PairLeftSince H G) step p q
       → Goes (ImageLeaves G H) (image_moment G H) (ImageLeft G H) step old (Two q)
-  goes-two p q is call =
-      let same : Goes (ImageLeaves G H) (image_moment G H) (ImageLeft G H) step (Two p) (Two q)
-      = record { crash = call.crash; later = call.later; nothing_else = call.nothing_else; keeps = call.keeps } in
-      subst (λ o. Goes (ImageLeaves G H) (image_moment G H) (ImageLeft G H) step o (Two q)) (sym is) same
+  goes-two is call = rw is (record { crash = call.crash; later = call.later; nothing_else = call.nothing_else; keeps = call.keeps })
 
-  pub goes-within : (d e : ExtentsDisk D) → old ≡ Within d → Goes (WithinLeaves G) (λ d. G.moment (whole_disk d)) (WithinLeft G) step d e
+  pub goes-within : {d e : ExtentsDisk D} → old ≡ Within d → Goes (WithinLeaves G) (λ d. G.moment (whole_disk d)) (WithinLeft G) step d e
       → Goes (ImageLeaves G H) (image_moment G H) (ImageLeft G H) step old (Within e)
-  goes-within d e is call =
-      let same : Goes (ImageLeaves G H) (image_moment G H) (ImageLeft G H) step (Within d) (Within e)
-      = record { crash = call.crash; later = call.later; nothing_else = call.nothing_else; keeps = call.keeps } in
-      subst (λ o. Goes (ImageLeaves G H) (image_moment G H) (ImageLeft G H) step o (Within e)) (sym is) same
+  goes-within is call = rw is (record { crash = call.crash; later = call.later; nothing_else = call.nothing_else; keeps = call.keeps })
 
 -- a run of blocks of its size
 module _ {D E : Type 0} (G : Ghosts D) (H : Ghosts E) (step : ℕ → Image → Image → Type 0) (old : ImageDisk D E) where
   pub steps-two : (p q : PairDisk E D) → old ≡ Two p → Steps (PairLeaves H G) (λ p. length (past_states p)) (PairLeftSince H G) (step (H.size (front_disk p))) p q
       → Steps (ImageLeaves G H) (image_moment G H) (ImageLeft G H) (step (image_size G H old)) old (Two q)
-  steps-two p q is run =
-      let same : Steps (ImageLeaves G H) (image_moment G H) (ImageLeft G H) (step (H.size (front_disk p))) (Two p) (Two q)
-      = record { now = record { each = run.now.each }; leaves = record { later = run.leaves.later; each = run.leaves.each; before = run.leaves.before } } in
-      subst (λ o. Steps (ImageLeaves G H) (image_moment G H) (ImageLeft G H) (step (image_size G H o)) o (Two q)) (sym is) same
+  steps-two p q is run = rw is (record { now = record { each = run.now.each }; leaves = record { later = run.leaves.later; each = run.leaves.each; before = run.leaves.before } })
 
   pub steps-within : (d e : ExtentsDisk D) → old ≡ Within d → Steps (WithinLeaves G) (λ d. G.moment (whole_disk d)) (WithinLeft G) (step (G.size (whole_disk d))) d e
       → Steps (ImageLeaves G H) (image_moment G H) (ImageLeft G H) (step (image_size G H old)) old (Within e)
-  steps-within d e is run =
-      let same : Steps (ImageLeaves G H) (image_moment G H) (ImageLeft G H) (step (G.size (whole_disk d))) (Within d) (Within e)
-      = record { now = record { each = run.now.each }; leaves = record { later = run.leaves.later; each = run.leaves.each; before = run.leaves.before } } in
-      subst (λ o. Steps (ImageLeaves G H) (image_moment G H) (ImageLeft G H) (step (image_size G H o)) o (Within e)) (sym is) same
+  steps-within d e is run = rw is (record { now = record { each = run.now.each }; leaves = record { later = run.leaves.later; each = run.leaves.each; before = run.leaves.before } })

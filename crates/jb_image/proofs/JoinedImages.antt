@@ -1,5 +1,5 @@
 -- Images one after the other, and what a call changes of both.
-use Rattle.std.proofs.Common.{◌≡◌, ◌<◌, ◌≤◌, ◌⊎◌, ℕ, ◌+◌, ◌-◌, ◌*◌, List, [], ◌++◌, length, take, drop, refl, sym, ◌∙◌, ap, subst, inl, inr, ⊎_elim, arith, length-append, length-drop}
+use Rattle.std.proofs.Common.{◌≡◌, ◌<◌, ◌≤◌, ◌⊎◌, ℕ, ◌+◌, ◌-◌, ◌*◌, List, [], ◌++◌, length, drop, refl, sym, ◌∙◌, ap, subst, inl, inr, ⊎_elim, arith, length-append, length-drop}
 use Rattle.std.proofs.lemmas.Bool.{cases_lt}
 use Rattle.std.proofs.lemmas.List.{get_or_append_left, get_or-append_right, take-append-le, drop-append-le}
 use Rattle.std.proofs.Math.Seq.{drop-append-add}
@@ -12,10 +12,8 @@ by_place : (P : List ℕ → List ℕ → Type 0) (x x' y y' : Image) (p : ℕ) 
     → (p < length x → P (block x p) (block x' p)) → (length x ≤ p → P (block y (p - length x)) (block y' (p - length x))) → P (block (x ++ y) p) (block (x' ++ y') p)
 by_place P x x' y y' p same front back =
     ⊎_elim
-    (λ below. subst (λ b. P b (block (x' ++ y') p)) (sym (get_or_append_left x y [] p below))
-    (subst (P (block x p)) (sym (get_or_append_left x' y' [] p (omega (arith, below, same)))) (front below)))
-    (λ past. subst (λ b. P b (block (x' ++ y') p)) (sym (get_or-append_right x y (length x) p [] refl past))
-    (subst (P (block y (p - length x))) (sym (get_or-append_right x' y' (length x) p [] same past)) (back past)))
+    (λ below. rw (get_or_append_left x y [] p below, get_or_append_left x' y' [] p (omega (arith, below, same))) (front below))
+    (λ past. rw (get_or-append_right x y (length x) p [] refl past, get_or-append_right x' y' (length x) p [] same past) (back past))
     (cases_lt p (length x))
 
 -- ---- what a call changes
@@ -26,13 +24,10 @@ pub record Changes (R : ℕ → List ℕ → List ℕ → Type 0) (n place : ℕ
   pub inside : (k : ℕ) → k < n → R k (block old (place + k)) (block new (place + k))
   pub elsewhere : (p : ℕ) → IsOutside n place p → block new p ≡ block old p
 
-same_length : (x x' y y' : Image) → length x' ≡ length x → length y' ≡ length y → length (x' ++ y') ≡ length (x ++ y)
-same_length x x' y y' first second = omega (arith, length-append x y, length-append x' y', first, second)
-
 -- blocks of the first image
 pub changes-front : (R : ℕ → List ℕ → List ℕ → Type 0) (n place : ℕ) (x x' y : Image) → place + n ≤ length x → Changes R n place x x' → Changes R n place (x ++ y) (x' ++ y)
 changes-front R n place x x' y within changes = record {
-  count = same_length x x' y y changes.count refl;
+  count = omega (arith, length-append x y, length-append x' y, changes.count);
   inside = λ k below. by_place (R k) x x' y y (place + k) changes.count
       (λ _. changes.inside k below) (λ past. absurd (let h : ⊥ = omega (arith, within, below, past) in h));
   elsewhere = λ p outside. by_place (λ a b. b ≡ a) x x' y y p changes.count (λ _. changes.elsewhere p outside) (λ _. refl);
@@ -41,7 +36,7 @@ changes-front R n place x x' y within changes = record {
 -- blocks of the second
 pub changes-back : (R : ℕ → List ℕ → List ℕ → Type 0) (n q place : ℕ) (x y y' : Image) → place ≡ length x + q → Changes R n q y y' → Changes R n place (x ++ y) (x ++ y')
 changes-back R n q place x y y' is changes = record {
-  count = same_length x x y y' refl changes.count;
+  count = omega (arith, length-append x y, length-append x y', changes.count);
   inside = λ k below. by_place (R k) x x y y' (place + k) refl
       (λ less. absurd (let h : ⊥ = omega (arith, is, less) in h))
       (λ _. subst (λ i. R k (block y i) (block y' i)) (let h : q + k ≡ place + k - length x = omega (arith, is) in h) (changes.inside k below));
@@ -59,14 +54,16 @@ changes-then R n m place c d e first second = record {
       let number : n + (k - n) ≡ k = omega (arith, past) in
       let at : place + n + (k - n) ≡ place + k = omega (arith, past) in
       let as_before : block d (place + k) ≡ block c (place + k) = first.elsewhere (place + k) (λ j less same. omega (arith, less, past, same)) in
-      subst (λ b. R k b (block e (place + k))) as_before
-      (subst (λ i. R k (block d i) (block e i)) at
-      (subst (λ j. R j (block d (place + n + (k - n))) (block e (place + n + (k - n)))) number (second.inside (k - n) (omega (arith, past, below))))))
+      rw (number, at, as_before) at (second.inside (k - n) (omega (arith, past, below))))
       (cases_lt k n);
   elsewhere = λ p outside.
       second.elsewhere p (λ k below same. outside (n + k) (omega (arith, below)) (omega (arith, same)))
       ∙ first.elsewhere p (λ k below. outside k (omega (arith, below)));
 }
+
+-- what is said of each of the blocks may be said otherwise
+changes-said : {R S : ℕ → List ℕ → List ℕ → Type 0} (n place : ℕ) (c d : Image) → ((k : ℕ) (a b : List ℕ) → k < n → R k a b → S k a b) → Changes R n place c d → Changes S n place c d
+changes-said n place c d said changes = record { count = changes.count; inside = λ k below. said k _ _ below (changes.inside k below); elsewhere = changes.elsewhere }
 
 -- ---- words for what is changed
 
@@ -152,14 +149,13 @@ written_blocks size n bytes = record {
 pub part-front : (size n k : ℕ) (a b : List ℕ) → length a ≡ size * n → k < n → part size k (a ++ b) ≡ part size k a
 part-front size n k a b is below =
     let within : size * k + size ≤ length a = omega (arith, is, mul-le-mul_left {m = k + 1} {n = n} size (omega (arith, below))) in
-    ap (take size) (drop-append-le (size * k) a b (omega (arith, within)))
-    ∙ take-append-le size (drop (size * k) a) b (omega (arith, length-drop (size * k) a, within))
+    rw (drop-append-le (size * k) a b (omega (arith, within))) (take-append-le size (drop (size * k) a) b (omega (arith, length-drop (size * k) a, within)))
 
 -- of the rest
 pub part-back : (size n k : ℕ) (a b : List ℕ) → length a ≡ size * n → part size (n + k) (a ++ b) ≡ part size k b
 part-back size n k a b is =
     let sum : size * (n + k) ≡ length a + size * k = omega (arith, is) in
-    ap (take size) (ap (λ i. drop i (a ++ b)) sum ∙ drop-append-add a b (size * k))
+    rw (sum, drop-append-add a b (size * k)) refl
 
 -- ---- a run, and then the one behind it
 
@@ -173,19 +169,10 @@ module _ {size n m blocks : ℕ} {first rest bytes : List ℕ} (halves : Halves 
   runs-then : (R : List ℕ → List ℕ → List ℕ → Type 0) (c d e : Image) → Changes (λ k. R (part size k first)) n place c d → Changes (λ k. R (part size k rest)) m (place + n) d e
       → Changes (λ k. R (part size k bytes)) blocks place c e
   runs-then R c d e begun ended =
-      subst (λ b. Changes (λ k. R (part size k b)) blocks place c e) halves.whole
-      (subst (λ k. Changes (λ k. R (part size k (first ++ rest))) k place c e) halves.all
+      rw (← halves.whole, ← halves.all)
       (changes-then (λ k. R (part size k (first ++ rest))) n m place c d e
-      (record {
-        count = begun.count;
-        inside = λ k below. subst (λ b. R b (block c (place + k)) (block d (place + k))) (sym (part-front size n k first rest halves.long below)) (begun.inside k below);
-        elsewhere = begun.elsewhere;
-      })
-      (record {
-        count = ended.count;
-        inside = λ k below. subst (λ b. R b (block d (place + n + k)) (block e (place + n + k))) (sym (part-back size n k first rest halves.long)) (ended.inside k below);
-        elsewhere = ended.elsewhere;
-      })))
+      (changes-said n place c d (λ k a b below. subst (λ bs. R bs a b) (sym (part-front size n k first rest halves.long below))) begun)
+      (changes-said m (place + n) d e (λ k a b below. subst (λ bs. R bs a b) (sym (part-back size n k first rest halves.long))) ended))
 
   pub torn_run-then : (c d e : Image) → TornRun size n place first c d → TornRun size m (place + n) rest d e → TornRun size blocks place bytes c e
   torn_run-then c d e begun ended =

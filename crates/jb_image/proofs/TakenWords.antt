@@ -27,12 +27,11 @@ taken-none text = record { earlier = []; parts = refl; reads = refl }
 -- words after others are taken up after these
 with-rest : (es : List Extent) (earlier later : List (List ℕ)) (had : List Extent) → with_words es earlier ≡ Some had → with_words es (earlier ++ later) ≡ with_words had later
 with-rest es [] later had is = ap (λ now. with_words now later) (same_Some es had is)
-with-rest es (word ∷ more) later had is = over (λ now. with-rest now more later had) (with_word es word) is
-  where
-    over : ((now : List Extent) → with_words now more ≡ Some had → with_words now (more ++ later) ≡ with_words had later)
-        → (taken : Option (List Extent)) → option_and_then (λ now. with_words now more) taken ≡ Some had → option_and_then (λ now. with_words now (more ++ later)) taken ≡ with_words had later
-    over behind None none = absurd (none-some had none)
-    over behind (Some now) goes = behind now goes
+with-rest es (word ∷ more) later had is =
+    elim (with_word es word) as (λ taken. option_and_then (λ now. with_words now more) taken ≡ Some had → option_and_then (λ now. with_words now (more ++ later)) taken ≡ with_words had later) [
+      | None ↦ λ none. absurd (none-some had none)
+      | Some now ↦ with-rest now more later had
+    ] is
 
 module _ (text : List ℕ) (left : List (List ℕ)) (es : List Extent) (taken : AreTaken text left es) where
   -- what the text lists is what is left lists after these extents

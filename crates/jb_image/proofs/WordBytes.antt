@@ -1,5 +1,6 @@
 -- The loop over the bytes of a list's word.
-use Rattle.std.proofs.Common.{Bool, ◌≡◌, ◌∙◌, sym, ap, ℕ, ◌+◌, ◌<◌, ◌≤◌, true, false, List, [], ◌∷◌, ◌++◌, length, take, drop, get_or, refl}
+use Rattle.std.proofs.Common.{◌≡◌, ◌∙◌, sym, ap, ℕ, ◌+◌, ◌<◌, ◌≤◌, true, false, List, [], ◌∷◌, ◌++◌, length, take, drop, get_or, refl}
+use Rattle.std.proofs.lemmas.Bool.{cond_both}
 use Rattle.std.proofs.lemmas.List.{append-nil, append_assoc, take_all, take_more, drop_all, drop_more}
 use Rattle.jb_text.specs.Parts.{grow}
 use Rattle.jb_image.specs.Lists.{is_between, listed}
@@ -25,35 +26,22 @@ grow-opens : (b : ℕ) (words : List (List ℕ)) → fronted [] (grow b words) �
 grow-opens b [] = refl
 grow-opens b (word ∷ more) = refl
 
-opens-by : (b : ℕ) (bs : List ℕ) (between : Bool) → is_between b ≡ between → fronted [] (listed (b ∷ bs)) ≡ listed (b ∷ bs)
-opens-by b bs true is = rw (listed-ends b bs is) refl
-opens-by b bs false is = rw (listed-goes b bs is) (grow-opens b (listed bs))
-
 pub word-opens : (text : List ℕ) → fronted [] (listed text) ≡ listed text
 unfolding listed
 word-opens [] = refl
-word-opens (b ∷ bs) = opens-by b bs (is_between b) refl
+word-opens (b ∷ bs) = cond_both (is_between b) ([] ∷ listed bs) (grow b (listed bs)) (λ words. fronted [] words ≡ words) (λ _. refl) (λ _. grow-opens b (listed bs))
 
 pub word-goes : (text : List ℕ) (at : ℕ) → at < length text → is_between (get_or text at 0) ≡ false
     → fronted (take at text) (listed (drop at text)) ≡ listed text → fronted (take (at + 1) text) (listed (drop (at + 1) text)) ≡ listed text
 word-goes text at within other so_far =
-    ap (λ front. fronted front (listed (drop (at + 1) text))) (take_more text at 0 within)
-    ∙ fronted-grow (take at text) (get_or text at 0) (listed (drop (at + 1) text))
-    ∙ ap (fronted (take at text)) (sym (listed-goes (get_or text at 0) (drop (at + 1) text) other))
-    ∙ ap (λ rest. fronted (take at text) (listed rest)) (sym (drop_more text at 0 within))
-    ∙ so_far
+    rw (take_more text at 0 within) (fronted-grow (take at text) (get_or text at 0) (listed (drop (at + 1) text))
+    ∙ (rw (drop_more text at 0 within, listed-goes (get_or text at 0) (drop (at + 1) text) other) at so_far))
 
 pub word-ends : (text : List ℕ) (at : ℕ) → at < length text → is_between (get_or text at 0) ≡ true
     → fronted (take at text) (listed (drop at text)) ≡ listed text → listed text ≡ take at text ∷ listed (drop (at + 1) text)
 word-ends text at within same so_far =
-    sym so_far
-    ∙ ap (λ rest. fronted (take at text) (listed rest)) (drop_more text at 0 within)
-    ∙ ap (fronted (take at text)) (listed-ends (get_or text at 0) (drop (at + 1) text) same)
-    ∙ ap (λ word. word ∷ listed (drop (at + 1) text)) (append-nil (take at text))
+    sym (rw (drop_more text at 0 within, listed-ends (get_or text at 0) (drop (at + 1) text) same, append-nil (take at text)) at so_far)
 
 pub word-last : (text : List ℕ) (at : ℕ) → length text ≤ at → fronted (take at text) (listed (drop at text)) ≡ listed text → listed text ≡ text ∷ []
 unfolding listed
-word-last text at past so_far =
-    sym so_far
-    ∙ ap (λ rest. fronted (take at text) (listed rest)) (drop_all at text past)
-    ∙ ap (λ word. word ∷ []) (append-nil (take at text) ∙ take_all at text past)
+word-last text at past so_far = sym (rw (drop_all at text past, append-nil (take at text), take_all at text past) at so_far)

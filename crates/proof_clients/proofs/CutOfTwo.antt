@@ -1,5 +1,5 @@
 -- Two handles stand in the first groups of a least cut of them.
-use Rattle.std.proofs.Common.{◌≡◌, inl, inr, ℕ, zero, suc, ◌≤◌, List, [], ◌∷◌, ◌++◌, map, length, take, Result, Ok, refl, sym, ap, subst, ◌∙◌, arith}
+use Rattle.std.proofs.Common.{◌≡◌, inl, inr, ℕ, zero, suc, ◌≤◌, List, [], ◌∷◌, ◌++◌, map, length, take, Result, Ok, refl, sym, ap, ◌∙◌, arith}
 use Rattle.std.specs.Global.{Vec}
 use Rattle.std.proofs.lemmas.List.{length-map, length-take, nil_from_length, take_min}
 use Rattle.jb_handle.specs.declared.shape.Shape.{Shape}
@@ -12,7 +12,7 @@ use Rattle.jb_plan.specs.Batch.{gathered}
 use Rattle.jb_deck.specs.declared.done.Entry.{Entry}
 use Rattle.jb_book.specs.declared.fault.BeginFault.{BeginFault}
 use Rattle.jb_book.specs.Account.{Account, failed_of}
-use Rattle.jb_book.specs.Calls.{Call, Opened, Enqueued, Took, Settled, Failed, CallsMake, IsCutOf, handles_in, stops_of}
+use Rattle.jb_book.specs.Calls.{Call, Opened, Enqueued, Took, Settled, Failed, CallsMake, handles_in, stops_of}
 use Rattle.jb_book.specs.MachineTie.{EveryRun}
 use Rattle.proof_clients.specs.BookClient.{Have, SettlesQueue, Stand, two_stops}
 
@@ -24,17 +24,10 @@ module _ (one two : Stopped) where
   both P together apart a [] start is = absurd (let h : ⊥ = omega (arith, start, is) in h)
   both P together apart a (b ∷ []) start is = let ends : b ≡ 2 = is.1 in rw (start, ends) together
   both P together apart a (b ∷ c ∷ []) start is =
-      let less = is.0 in
-      let more = is.1.0 in
       let ends : c ≡ 2 = is.1.1 in
-      let mid : b ≡ 1 = omega (arith, start, less, more, ends) in
+      let mid : b ≡ 1 = omega (arith, start, is.0, is.1.0, ends) in
       rw (start, mid, ends) apart
-  both P together apart a (b ∷ c ∷ d ∷ bs) start is =
-      let less = is.0 in
-      let more = is.1.0 in
-      let most = is.1.1.0 in
-      let inside = rises-le 2 d bs is.1.1.1 in
-      absurd (let h : ⊥ = omega (arith, start, less, more, most, inside) in h)
+  both P together apart a (b ∷ c ∷ d ∷ bs) start is = absurd (let h : ⊥ = omega (arith, start, is.0, is.1.0, is.1.1.0, rises-le 2 d bs is.1.1.1) in h)
 
   in-one : (k : ℕ) → Have one two (take k ((one ∷ two ∷ []) ∷ []))
   in-one zero = tt
@@ -78,20 +71,14 @@ module _ (any : Vec Entry) (run : EveryRun) (shape : Shape) (usable : ℕ) (smal
       let named : stops_of calls ≡ two = λ i. record { ticket = numbers.0 i; words = first } ∷ record { ticket = numbers.1.0 i; words = second } ∷ [] in
       let queue : mid.shadow.queue ≡ two = first_kept.running settles.could.running ∙ named in
       let none : mid.trail ≡ [] = no-map (handles_in (stops_of calls)) mid.trail (sym first_kept.trail) in
-      let least : IsCutOf (gathered 0 two shape) settles.cut =
-      subst (λ hs. IsCutOf (gathered 0 hs shape) settles.cut) queue (subst (λ sh. IsCutOf (gathered 0 mid.shadow.queue sh) settles.cut) first_kept.same_shape settles.least) in
-      let groups : map (handles_in two) trail ≡ take (length settles.entries) parts =
-      ap (map (handles_in two)) is
-      ∙ ap (λ stops. map (handles_in stops) last.trail) (sym named)
-      ∙ sym kept.trail
-      ∙ ap (λ hs. take (length settles.entries) (pieces settles.cut hs)) queue in
+      let least = rw (first_kept.same_shape, queue) at settles.least in
+      let groups : map (handles_in two) trail ≡ take (length settles.entries) parts = rw (is, ← named, ← kept.trail, first_kept.running settles.could.running) refl in
       let long = sym (length-map trail (handles_in two)) ∙ ap length groups ∙ length-take (length settles.entries) parts in (
         settles.told ∙ ap (λ es. before ++ es) (sym (is ∙ ap (λ (a : Account). a.trail) fails ∙ settles.trail ∙ ap (λ es. es ++ settles.entries) none)),
         record {
           cut = settles.cut;
           least = least;
           groups = groups ∙ sym (ap (λ n. take n parts) long ∙ take_min (length settles.entries) parts);
-          have = subst (Have (record { ticket = 0; words = first }) (record { ticket = 1; words = second })) (sym groups)
-              (have-first (record { ticket = 0; words = first }) (record { ticket = 1; words = second }) settles.cut least.fitting.cut (length settles.entries));
+          have = rw groups (have-first (record { ticket = 0; words = first }) (record { ticket = 1; words = second }) settles.cut least.fitting.cut (length settles.entries));
         },
       )

@@ -1,5 +1,5 @@
 -- What handles cost that only change homes, computed from the numbers of these homes.
-use Rattle.std.proofs.Common.{◌≡◌, ℕ, ◌+◌, Bool, true, false, cond, not, ◌||◌, T, List, [], ◌∷◌, Option, Some, None, is_some, refl, sym, ap, ◌∙◌, arith}
+use Rattle.std.proofs.Common.{◌≡◌, ℕ, ◌+◌, Bool, true, false, cond, not, ◌||◌, T, List, [], ◌∷◌, Option, Some, None, is_some, refl, ap, ◌∙◌, arith}
 use Rattle.std.specs.List.{list_any}
 use Rattle.std.specs.Option.{option_or}
 use Rattle.std.specs.Ordering.{nat_cmp, eq_by_cmp}
@@ -65,9 +65,8 @@ module _ (bytes : List ℕ) where
   pub word-wrote : (t : ℕ) (rest : List (List ℕ)) → Rise rest → (q : ℕ) → word (wrote_from bytes t rest) q ≡ word_if (is_in (joined rest) q)
   word-wrote t [] rise q = refl
   word-wrote t (bs ∷ rest) rise q =
-      (λ i. option_or (word-wrote (t + 1) rest rise.1 q i) ((map.get-from_sorted nat_cmp (copies_at bytes bs) q rise.0 ∙ find-copy bs q) i))
-      ∙ later (is_in bs q) (is_in (joined rest) q)
-      ∙ ap word_if (sym (list_any-append (eq_by_cmp nat_cmp q) bs (joined rest)))
+      rw (word-wrote (t + 1) rest rise.1 q, map.get-from_sorted nat_cmp (copies_at bytes bs) q rise.0, find-copy bs q, list_any-append (eq_by_cmp nat_cmp q) bs (joined rest))
+      (later (is_in bs q) (is_in (joined rest) q))
 
   new-copies : (t : ℕ) (bs : List ℕ) (rest : List (List ℕ)) → Rise rest → new_homes is_copy (touched (wrote_from bytes t rest)) (copies_at bytes bs) ≡ new bs rest
   new-copies t [] rest rise = refl
@@ -84,16 +83,14 @@ module _ (bytes : List ℕ) where
   copied-len : (t : ℕ) (rest : List (List ℕ)) → Rise rest → set.len (copies (wrote_from bytes t rest)) ≡ copied rest
   copied-len t [] rise = no-copies
   copied-len t (bs ∷ rest) rise =
-      len-copies (wrote bytes t bs) (wrote_from bytes (t + 1) rest)
-      ∙ (λ i. copied-len (t + 1) rest rise.1 i + new_homes is_copy (touched (wrote_from bytes (t + 1) rest)) (map.entries-from_sorted nat_cmp (copies_at bytes bs) rise.0 i))
-      ∙ ap (λ n. copied rest + n) (new-copies (t + 1) bs rest rise.1)
+      rw (len-copies (wrote bytes t bs) (wrote_from bytes (t + 1) rest), copied-len (t + 1) rest rise.1, map.entries-from_sorted nat_cmp (copies_at bytes bs) rise.0)
+      (ap (λ n. copied rest + n) (new-copies (t + 1) bs rest rise.1))
 
   freed-len : (t : ℕ) (rest : List (List ℕ)) → Rise rest → set.len (frees (wrote_from bytes t rest)) ≡ 0
   freed-len t [] rise = no-frees
   freed-len t (bs ∷ rest) rise =
-      len-frees (wrote bytes t bs) (wrote_from bytes (t + 1) rest)
-      ∙ (λ i. freed-len (t + 1) rest rise.1 i + new_homes is_free (touched (wrote_from bytes (t + 1) rest)) (map.entries-from_sorted nat_cmp (copies_at bytes bs) rise.0 i))
-      ∙ ap (λ n. 0 + n) (new-frees (touched (wrote_from bytes (t + 1) rest)) bs)
+      rw (len-frees (wrote bytes t bs) (wrote_from bytes (t + 1) rest), freed-len (t + 1) rest rise.1, map.entries-from_sorted nat_cmp (copies_at bytes bs) rise.0)
+      (ap (λ n. 0 + n) (new-frees (touched (wrote_from bytes (t + 1) rest)) bs))
 
   -- what such handles cost as one group
   pub cost-wrote : (g : Geometry) (t : ℕ) (rest : List (List ℕ)) → Rise rest → cost g (wrote_from bytes t rest) ≡ blocks_of g (copied rest) 0

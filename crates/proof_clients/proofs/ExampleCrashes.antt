@@ -1,9 +1,8 @@
 -- What a crash leaves while three groups are committed.
 use Rattle.std.proofs.Common.{◌≡◌, ℕ, ◌+◌, ◌≤◌, Bool, true, false, cond, List, [], ◌∷◌, take, refl, sym, ap, ◌∙◌, subst, arith}
-use Rattle.jb_disk.specs.Image.{Image, block}
+use Rattle.jb_disk.specs.Image.{Image}
 use Rattle.jb_super.specs.Superblock.{Superblock}
 use Rattle.jb_handle.specs.Words.{word}
-use Rattle.jb_recover.specs.Outcomes.{recovered}
 use Rattle.jb_cost.specs.Pieces.{joined}
 use Rattle.jb_log.specs.Follows.{Follows, FollowsNone, HoldsBy, next_on}
 use Rattle.jb_deck.specs.GroupByGroup.{handles_to}
@@ -37,9 +36,7 @@ pub wrote-follows : (own : Superblock) (number size count : ℕ) (s : ℕ → Li
     → FollowsNone own number size count s c → Follows own size count (λ home. old) (wrote_from new 0 rest) c → (home : ℕ) → s home ≡ with_new (joined rest) old new home
 wrote-follows own number size count s old new rest c rise none follows home =
     let same : none.follows.sb ≡ follows.sb = one-super size count c none.follows.sb follows.sb none.follows.taken follows.taken in
-    sym (none.follows.each home)
-    ∙ ap (λ sb. block (recovered size count c) (sb.maxlen + home)) same
-    ∙ subst (λ (P : Type 0). P) (holds-wrote old new _ _ rest rise home) (follows.each home)
+    rw (← none.follows.each home, same) (subst (λ (P : Type 0). P) (holds-wrote old new _ _ rest rise home) (follows.each home))
 
 -- the homes of the first three groups
 abbrev pub lists : List (List ℕ)

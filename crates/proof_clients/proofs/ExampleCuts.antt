@@ -1,5 +1,5 @@
 -- The cuts of three handles, by what their groups cost.
-use Rattle.std.proofs.Common.{◌≡◌, ℕ, zero, suc, ◌+◌, ◌<◌, ◌≤◌, List, [], ◌∷◌, length, Option, Some, refl, sym, ap, ◌∙◌, subst, arith}
+use Rattle.std.proofs.Common.{◌≡◌, ℕ, zero, suc, ◌+◌, ◌<◌, ◌≤◌, List, [], ◌∷◌, length, Option, Some, refl, sym, ap, ◌∙◌, arith}
 use Rattle.std.proofs.lemmas.Option.{none-some, same_Some}
 use Rattle.jb_cost.specs.Cut.{FitsCut, IsLeastCut, IsReached, ArePrices, Hold, IsFirstToAttain, EachPiece, price, total}
 use Rattle.jb_cost.specs.declared.geometry.Geometry.{Geometry}
@@ -10,20 +10,6 @@ use Rattle.proof_clients.specs.Examples.{three, six, four, best, prices, four_pr
 use Rattle.proof_clients.proofs.ExampleCosts.{cost-wrote}
 use Rattle.jb_cost.proofs.PriceBounds.{hold-fewer, price-exact}
 
--- what holds of the six groups of three handles holds of each
-six-ends : (P : ℕ → ℕ → Type 0) → P 0 1 → P 1 2 → P 2 3 → P 0 2 → P 1 3 → P 0 3 → (i j : ℕ) → i < j → j ≤ 3 → P i j
-six-ends P p01 p12 p23 p02 p13 p03 i zero less most = absurd (omega arith)
-six-ends P p01 p12 p23 p02 p13 p03 zero (suc zero) less most = p01
-six-ends P p01 p12 p23 p02 p13 p03 (suc i) (suc zero) less most = absurd (omega arith)
-six-ends P p01 p12 p23 p02 p13 p03 zero (suc (suc zero)) less most = p02
-six-ends P p01 p12 p23 p02 p13 p03 (suc zero) (suc (suc zero)) less most = p12
-six-ends P p01 p12 p23 p02 p13 p03 (suc (suc i)) (suc (suc zero)) less most = absurd (omega arith)
-six-ends P p01 p12 p23 p02 p13 p03 zero (suc (suc (suc zero))) less most = p03
-six-ends P p01 p12 p23 p02 p13 p03 (suc zero) (suc (suc (suc zero))) less most = p13
-six-ends P p01 p12 p23 p02 p13 p03 (suc (suc zero)) (suc (suc (suc zero))) less most = p23
-six-ends P p01 p12 p23 p02 p13 p03 (suc (suc (suc i))) (suc (suc (suc zero))) less most = absurd (omega arith)
-six-ends P p01 p12 p23 p02 p13 p03 i (suc (suc (suc (suc j)))) less most = absurd (omega arith)
-
 -- what holds of the first four numbers holds of each up to three
 pub four-starts : (P : ℕ → Type 0) → P 0 → P 1 → P 2 → P 3 → (i : ℕ) → i ≤ 3 → P i
 four-starts P p0 p1 p2 p3 zero most = p0
@@ -31,6 +17,16 @@ four-starts P p0 p1 p2 p3 (suc zero) most = p1
 four-starts P p0 p1 p2 p3 (suc (suc zero)) most = p2
 four-starts P p0 p1 p2 p3 (suc (suc (suc zero))) most = p3
 four-starts P p0 p1 p2 p3 (suc (suc (suc (suc i)))) most = absurd (omega arith)
+
+-- what holds of the six groups of three handles holds of each
+six-ends : (P : ℕ → ℕ → Type 0) → P 0 1 → P 1 2 → P 2 3 → P 0 2 → P 1 3 → P 0 3 → (i j : ℕ) → i < j → j ≤ 3 → P i j
+six-ends P p01 p12 p23 p02 p13 p03 i j less most =
+    four-starts (λ j. i < j → P i j)
+    (λ less. absurd (omega arith))
+    (λ less. four-starts (λ i. i < 1 → P i 1) (λ _. p01) (λ h. absurd (omega arith)) (λ h. absurd (omega arith)) (λ h. absurd (omega arith)) i (omega arith) less)
+    (λ less. four-starts (λ i. i < 2 → P i 2) (λ _. p02) (λ _. p12) (λ h. absurd (omega arith)) (λ h. absurd (omega arith)) i (omega arith) less)
+    (λ less. four-starts (λ i. i < 3 → P i 3) (λ _. p03) (λ _. p13) (λ _. p23) (λ h. absurd (omega arith)) i (omega arith) less)
+    j most less
 
 -- what the groups of three handles cost
 pub record Costs (c : ℕ → ℕ → ℕ) : Type 0 where
@@ -147,8 +143,7 @@ module _ (c : ℕ → ℕ → ℕ) (costs : Costs c) where
         record { before = omega arith; fits = omega (arith, costs.late); sum = (4, refl, ap Some (let same : 9 ≡ 4 + c 1 3 = omega (arith, costs.late) in same)) },
         λ k less attains.
             let here : k ≡ 0 = omega arith in
-            let fits : c 0 3 ≤ 6 = subst (λ x. c x 3 ≤ 6) here attains.fits in
-            omega (arith, fits, costs.whole),
+            omega (arith, rw here at attains.fits, costs.whole),
       ),
       tt,
     ),

@@ -1,12 +1,11 @@
 -- Three handles that changed nothing, of which two are settled: the events, and how a desk ends with them.
-use Rattle.std.proofs.Common.{◌≡◌, ℕ, zero, suc, ◌<◌, ◌≤◌, true, false, List, [], ◌∷◌, length, Ok, Vec, Global, inl, inr, refl, sym, ap, ◌∙◌, subst, arith, nat_cmp}
-use Rattle.std.specs.Int.{div_ceil}
+use Rattle.std.proofs.Common.{◌≡◌, ℕ, zero, suc, ◌<◌, ◌≤◌, true, false, List, [], ◌∷◌, Ok, Vec, Global, refl, sym, ap, subst, arith, rules}
 use Rattle.std.specs.FinMap as map
-use Rattle.std.proofs.lemmas.Bool.{cases_lt}
 use Rattle.std.proofs.lemmas.List.Elements.{All-nil, All-cons}
 use Rattle.jb_disk.specs.declared.disk.Disk.{Ghosts}
 use Rattle.jb_handle.specs.Word.{WordMap}
 use Rattle.jb_handle.specs.declared.stopped.Stopped.{Stopped}
+use Rattle.jb_handle.proofs.RisingHomes.{view-empty}
 use Rattle.jb_cost.specs.declared.geometry.Geometry.{Geometry}
 use Rattle.jb_cost.specs.Cost.{cost}
 use Rattle.jb_cost.specs.Credits.{IsMost}
@@ -27,7 +26,7 @@ use Rattle.jb_book.specs.CallsToBook.{IsMachineRun}
 use Rattle.jb_book.specs.History.{AreAllStops, CameAbout, IsStop}
 use Rattle.jb_book.specs.Since.{IsCosted, WasGiven}
 use Rattle.jb_book.specs.SinceMark.{EndsMarked, Lasts}
-use Rattle.proof_clients.specs.Examples.{six, copies_at}
+use Rattle.proof_clients.specs.Examples.{six}
 use Rattle.proof_clients.specs.ExampleMarks.{idle_stops, idle_group}
 use Rattle.proof_clients.proofs.ExampleCosts.{cost-wrote}
 
@@ -38,14 +37,11 @@ idle ticket = record { ticket = ticket; words = map.empty }
 abbrev g : Geometry
 g = geometry_of six
 
-no-words : map.from_sorted {R = nat_cmp} (copies_at [] []) ≡ map.empty
-no-words = map.empty_of_len _ (map.len-entries (map.from_sorted {R = nat_cmp} (copies_at [] [])) ∙ ap length (map.entries-from_sorted nat_cmp (copies_at [] []) tt))
-
 one-idle : (t : ℕ) → cost g (idle t ∷ []) ≡ 1
-one-idle t = subst (λ (w : WordMap). cost g (record { ticket = t; words = w } ∷ []) ≡ 1) no-words (cost-wrote [] g t ([] ∷ []) (tt, tt))
+one-idle t = subst (λ (w : WordMap). cost g (record { ticket = t; words = w } ∷ []) ≡ 1) view-empty (cost-wrote [] g t ([] ∷ []) (tt, tt))
 
 two-idle : cost g (idle 0 ∷ idle 1 ∷ []) ≡ 1
-two-idle = subst (λ (w : WordMap). cost g (record { ticket = 0; words = w } ∷ record { ticket = 1; words = w } ∷ []) ≡ 1) no-words (cost-wrote [] g 0 ([] ∷ [] ∷ []) (tt, (tt, tt)))
+two-idle = subst (λ (w : WordMap). cost g (record { ticket = 0; words = w } ∷ record { ticket = 1; words = w } ∷ []) ≡ 1) view-empty (cost-wrote [] g 0 ([] ∷ [] ∷ []) (tt, (tt, tt)))
 
 -- ---- both in one group is a least cut
 
@@ -77,10 +73,7 @@ least =
 most-four : IsMost g 6 4
 most-four = record {
   within = omega arith;
-  greatest = λ credits few. elim (cases_lt 4 credits) [
-    | inl more ↦ absurd (let five : 1 ≤ div_ceil credits g.t = ceil-mono 5 credits g.t g.tags (omega arith) in omega (arith, five, few, more))
-    | inr most ↦ most
-  ];
+  greatest = λ credits few. omega (arith, ceil-mono 5 credits g.t g.tags, few);
 }
 
 abbrev m0 : Machine
@@ -100,21 +93,7 @@ m0 = record {
 }
 
 new : IsNewMachine six m0
-new = record {
-  same_shape = refl;
-  tags = refl;
-  entries = refl;
-  most = most-four;
-  up = refl;
-  handles = refl;
-  queue = refl;
-  taken = refl;
-  settled = refl;
-  earlier = refl;
-  checkpointed = refl;
-  next = refl;
-  credits = refl;
-}
+new = search (rules, most-four)
 
 -- after some events, the newest of which is first
 abbrev after : Machine → List Event → Machine

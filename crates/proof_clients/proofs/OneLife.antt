@@ -2,27 +2,26 @@
 use Rattle.std.proofs.Common.{◌≡◌, ℕ, ◌+◌, ◌%◌, ◌^◌, ◌⊎◌, Bool, true, false, nat_eq, List, [], ◌∷◌, ◌++◌, Ok, inl, inr, ⊎_elim, refl, ap, ap₂, sym, subst, ◌∙◌, arith, add-zero}
 use Rattle.std.proofs.lemmas.Bool.{false≢true}
 use Rattle.jb_block.specs.Size.{bytes_of}
-use Rattle.jb_disk.specs.History.{History, IsHistorySound, MayLeave, newest_of, replay}
+use Rattle.jb_disk.specs.History.{History, IsHistorySound, MayLeave, newest_of}
 use Rattle.jb_disk.specs.declared.disk.Disk.{Ghosts}
 use Rattle.jb_disk.specs.Image.{Image, Only, block}
 use Rattle.jb_disk.specs.Time.{LeavesOnly}
 use Rattle.jb_disk.proofs.CallRuns.{weaken}
 use Rattle.jb_super.specs.Journal.{SameJournal}
 use Rattle.jb_super.specs.Superblock.{Superblock}
-use Rattle.jb_plan.specs.Prepare.{IsPlanned, Planned}
+use Rattle.jb_plan.specs.Prepare.{Planned}
 use Rattle.jb_handle.specs.declared.stopped.Stopped.{Stopped}
 use Rattle.jb_format.specs.Front.{homes_in, super_on}
 use Rattle.jb_format.specs.Ready.{revoking}
 use Rattle.jb_recover.specs.Outcomes.{KeepsJournal, recovered}
 use Rattle.jb_recover.proofs.RecoveredImage.{own-clean_refusal}
-use Rattle.jb_log.specs.declared.log.Log.{Log}
 use Rattle.jb_log.proofs.FrameKeeps.{frame-start}
 use Rattle.jb_log.proofs.OwnSuperblock.{same-then}
 use Rattle.jb_deck.specs.Calls.{IsCleanAt}
-use Rattle.jb_deck.specs.Changes.{Change, HoldsAfter}
+use Rattle.jb_deck.specs.Changes.{Change}
 use Rattle.jb_deck.specs.Deck.{IsShapeOf}
 use Rattle.jb_deck.specs.GroupsOfBatch.{groups_in}
-use Rattle.jb_deck.specs.Open.{home_by, opened_log, recovered_home}
+use Rattle.jb_deck.specs.Open.{home_by, recovered_home}
 use Rattle.jb_deck.specs.Since.{HoldsOn}
 use Rattle.jb_deck.proofs.Lives.{one-super, revoking-twice, same-revoking}
 use Rattle.jb_deck.proofs.OpenedJournal.{revoking-same}
@@ -30,22 +29,11 @@ use Rattle.proof_clients.specs.Lives.{HasLives, HoldsChanges, HoldsLife, IsAtRes
 use Rattle.proof_clients.proofs.Programs.{Left, Runs}
 use Rattle.proof_clients.specs.Programs.{HasChanges, IsPartOf, LeftByProgram, Part, after_batch, all_changes, commits, no_more}
 
--- a disk on which nothing is pending
-pub fresh-only : (h : History) → h.steps ≡ [] → Only (newest_of h) (MayLeave h.first h.steps)
-fresh-only h none = subst (λ steps. Only (replay h.first steps) (MayLeave h.first steps)) (sym none) (λ c is. is)
-
 -- ---- up to the crash
 
 -- a life without a batch
 none-part : (own : Superblock) (count : ℕ) (handles : List Stopped) (changes : List Change) (groups : ℕ) → IsPartOf [] changes groups → IsPartOfLife own count handles changes groups
 none-part own count handles changes groups (no_more _) = nothing
-
--- the batch is one of the life's handles, planned for the journal that was opened, by the superblock that an image had
-pub batch-opened : (size count : ℕ) (base : Image) (sb : Superblock) (l : Log) → super_on size count base ≡ Ok sb → l ≡ opened_log sb → (handles : List Stopped) (batch : Planned) → IsPlanned batch → batch.batch.handles ≡ handles → IsShapeOf l.sb count batch.batch.shape
-    → (own : Superblock) → super_on size count base ≡ Ok own → IsBatchOf own count handles batch
-batch-opened size count base sb l taken is handles batch planned same shaped own was =
-    let at = subst (λ (m : Log). IsShapeOf m.sb count batch.batch.shape) (is ∙ ap opened_log (one-super size count base sb own taken was)) shaped in
-    record { planned = planned; same = same; shape = record { size = at.size; homes = at.homes; limit = at.limit; width = at.width } }
 
 -- a crash after the life
 pub left-whole : (size count : ℕ) (base : Image) (handles : List Stopped) (batch : Planned) (c : Image) → ((own : Superblock) → super_on size count base ≡ Ok own → IsBatchOf own count handles batch)
@@ -124,10 +112,7 @@ module _ (on : HoldsOn) (size count : ℕ) (own : Superblock) (last : ℕ) (befo
     owned = subst Own (sym is_own) entry.same
 
     stood : (home : ℕ) → recovered_home size count base home ≡ block base (own.maxlen + home)
-    stood home =
-        ap (λ x. home_by x (recovered size count base) home) l.has.was
-        ∙ ap (λ e. block e (sb.maxlen + home)) still
-        ∙ ap (λ m. block base (m + home)) (own-maxlen sb owned)
+    stood home = rw (l.has.was, still, own-maxlen sb owned) refl
 
     clean-more : (x : Superblock) → Own x → IsCleanAt x (sb.sequence + 1 + l.groups) size count r → HoldsLife own last size count before done handles committed r
     clean-more x is after =
@@ -149,10 +134,7 @@ module _ (on : HoldsOn) (size count : ℕ) (own : Superblock) (last : ℕ) (befo
             clean = after.clean;
             number = refl;
             homes = λ home.
-                let now : List ℕ = block r (own.maxlen + home) in
-                on done l.changes home (before home) (block base (own.maxlen + home)) now (entry.homes home)
-                (subst (λ b. HoldsAfter l.changes home (λ bytes. bytes ≡ b) now) (stood home)
-                (subst (λ m. HoldsAfter l.changes home (λ bytes. bytes ≡ recovered_home size count base home) (block r (m + home))) (own-maxlen sb owned) (l.has.holds home)));
+                on done l.changes home (before home) (block base (own.maxlen + home)) (block r (own.maxlen + home)) (entry.homes home) (rw (own-maxlen sb owned, stood home) at (l.has.holds home));
           };
         }
 

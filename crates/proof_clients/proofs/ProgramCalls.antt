@@ -1,15 +1,14 @@
 -- A program goes on call by call, and a crash leaves a first part of what it changes.
-use Rattle.std.proofs.Common.{◌≡◌, ℕ, ◌+◌, false, List, [], ◌∷◌, ◌++◌, map, append_assoc, Result, inr, refl, ap, sym, subst, ◌∙◌, arith, add-zero, append-nil}
+use Rattle.std.proofs.Common.{◌≡◌, ℕ, ◌+◌, false, List, [], ◌∷◌, ◌++◌, map, append_assoc, Result, inr, refl, ap, sym, subst, ◌∙◌, arith, rules, add-zero, append-nil}
 use Rattle.jb_plan.specs.Prepare.{Planned}
 use Rattle.jb_disk.specs.declared.disk.Disk.{Ghosts}
 use Rattle.jb_disk.specs.Image.{Image}
-use Rattle.jb_disk.specs.Faults.{CountsAny}
 use Rattle.jb_disk.specs.KeptOn.{KeptOn}
 use Rattle.jb_disk.specs.Throughout.{AllHave}
 use Rattle.jb_disk.proofs.KeptOverCalls.{kept_same}
 use Rattle.jb_disk.proofs.CallRuns.{after, weaken}
 use Rattle.jb_handle.specs.declared.shape.Shape.{Shape}
-use Rattle.jb_deck.specs.Calls.{OpeningIsRecovered, Reaches, at_first, one_more}
+use Rattle.jb_deck.specs.Calls.{OpeningIsRecovered, at_first, one_more}
 use Rattle.jb_deck.specs.Changes.{Change, fills, settles, torn_by}
 use Rattle.jb_deck.specs.Deck.{IsShapeOf, OpenDeck, on_disk}
 use Rattle.jb_deck.specs.GroupsOfBatch.{groups_in}
@@ -29,25 +28,15 @@ module _ {D : Type 0} {G : Ghosts D} {entry : D} where
       → (G.honest opened.disk → OpensAs G entry opened) → (G.honest opened.disk → Stands G entry opened) → KeptOn G counts entry opened.disk
       → (G.honest opened.disk → Opening G entry opened.disk) → shape ≡ opened.shape → IsShapeOf opened.log.sb (G.count opened.disk) shape
       → SoFar G entry opened [] parts opened
-  begun {opened = opened} recovers since holds keeps new opens stands kept run same shaped =
-      let own = subst (IsShapeOf opened.log.sb (G.count opened.disk)) same shaped in
-      record {
-        next = sym (add-zero opened.log.next);
-        up = new.aborted;
-        same_size = kept.same_size;
-        same_count = kept.same_count;
-        is = λ honest. record {
-          since = since;
-          holds = holds;
-          keeps = keeps;
-          new = new;
-          opens = opens honest;
-          shaped = subst (λ n. IsShapeOf opened.log.sb n opened.shape) kept.same_count own;
-          stands = stands honest;
-        };
-        calls = λ honest. at_first;
-        run = λ honest. opening-runs G entry recovers (run honest);
-      }
+  begun {opened = opened} recovers since holds keeps new opens stands kept run same shaped = record {
+    next = sym (add-zero opened.log.next);
+    up = new.aborted;
+    same_size = kept.same_size;
+    same_count = kept.same_count;
+    is = λ honest. search (rules, opens honest, stands honest, rw (same, kept.same_count) at shaped);
+    calls = λ honest. at_first;
+    run = λ honest. opening-runs G entry recovers (run honest);
+  }
 
   module _ {opened now : OpenDeck D} {made rest : List Part} (so : SoFar G entry opened made rest now) where
     -- what a crash leaves in the next call, or once the journal is closed after it
@@ -72,9 +61,7 @@ module _ {D : Type 0} {G : Ghosts D} {entry : D} where
       same_size = kept.same_size ∙ so.same_size;
       same_count = kept.same_count ∙ so.same_count;
       is = λ honest. so.is (kept.was_honest honest);
-      calls = λ honest.
-          subst (λ cs. Reaches (λ before. IsEnded G.newest) opened cs new) (sym all)
-          (one_more (all_changes made) now changes new (so.calls (kept.was_honest honest)) (ended honest));
+      calls = λ honest. rw all (one_more (all_changes made) now changes new (so.calls (kept.was_honest honest)) (ended honest));
       run = λ honest. subst (λ ps. Runs G entry ps new.disk) parts (run honest);
     }
 
@@ -103,7 +90,7 @@ module _ {D : Type 0} {G : Ghosts D} {entry : D} where
     pub take-on : {new : OpenDeck D} → new ≡ record now { trail = new.trail } → IsEnded G.newest now [] new → SoFar G entry opened made rest new
     take-on {new = new} same ended =
         let disk : new.disk ≡ now.disk = ap (λ (d : OpenDeck D). d.disk) same in
-        idle-step (subst (KeptOn G CountsAny now.disk) (sym disk) (kept_same now.disk tt)) (λ honest. ended)
+        idle-step (rw disk (kept_same now.disk tt)) (λ honest. ended)
         (ap (λ (d : OpenDeck D). d.log.next) same) (ap (λ (d : OpenDeck D). d.aborted) same ∙ so.up)
         (λ honest. subst (Runs G entry (made ++ rest)) (sym disk) (so.run (subst G.honest disk honest)))
 
@@ -114,9 +101,7 @@ module _ {D : Type 0} {G : Ghosts D} {entry : D} where
     still-has {n = n} many honest left =
         let sum : all_groups made + 0 ≡ n = omega (arith, many) in
         record {
-          each = λ c may.
-              subst (λ (x : List Change × ℕ). Has G entry x.0 x.1 c) (λ i. (append-nil (all_changes made) i, sum i))
-              (left-has G entry so honest [] 0 c (left.each c may) (omega arith));
+          each = λ c may. rw (append-nil (all_changes made), sum) at (left-has G entry so honest [] 0 c (left.each c may) (omega arith));
         }
 
     -- once the journal is closed

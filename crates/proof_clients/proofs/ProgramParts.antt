@@ -1,7 +1,7 @@
 -- The parts of a program: what they change, one after another, and what a part of them is.
-use Rattle.std.proofs.Common.{◌≡◌, ℕ, ◌+◌, true, nat_eq, List, [], ◌∷◌, ◌++◌, map, append_assoc, Result, Ok, Err, refl, ap, sym, subst, arith, add_assoc, zero-add}
+use Rattle.std.proofs.Common.{◌≡◌, ℕ, ◌+◌, true, nat_eq, List, [], ◌∷◌, ◌++◌, map, append_assoc, Result, Ok, Err, refl, ap, sym, arith, add_assoc, zero-add}
 use Rattle.std.proofs.lemmas.Bool.Decides.{nat_tests}
-use Rattle.jb_deck.specs.Changes.{Change, HoldsAfter, HoldsAfterFill, fills, settles, torn_by}
+use Rattle.jb_deck.specs.Changes.{Change, HoldsAfter, fills, settles, torn_by}
 use Rattle.jb_deck.specs.GroupsOfBatch.{groups_in}
 use Rattle.jb_deck.specs.declared.freed.FreeFault.{FreeFault}
 use Rattle.jb_deck.specs.declared.freed.FreeFault.TheVariants.{Aborted, NotFree, Length, DeviceFault}
@@ -12,8 +12,7 @@ use Rattle.proof_clients.specs.Programs.{IsPartOf, Part, after_batch, after_writ
 pub filled : (done : List Change) (home : ℕ) (bytes : List ℕ) (held : List ℕ → Type 0) (found : List ℕ) → HoldsAfter (done ++ fills home bytes ∷ []) home held found → found ≡ bytes
 filled done home bytes held found is =
     let here : nat_eq home home ≡ true = grind (arith, nat_tests) in
-    subst (λ b. HoldsAfterFill b bytes (HoldsAfter done home held) found) here
-    (subst (λ (P : List ℕ → Type 0). P found) (holds-append done (fills home bytes ∷ []) home held) is)
+    rw (holds-append done (fills home bytes ∷ []) home held, here) at is
 
 -- whatever a write of a freed home answers, what is left of it is a part of it
 pub torn-part : (r : Result (Unit {0}) FreeFault) (home : ℕ) (bytes : List ℕ) (rest : List Part) → IsPartOf (writes home bytes ∷ rest) (torn_by r home bytes) 0

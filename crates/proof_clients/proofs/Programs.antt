@@ -1,14 +1,12 @@
 -- What a program has done so far, and what a crash leaves of it.
-use Rattle.std.proofs.Common.{◌≡◌, ℕ, ◌+◌, Bool, true, false, not, nat_eq, List, refl, ap, ap₂, subst, ◌∙◌, ◌⊎◌, [], ◌++◌, inl, inr, ⊎_elim, sym, arith, ◌-◌, ◌^◌, min, if◌then◌else◌}
+use Rattle.std.proofs.Common.{◌≡◌, add-zero, ℕ, ◌+◌, true, false, not, nat_eq, List, refl, ap, ap₂, subst, ◌∙◌, ◌⊎◌, [], ◌++◌, inl, inr, ⊎_elim, sym, arith, ◌-◌, ◌^◌, min, if◌then◌else◌}
 use Rattle.std.proofs.lemmas.Nat.{and_or_apart}
 use Rattle.jb_disk.specs.Image.{Image, block}
 use Rattle.jb_super.specs.Superblock.{Superblock}
 use Rattle.jb_handle.specs.declared.stopped.Stopped.{Stopped}
-use Rattle.jb_handle.specs.declared.shape.Shape.{Shape}
 use Rattle.jb_super.specs.Features.{wide_in}
 use Rattle.jb_format.specs.Front.{homes_in}
 use Rattle.jb_format.specs.Ready.{has_revoke, revoking, revoking_if}
-use Rattle.jb_log.specs.Frame.{KeepsFrame, KeepsOutside}
 use Rattle.jb_deck.specs.Deck.{IsShapeOf, OpenDeck}
 use Rattle.jb_deck.specs.Open.{opened_log, FollowsEntry, IsNew, Opens, recovered_home}
 use Rattle.jb_log.specs.declared.log.Log.{Log}
@@ -22,7 +20,7 @@ use Rattle.jb_disk.specs.Throughout.{AllHave}
 use Rattle.jb_disk.specs.Time.{LeavesOnly}
 use Rattle.jb_disk.proofs.CallRuns.{weaken}
 use Rattle.jb_recover.specs.Outcomes.{recovered}
-use Rattle.jb_deck.specs.Changes.{Change, HoldsAfter, settled_in}
+use Rattle.jb_deck.specs.Changes.{Change, settled_in}
 use Rattle.jb_deck.specs.CallsSinceOpen.{CrashKeeps}
 use Rattle.jb_deck.specs.Since.{CrashHolds, IsEnded, IsLeft, LeftInCommit, SinceIsRecovered, deck_homes}
 use Rattle.proof_clients.specs.Programs.{HasChanges, IsPartOf, LeftByProgram, Part, all_changes, all_groups, no_more}
@@ -46,21 +44,7 @@ opened-recovered l sb is next size count before hs c has =
 
 -- the feature for revoke blocks does not change how wide block numbers are
 wide-revoking : (sb : Superblock) → wide_in (revoking sb) ≡ wide_in sb
-wide-revoking sb = go (has_revoke sb)
-  where
-    go : (b : Bool) → wide_in (revoking_if b sb) ≡ wide_in sb
-    go true = refl
-    go false = ap (λ m. not (nat_eq m 0)) (and_or_apart 2 sb.incompat 1 refl)
-
--- what has not changed, by the superblock at first
-pub keeps-own : (l : Log) (sb : Superblock) (shape : Shape) (count : ℕ) (base c : Image) → l ≡ opened_log sb → IsShapeOf l.sb count shape → KeepsOutside l.sb.first (l.sb.maxlen + shape.homes) base c → KeepsFrame sb count base c
-keeps-own l sb shape count base c is shaped has =
-    let but = revoking-same sb in
-    let first : l.sb.first ≡ sb.first = ap (λ (x : Log). x.sb.first) is ∙ but.first in
-    let maxlen : l.sb.maxlen ≡ sb.maxlen = ap (λ (x : Log). x.sb.maxlen) is ∙ but.maxlen in
-    let homes : shape.homes ≡ homes_in sb count = shaped.homes ∙ ap (λ (x : Log). homes_in x.sb count) is ∙ ap₂ (λ w m. min (count - m) (if w then 2 ^ 64 - 1 else 2 ^ 32)) (wide-revoking sb) but.maxlen in
-    let past : l.sb.maxlen + shape.homes ≡ sb.maxlen + homes_in sb count = ap₂ (λ m n. m + n) maxlen homes in
-    subst (λ n. KeepsOutside sb.first n base c) past (subst (λ n. KeepsOutside n (l.sb.maxlen + shape.homes) base c) first has)
+wide-revoking sb = elim (has_revoke sb) as (λ b. wide_in (revoking_if b sb) ≡ wide_in sb) [ true ↦ refl | false ↦ ap (λ m. not (nat_eq m 0)) (and_or_apart 2 sb.incompat 1 refl) ]
 
 -- ---- what a program has done so far, and what a crash leaves of it
 
@@ -68,14 +52,13 @@ keeps-own l sb shape count base c is shaped has =
 entry-has : OpeningIsRecovered → (size count : ℕ) (base c : Image) → FollowsEntry size count base c → HasChanges size count base [] 0 c
 entry-has opening size count base c f =
     let before : ℕ → List ℕ = recovered_home size count base in
-    let none : f.sb.sequence + 1 ≡ f.sb.sequence + 1 + 0 = omega arith in
     let here : (home maxlen : ℕ) → maxlen ≡ f.sb.maxlen → block (recovered size count c) (f.sb.maxlen + home) ≡ block (recovered size count c) (maxlen + home)
     = λ home maxlen same. ap (λ m. block (recovered size count c) (m + home)) (sym same) in
     let is = opening size count base c f in
     record {
       own = f.sb;
       was = f.was;
-      recovered_to = subst (λ n. IsRecoveredTo f.sb n size count before [] c ⊎ IsRecoveredTo (revoking f.sb) n size count before [] c) none is;
+      recovered_to = rw (add-zero (f.sb.sequence + 1)) is;
       holds = λ home. elim is [
         | inl early ↦ here home _ (ap (λ (x : Superblock). x.maxlen) early.same) ∙ early.each home
         | inr late ↦ here home _ (ap (λ (x : Superblock). x.maxlen) late.same ∙ (revoking-same f.sb).maxlen) ∙ late.each home
@@ -186,24 +169,22 @@ module _ {D : Type 0} (G : Ghosts D) where
           let to = is.since size count before opened now (all_changes made) changes next c is.new is.stands (so.calls honest) here in
           let start : opened.log.next ≡ is.opens.sb.sequence + 1 = ap (λ (x : Log). x.next) is.opens.log in
           let number : next ≡ n = omega (arith, start, so.next, many, sum) in
-          subst (λ m. IsRecoveredTo (revoking is.opens.sb) m size count before hs c) number
-          (opened-recovered opened.log is.opens.sb is.opens.log next size count before hs c
-          (subst (λ xs. IsRecoveredTo opened.log.sb next size count before xs c) settled to))
+          rw number at (opened-recovered opened.log is.opens.sb is.opens.log next size count before hs c (rw settled at to))
 
       pub left-has : Has (all_changes made ++ changes) (all_groups made + more) c
       left-has =
           let is = so.is honest in
-          let maxlen : opened.log.sb.maxlen ≡ is.opens.sb.maxlen = ap (λ (x : Log). x.sb.maxlen) is.opens.log ∙ (revoking-same is.opens.sb).maxlen in
+          let but = revoking-same is.opens.sb in
+          let first : opened.log.sb.first ≡ is.opens.sb.first = ap (λ (x : Log). x.sb.first) is.opens.log ∙ but.first in
+          let maxlen : opened.log.sb.maxlen ≡ is.opens.sb.maxlen = ap (λ (x : Log). x.sb.maxlen) is.opens.log ∙ but.maxlen in
+          let homes : opened.shape.homes ≡ homes_in is.opens.sb count =
+          is.shaped.homes ∙ ap (λ (x : Log). homes_in x.sb count) is.opens.log ∙ ap₂ (λ w m. min (count - m) (if w then 2 ^ 64 - 1 else 2 ^ 32)) (wide-revoking is.opens.sb) but.maxlen in
           record {
             own = is.opens.sb;
             was = is.opens.taken;
             recovered_to = inr (left-to refl refl);
-            holds = λ home.
-                subst (λ m. HoldsAfter (all_changes made ++ changes) home (λ bytes. bytes ≡ before home) (block (recovered size count c) (m + home))) maxlen
-                (is.holds size count before opened now (all_changes made) changes next c is.new is.stands (so.calls honest) here home);
-            keeps =
-                keeps-own opened.log is.opens.sb opened.shape count base c is.opens.log is.shaped
-                (is.keeps size count base opened now (all_changes made) changes next c is.opens is.shaped (so.calls honest) here).0;
+            holds = λ home. rw maxlen at (is.holds size count before opened now (all_changes made) changes next c is.new is.stands (so.calls honest) here home);
+            keeps = rw (first, maxlen, homes) at (is.keeps size count base opened now (all_changes made) changes next c is.opens is.shaped (so.calls honest) here).0;
           }
 
       pub left-program : IsPartOf rest changes more → LeftByProgram size count base (made ++ rest) c

@@ -1,9 +1,6 @@
-use Rattle.std.proofs.Common.{◌≡◌, ◌++◌, refl, ap, subst, ◌∙◌}
-use Rattle.jb_cost.specs.Pieces.{pieces}
-use Rattle.jb_plan.specs.Batch.{gathered}
+use Rattle.std.proofs.Common.{◌++◌, refl, ap, ◌∙◌}
 use Rattle.jb_deck.specs.Done.{entries_of}
 use Rattle.jb_book.specs.Account.{Account}
-use Rattle.jb_book.specs.Calls.{AreOfFirst, IsCutOf}
 use Rattle.proof_clients.proofs.calls.settle.Goals as goal
 
 -- the queue is taken, committed and settled
@@ -15,9 +12,9 @@ returns-in-Ok g c =
     let can = c.in_ok-batch.ensures.taken in
     let entries = entries_of c.in_ok-done.done in
     let settles = c.in-Ok.ensures.ok in
-    let whole : p.batch ≡ gathered old.shadow.taken old.shadow.queue old.shape = plan.batch ∙ c.in_ok-batch.ensures.batch in
-    let least = subst (λ b. IsCutOf b p.groups) whole plan.planned.least in
-    let first = subst (λ b. AreOfFirst (pieces p.groups b.handles) entries) whole c.in_ok-done.ensures.tells in
+    let whole = plan.batch ∙ c.in_ok-batch.ensures.batch in
+    let least = rw whole at plan.planned.least in
+    let first = rw whole at c.in_ok-done.ensures.tells in
     record {
       could = can.0;
       cut = p.groups;

@@ -1,15 +1,15 @@
-use Rattle.std.proofs.Common.{◌≡◌, true, Ok, List, [], ◌∷◌, sym, subst, ◌∙◌, add-zero}
+use Rattle.std.proofs.Common.{◌≡◌, ap, true, Ok, [], ◌∷◌, sym, subst, ◌∙◌, add-zero}
 use Rattle.jb_disk.proofs.CallRuns.{at_the_end}
 use Rattle.jb_disk.specs.Throughout.{AllHave}
 use Rattle.jb_disk.specs.Time.{LeavesOnly}
 use Rattle.jb_super.specs.Superblock.{Superblock}
-use Rattle.jb_handle.specs.declared.stopped.Stopped.{Stopped}
 use Rattle.jb_format.specs.Front.{super_on}
-use Rattle.jb_deck.specs.Deck.{IsShapeOf}
 use Rattle.jb_deck.specs.GroupsOfBatch.{groups_in}
+use Rattle.jb_deck.specs.Open.{opened_log}
+use Rattle.jb_deck.proofs.Lives.{one-super}
 use Rattle.proof_clients.specs.Lives.{IsBatchOf, LeftByLife, of_batch}
 use Rattle.proof_clients.specs.Programs.{all_changes, commits}
-use Rattle.proof_clients.proofs.OneLife.{LifeLeft, batch-opened, left-whole, life-runs as runs-of, none-runs}
+use Rattle.proof_clients.proofs.OneLife.{LifeLeft, left-whole, life-runs as runs-of, none-runs}
 use Rattle.proof_clients.proofs.Programs.{Has, LeftNow, Runs, SoFar, opening-runs}
 use Rattle.proof_clients.proofs.ProgramCalls.{begun, closed-has, commit-on, commit-runs, idle-runs, still-has}
 use Rattle.proof_clients.proofs.life.run.Given.{Over}
@@ -26,41 +26,35 @@ committed : (g : Over) (c : In-Ok-commit g) → SoFar g.D.Disk c.args.disk c.in-
     → SoFar g.D.Disk c.args.disk c.in-Ok.deck (commits c.in-Some.batch ∷ []) [] c.commit.new.deck
 committed g c so = let ok = c.in-Ok-commit.ensures in commit-on so ok.kept ok.ended ok.numbers ok.up.1 ok.left
 
--- the batch is one of the life's handles
+-- the batch is one of the life's handles, planned for the journal that was opened, by the superblock that an image had
 is-batch : (g : Over) (c : After-commit g) → g.D.Disk.honest c.in-Ok.deck.disk → (own : Superblock)
     → super_on (g.D.Disk.size c.args.disk) (g.D.Disk.count c.args.disk) (g.D.Disk.newest c.args.disk) ≡ Ok own
     → IsBatchOf own (g.D.Disk.count c.args.disk) c.args.handles.items c.in-Some.batch
-is-batch g c honest =
+is-batch g c honest own was =
     let G = g.D.Disk in
     let entry = c.args.disk in
-    let log = c.in-Ok.deck.log in
     let is = (opened g c).is honest in
     let ok = c.in-Some.ensures in
-    batch-opened (G.size entry) (G.count entry) (G.newest entry) is.opens.sb log is.opens.taken is.opens.log c.args.handles.items c.in-Some.batch
-    ok.planned ok.batch.0 (subst (IsShapeOf log.sb (G.count entry)) (sym (ok.batch.1 ∙ c.shape.ensures.value)) is.shaped)
+    let same = is.opens.log ∙ ap opened_log (one-super (G.size entry) (G.count entry) (G.newest entry) is.opens.sb own is.opens.taken was) in
+    let at = rw (← (ok.batch.1 ∙ c.shape.ensures.value), same) at is.shaped in
+    record { planned = ok.planned; same = ok.batch.0; shape = record { size = at.size; homes = at.homes; limit = at.limit; width = at.width } }
 
 -- what a crash leaves of the program, it leaves of the life
-abbrev Ends : (g : Over) → g.row.D.Denot → List Stopped → g.row.D.Denot → Type 0
-Ends g entry handles closed = LeavesOnly g.D.Disk.moment g.D.Disk.left_since entry closed (LifeLeft g.D.Disk entry handles)
-
 life-runs : (g : Over) (c : After-commit g) {closed : g.row.D.Denot} → g.D.Disk.honest c.in-Ok.deck.disk
-    → Runs g.D.Disk c.args.disk (commits c.in-Some.batch ∷ []) closed → Ends g c.args.disk c.args.handles.items closed
+    → Runs g.D.Disk c.args.disk (commits c.in-Some.batch ∷ []) closed → LeavesOnly g.D.Disk.moment g.D.Disk.left_since c.args.disk closed (LifeLeft g.D.Disk c.args.disk c.args.handles.items)
 life-runs g c {closed = closed} honest run =
     let batch = c.in-Some.batch in
     runs-of g.D.Disk c.args.disk c.args.handles.items (commits batch ∷ []) (λ own was changes groups part. of_batch batch changes groups (is-batch g c honest own was) part) closed run
 
 commit-ends : (g : Over) (c : After-commit g) {closed : g.row.D.Denot} → closed ≡ c.commit.new.deck.disk → g.D.Disk.honest closed
-    → Ends g c.args.disk c.args.handles.items closed
+    → LeavesOnly g.D.Disk.moment g.D.Disk.left_since c.args.disk closed (LifeLeft g.D.Disk c.args.disk c.args.handles.items)
 commit-ends g c same held =
     life-runs g c (c.commit.ensures.kept.was_honest (subst g.D.Disk.honest same held)) (commit-runs (opened g c) same c.commit.ensures.kept c.commit.ensures.left held)
 
 -- and all of it, once the batch is committed
-abbrev Whole : (g : Over) → g.row.D.Denot → List Stopped → g.row.D.Denot → Type 0
-Whole g entry handles closed = AllHave g.D.Disk.may_leave closed (LeftByLife (g.D.Disk.size entry) (g.D.Disk.count entry) (g.D.Disk.newest entry) handles true)
-
 life-has : (g : Over) (c : After-commit g) {closed : g.row.D.Denot} → g.D.Disk.honest c.in-Ok.deck.disk
     → AllHave g.D.Disk.may_leave closed (Has g.D.Disk c.args.disk (all_changes (commits c.in-Some.batch ∷ [])) (groups_in c.in-Some.batch.groups))
-    → Whole g c.args.disk c.args.handles.items closed
+    → AllHave g.D.Disk.may_leave closed (LeftByLife (g.D.Disk.size c.args.disk) (g.D.Disk.count c.args.disk) (g.D.Disk.newest c.args.disk) c.args.handles.items true)
 life-has g c honest has =
     let G = g.D.Disk in
     let entry = c.args.disk in

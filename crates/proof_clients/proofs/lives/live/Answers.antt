@@ -1,12 +1,10 @@
-use Rattle.std.proofs.Common.{◌≡◌, ◌⊎◌, false, length, ap, sym, subst, ◌∙◌, inl, inr, ⊎_elim}
+use Rattle.std.proofs.Common.{◌≡◌, ◌⊎◌, length, ap, ◌∙◌, inl, inr, ⊎_elim}
 use Rattle.jb_block.specs.Size.{bytes_of}
-use Rattle.jb_disk.specs.History.{History, IsHistorySound, MayLeave, newest_of, replay}
-use Rattle.jb_disk.specs.Image.{Only}
+use Rattle.jb_disk.specs.History.{History, newest_of, replay}
 use Rattle.jb_disk.specs.Lives.{left_since_now}
 use Rattle.jb_format.proofs.CallEntry.{entry-as}
 use Rattle.jb_recover.specs.Outcomes.{RecoversAs, recovered}
-use Rattle.proof_clients.specs.Lives.{HoldsChanges, HoldsLife, IsAtRest, LeftByLife}
-use Rattle.proof_clients.proofs.OneLife.{fresh-only, life-more, rested}
+use Rattle.proof_clients.proofs.OneLife.{life-more, rested}
 use Rattle.proof_clients.proofs.lives.live.Goals as goal
 
 pub returns-clause-rest : goal.returns-clause-rest
@@ -32,12 +30,11 @@ returns-clause-lives c = λ rest own last_number before done entry.
     let count = first.count in
     let base = newest_of first in
     let kept = c.run-last.ensures.kept in
-    let at_rest : IsAtRest first = subst IsAtRest (sym is) rest in
-    let holds : HoldsChanges own last_number size count before done base = subst (λ (h : History). HoldsChanges own last_number (bytes_of h.size) h.count before done (newest_of h)) (sym is) entry in
-    let sound_last : IsHistorySound last = subst IsHistorySound c.into_inner-last.ensures c.always_sound.ensures.sound in
+    let at_rest = rw (← is) at rest in
+    let holds = rw (← is) at entry in
+    let sound_last = rw c.into_inner-last.ensures at c.always_sound.ensures.sound in
     let leaves = c.run-last.ensures.leaves sound_last in
-    let allowed : MayLeave last.first last.steps crashed.first = subst (λ (h : History). MayLeave h.first h.steps crashed.first) c.into_inner-last.ensures c.in_ok-crashed.ensures.allowed in
-    let left : (crashed.first ≡ base) ⊎ LeftByLife size count base handles false crashed.first = ⊎_elim (λ stays. inl (at_rest.only crashed.first stays)) inr (leaves.each crashed.first (left_since_now last.first last.steps (length first.steps) crashed.first leaves.later allowed)) in
+    let allowed = rw c.into_inner-last.ensures at c.in_ok-crashed.ensures.allowed in
     let same_size : bytes_of crashed.size ≡ size = ap bytes_of (c.in_ok-crashed.ensures.size ∙ ap (λ (h : History). h.size) c.into_inner-last.ensures) ∙ kept.same_size in
     let same_count : crashed.count ≡ count = c.in_ok-crashed.ensures.count ∙ ap (λ (h : History). h.count) c.into_inner-last.ensures ∙ kept.same_count in
     let image : newest_of crashed ≡ crashed.first = ap (replay crashed.first) c.in_ok-crashed.ensures.fresh.0 in
@@ -45,10 +42,9 @@ returns-clause-lives c = λ rest own last_number before done entry.
     let cut = c.of-2.result.disk in
     let part = c.recover_in_part.result.disk in
     let kept_cut = c.recover_in_part.ensures.kept in
-    let sound_part : IsHistorySound part = subst IsHistorySound c.into_inner-cut.ensures c.always_sound-2.ensures.sound in
-    let only_cut : Only (newest_of cut) (MayLeave cut.first cut.steps) = subst (λ (h : History). Only (newest_of h) (MayLeave h.first h.steps)) (sym is_cut) (fresh-only crashed c.in_ok-crashed.ensures.fresh.0) in
-    let leaves_cut = c.recover_in_part.ensures.leaves sound_part only_cut in
-    let allowed_cut : MayLeave part.first part.steps again.first = subst (λ (h : History). MayLeave h.first h.steps again.first) c.into_inner-cut.ensures c.in_ok-disk.ensures.allowed in
+    let sound_part = rw c.into_inner-cut.ensures at c.always_sound-2.ensures.sound in
+    let leaves_cut = c.recover_in_part.ensures.leaves sound_part (rw (is_cut, c.in_ok-crashed.ensures.fresh.0) (λ image still. still)) in
+    let allowed_cut = rw c.into_inner-cut.ensures at c.in_ok-disk.ensures.allowed in
     let recovers = leaves_cut.each again.first (left_since_now part.first part.steps (length cut.steps) again.first leaves_cut.later allowed_cut) in
     let cut_size : bytes_of cut.size ≡ size = ap (λ (h : History). bytes_of h.size) is_cut ∙ same_size in
     let cut_count : cut.count ≡ count = ap (λ (h : History). h.count) is_cut ∙ same_count in
@@ -58,5 +54,8 @@ returns-clause-lives c = λ rest own last_number before done entry.
     let again_count : again.count ≡ count = c.in_ok-disk.ensures.count ∙ ap (λ (h : History). h.count) c.into_inner-cut.ensures ∙ kept_cut.same_count ∙ cut_count in
     let again_image : newest_of again ≡ again.first = ap (replay again.first) c.in_ok-disk.ensures.fresh.0 in
     let ended : new ≡ recovered size count crashed.first = entry-as (λ s n b. new ≡ recovered s n b) size count (bytes_of again.size) again.count again.first (newest_of again) again_size again_count again_image ((c.in_ok-recover.ensures.recovers c.always_sound-3.ensures.sound).3) ∙ as_before.image in
-    let more = life-more c.holds_on.ensures size count own last_number before done base holds at_rest.still handles committed crashed.first new left (λ yes. (c.run-last.ensures.ends sound_last yes).each crashed.first allowed) ended in
-    subst (λ (h : History). HoldsLife own last_number (bytes_of h.size) h.count before done handles committed new) is more
+    let more =
+    life-more c.holds_on.ensures size count own last_number before done base holds at_rest.still handles committed crashed.first new
+    (⊎_elim (λ stays. inl (at_rest.only crashed.first stays)) inr (leaves.each crashed.first (left_since_now last.first last.steps (length first.steps) crashed.first leaves.later allowed)))
+    (λ yes. (c.run-last.ensures.ends sound_last yes).each crashed.first allowed) ended in
+    rw is at more

@@ -1,11 +1,11 @@
-use Rattle.std.proofs.Common.{◌≡◌, [], ◌∷◌, ◌++◌, map, refl, sym, subst, ◌∙◌, rules}
+use Rattle.std.proofs.Common.{◌≡◌, [], ◌∷◌, ◌++◌, map, refl, sym, ◌∙◌, rules}
 use Rattle.std.proofs.lemmas.List.{map-append}
 use Rattle.jb_block.specs.Size.{bytes_of}
 use Rattle.jb_disk.specs.History.{newest_of}
 use Rattle.jb_format.proofs.CallEntry.{entry-as}
 use Rattle.jb_recover.specs.Outcomes.{recovered}
 use Rattle.jb_deck.specs.Open.{recovered_home}
-use Rattle.proof_clients.specs.Lives.{HasLives, HoldsChanges, HoldsLife}
+use Rattle.proof_clients.specs.Lives.{HoldsChanges, HoldsLife}
 use Rattle.proof_clients.specs.declared.lives.Life.{Life}
 use Rattle.proof_clients.proofs.OneLife.{lives-more, lives-none, rested}
 use Rattle.proof_clients.proofs.lives.run_lives.Goals as goal
@@ -24,9 +24,7 @@ loop-life-init c =
       rest = rested size count base d1 sound (held.durable sound) kept.same_size kept.same_count (held.recovers sound).3 (c.recovered.ensures.once size count base);
       size = kept.same_size;
       count = kept.same_count;
-      lives =
-          subst (λ reported. HasLives size count [] reported base (newest_of d1)) (sym c.new-committed.ensures.items)
-          (lives-none size count base (newest_of d1) (held.journal sound) (held.recovers sound).3);
+      lives = rw c.new-committed.ensures.items (lives-none size count base (newest_of d1) (held.journal sound) (held.recovers sound).3);
     }
 
 pub loop-life-preserved : goal.loop-life-preserved
@@ -53,6 +51,5 @@ loop-life-preserved c =
           let life = c.in_ok-next.ensures.lives inv.rest h.own h.now before h.changes held in
           let here = entry-as (λ s n base. HoldsLife h.own h.now s n before h.changes handles is base) _ _ _ _ _ _ inv.size inv.count refl life in
           let more = lives-more size count (map (λ (l : Life). l.handles.items) c.loop-life.yielded) c.loop-life.committed.items base (newest_of mid) (newest_of new) handles is h here in
-          subst (λ reported. HasLives size count (map (λ (l : Life). l.handles.items) (c.loop-life.yielded ++ c.in-Some.life ∷ [])) reported base (newest_of new)) (sym items)
-          (subst (λ lives. HasLives size count lives (c.loop-life.committed.items ++ is ∷ []) base (newest_of new)) (sym (map-append (λ (l : Life). l.handles.items) c.loop-life.yielded (c.in-Some.life ∷ []))) more);
+          rw (items, map-append (λ (l : Life). l.handles.items) c.loop-life.yielded (c.in-Some.life ∷ [])) more;
     }

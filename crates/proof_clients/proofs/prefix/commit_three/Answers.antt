@@ -83,8 +83,8 @@ returns-in-Ok-commit-3-clause-prefix g c = λ held.
     let made : List Change = all_changes (commits first ∷ commits second ∷ []) in
     let hs = first.batch.handles ++ second.batch.handles in
     let settled : settled_in made ≡ hs =
-    settled-append (map settles first.batch.handles) (map settles second.batch.handles ++ [])
-    ∙ ap₂ (λ xs ys. xs ++ ys) (settled-map first.batch.handles) (ap settled_in (append-nil (map settles second.batch.handles)) ∙ settled-map second.batch.handles) in
+    rw (settled-append (map settles first.batch.handles) (map settles second.batch.handles ++ []), settled-map first.batch.handles, append-nil (map settles second.batch.handles))
+    (ap (λ xs. first.batch.handles ++ xs) (settled-map second.batch.handles)) in
     let has : (least groups : ℕ) (image : Image) → least ≤ groups → groups ≤ groups_in third.groups
     → LeftIn G now (map settles (handles_to third.groups groups third.batch.handles)) (now.log.next + groups) image
     → HasPrefix (revoking own) (own.sequence + 1 + numbers) (G.size c.args.disk) (G.count c.args.disk) (before G c.args.disk) hs third least image

@@ -1,7 +1,6 @@
-use Rattle.std.proofs.Common.{◌≤◌, [], ◌∷◌, Ok, subst, arith}
+use Rattle.std.proofs.Common.{◌≤◌, [], ◌∷◌, Ok, arith}
 use Rattle.jb_handle.specs.Handle.{changes_of}
 use Rattle.jb_book.specs.Calls.{Opened, Enqueued, CallsMake}
-use Rattle.proof_clients.specs.BookClient.{Stand}
 use Rattle.proof_clients.proofs.CutOfTwo.{begun, stand}
 use Rattle.proof_clients.proofs.two.two_handles.Goals as goal
 
@@ -19,5 +18,5 @@ returns g c =
     c.stop-two.new.book c.settle.new.book c.fail.new.self c.args.deck.now.trail c.settle.new.deck.trail called c.in_ok-settle.ensures c.fail.ensures.value c.into_trail.result.items c.into_trail.ensures.value in
     record {
       told = is.0;
-      stand = subst (λ shape. Stand shape (changes_of c.args.first).words (changes_of c.args.second).words c.into_trail.result.items) c.shape.ensures.value is.1;
+      stand = rw c.shape.ensures.value at is.1;
     }

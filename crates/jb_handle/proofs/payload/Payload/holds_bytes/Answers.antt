@@ -1,9 +1,6 @@
-use Rattle.std.proofs.Common.{◌≡◌, sym, subst, ◌-◌, ◌++◌, length, replicate, rules}
-use Rattle.jb_block.specs.Fields.{AreBytes}
+use Rattle.std.proofs.Common.{◌-◌, length}
 use Rattle.jb_handle.proofs.PayloadFront.{filled-bytes}
 use Rattle.jb_handle.proofs.payload.Payload.holds_bytes.Goals as goal
 
 pub returns : goal.returns
-returns c =
-    let view : c.args.self.now ≡ c.self.inside.bytes.items ++ replicate (c.self.inside.len - length c.self.inside.bytes.items) 0 = search rules in
-    subst AreBytes (sym view) (filled-bytes (c.self.inside.len - length c.self.inside.bytes.items) c.self.inside.bytes.items (subst AreBytes c.deref.ensures.value c.are_bytes.ensures))
+returns c = rw (← c.self.view_is) (filled-bytes (c.self.inside.len - length c.self.inside.bytes.items) c.self.inside.bytes.items (rw c.deref.ensures.value at c.are_bytes.ensures))

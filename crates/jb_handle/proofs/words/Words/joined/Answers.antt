@@ -1,9 +1,8 @@
-use Rattle.std.proofs.Common.{◌≡◌, ◌<◌, ◌-◌, Result, Ok, Err, IfOk, OnErr, length, drop, ap, sym, subst, ◌∙◌, arith, nat_cmp}
+use Rattle.std.proofs.Common.{◌≡◌, ◌<◌, ◌-◌, IfOk, OnErr, length, drop, refl, ap, sym, subst, ◌∙◌, arith, nat_cmp}
 use Rattle.std.proofs.lemmas.List.{drop_all}
 use Rattle.std.specs.Option.{option_or}
 use Rattle.std.specs.FinMap as map
 use Rattle.jb_handle.specs.declared.stopped.Stopped.{Stopped}
-use Rattle.jb_handle.specs.Word.{WordMap}
 use Rattle.jb_handle.specs.Words.{word, words_of}
 use Rattle.jb_block.proofs.Refusals.{on-refusal}
 use Rattle.jb_handle.proofs.GatherWords.{handle-earlier, handles-whole, some-words}
@@ -11,10 +10,7 @@ use Rattle.jb_handle.proofs.words.Words.joined.Goals as goal
 use Rattle.jb_handle.proofs.words.Words.joined.Goals.{After-into_words}
 
 pub loop-at-init : goal.loop-at-init
-loop-at-init c q =
-    ap (λ m. map.get m q) c.new-gathered.ensures
-    ∙ map.get-empty nat_cmp q
-    ∙ ap (λ hs. word hs q) (sym (drop_all (length c.args.handles.now) c.args.handles.now (omega arith)))
+loop-at-init c q = rw (c.new-gathered.ensures, map.get-empty nat_cmp q, drop_all (length c.args.handles.now) c.args.handles.now (omega arith)) refl
 
 pub returns-in_err-add_all-clause-err : goal.returns-in_err-add_all-clause-err
 returns-in_err-add_all-clause-err c =
@@ -29,12 +25,8 @@ whole c =
     let none : c.loop-at.at ≡ 0 = omega arith in
     handles-whole c.args.handles.now c.loop-at.gathered (λ q. c.loop-at.invariant q ∙ ap (λ k. word (drop k c.args.handles.now) q) none)
 
-ok-same : {E : Type 0} (r : Result WordMap E) (m n : WordMap) → m ≡ n → IfOk r (λ words. words ≡ m) → IfOk r (λ words. words ≡ n)
-ok-same (Ok words) m n same is = is ∙ same
-ok-same (Err e) m n same is = tt
-
 pub returns-clause-ok : goal.returns-clause-ok
-returns-clause-ok c = ok-same c.into_words.result _ _ (whole c) c.into_words.ensures.ok
+returns-clause-ok c = subst (λ m. IfOk c.into_words.result (λ words. words ≡ m)) (whole c) c.into_words.ensures.ok
 
 pub returns-clause-err : goal.returns-clause-err
 returns-clause-err c = subst (λ m. OnErr c.into_words.result (0 < map.len m)) (whole c) c.into_words.ensures.err

@@ -1,4 +1,4 @@
-use Rattle.std.proofs.Common.{◌<◌, T, length, sym, ap, subst, ◌∙◌, arith, nat_cmp}
+use Rattle.std.proofs.Common.{T, sym, ap, ◌∙◌, arith, nat_cmp}
 use Rattle.std.specs.Option.{option_or}
 use Rattle.std.specs.FinMap as map
 use Rattle.jb_block.proofs.Refusals.{on-refusal}
@@ -13,9 +13,8 @@ loop-home-init c q = sym (or-nothing (map.get c.args.self.now q))
 
 pub loop-home-preserved : goal.loop-home-preserved
 loop-home-preserved c =
-    let rising : T (map.is_sorted nat_cmp c.entries-home-items.result.now) = subst (λ es. T (map.is_sorted nat_cmp es)) (sym c.entries-home-items.ensures) (map.entries_sorted c.args.words.now) in
-    let inside : c.loop-home.home-index < length c.entries-home-items.result.now = omega arith in
-    λ q. word-added _ rising c.loop-home.home-index c.loop-home-item.result c.loop-home-item.is inside c.loop-home.self _ q _ (c.in_ok-add.ensures.ok q) (c.loop-home.invariant q)
+    let rising : T (map.is_sorted nat_cmp c.entries-home-items.result.now) = rw c.entries-home-items.ensures (map.entries_sorted c.args.words.now) in
+    λ q. word-added _ rising c.loop-home.home-index c.loop-home-item.result c.loop-home-item.is (omega arith) c.loop-home.self _ q _ (c.in_ok-add.ensures.ok q) (c.loop-home.invariant q)
 
 pub returns-clause-ok : goal.returns-clause-ok
 returns-clause-ok c q =

@@ -1,13 +1,11 @@
-use Rattle.std.proofs.Common.{ap, ◌∙◌, rules, ◌≡◌, [], Err}
+use Rattle.std.proofs.Common.{ap, ◌∙◌, rules, ◌≡◌, Err}
 use Rattle.std.specs.Option.{option_copied}
 use Rattle.jb_image.specs.Lists.{listed_in}
 use Rattle.jb_image.proofs.TakenWords.{taken-ends, taken-fails, taken-goes, taken-none}
 use Rattle.jb_image.proofs.extents.Extents.read.Goals as goal
 
 pub loop-left-init : goal.loop-left-init
-loop-left-init c =
-    let none : c.new-list.result.items ≡ [] = search rules in
-    rw none (taken-none c.args.text.now)
+loop-left-init c = rw c.new-list.ensures.items (taken-none c.args.text.now)
 
 pub loop-left-preserved : goal.loop-left-preserved
 loop-left-preserved c =

@@ -1,11 +1,8 @@
-use Rattle.jb_disk.specs.Image.{Same}
 use Rattle.jb_image.proofs.ImageCalls.{goes-two, goes-within}
 use Rattle.jb_image.proofs.image.ImageDiskDisk.read.Goals as goal
 
 pub returns-in-Two-clause-goes : goal.returns-in-Two-clause-goes
-returns-in-Two-clause-goes g c honest =
-    goes-two g.D.Disk g.E.Disk Same c.args.self.now c.in-Two.pair c.read-in-Two.new.self c.in-Two.is (c.read-in-Two.ensures.goes honest)
+returns-in-Two-clause-goes g c honest = goes-two g.D.Disk g.E.Disk c.in-Two.is (c.read-in-Two.ensures.goes honest)
 
 pub returns-in-Within-clause-goes : goal.returns-in-Within-clause-goes
-returns-in-Within-clause-goes g c honest =
-    goes-within g.D.Disk g.E.Disk Same c.args.self.now c.in-Within.disk c.read-in-Within.new.self c.in-Within.is (c.read-in-Within.ensures.goes honest)
+returns-in-Within-clause-goes g c honest = goes-within g.D.Disk g.E.Disk c.in-Within.is (c.read-in-Within.ensures.goes honest)

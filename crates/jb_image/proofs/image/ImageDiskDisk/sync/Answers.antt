@@ -1,25 +1,14 @@
-use Rattle.std.proofs.Common.{OnOk, sym, subst}
-use Rattle.jb_disk.specs.Image.{Only, Same}
-use Rattle.jb_image.specs.ExtentImage.{WithinLeaves}
-use Rattle.jb_image.specs.Images.{image_newest}
-use Rattle.jb_image.specs.Pair.{PairLeaves}
 use Rattle.jb_image.proofs.ImageCalls.{goes-two, goes-within}
 use Rattle.jb_image.proofs.image.ImageDiskDisk.sync.Goals as goal
 
 pub returns-in-Two-clause-goes : goal.returns-in-Two-clause-goes
-returns-in-Two-clause-goes g c honest =
-    goes-two g.D.Disk g.E.Disk Same c.args.self.now c.in-Two.pair c.sync-in-Two.new.self c.in-Two.is (c.sync-in-Two.ensures.goes honest)
+returns-in-Two-clause-goes g c honest = goes-two g.D.Disk g.E.Disk c.in-Two.is (c.sync-in-Two.ensures.goes honest)
 
 pub returns-in-Within-clause-goes : goal.returns-in-Within-clause-goes
-returns-in-Within-clause-goes g c honest =
-    goes-within g.D.Disk g.E.Disk Same c.args.self.now c.in-Within.disk c.sync-in-Within.new.self c.in-Within.is (c.sync-in-Within.ensures.goes honest)
+returns-in-Within-clause-goes g c honest = goes-within g.D.Disk g.E.Disk c.in-Within.is (c.sync-in-Within.ensures.goes honest)
 
 pub returns-in-Two-clause-durable : goal.returns-in-Two-clause-durable
-returns-in-Two-clause-durable g c honest =
-    subst (λ o. OnOk c.sync-in-Two.result (Only (image_newest g.D.Disk g.E.Disk o) (PairLeaves g.E.Disk g.D.Disk c.sync-in-Two.new.self)))
-    (sym c.in-Two.is) (c.sync-in-Two.ensures.durable honest)
+returns-in-Two-clause-durable g c honest = rw c.in-Two.is (c.sync-in-Two.ensures.durable honest)
 
 pub returns-in-Within-clause-durable : goal.returns-in-Within-clause-durable
-returns-in-Within-clause-durable g c honest =
-    subst (λ o. OnOk c.sync-in-Within.result (Only (image_newest g.D.Disk g.E.Disk o) (WithinLeaves g.D.Disk c.sync-in-Within.new.self)))
-    (sym c.in-Within.is) (c.sync-in-Within.ensures.durable honest)
+returns-in-Within-clause-durable g c honest = rw c.in-Within.is (c.sync-in-Within.ensures.durable honest)

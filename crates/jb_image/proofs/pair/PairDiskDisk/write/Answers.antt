@@ -27,12 +27,10 @@ pub returns-then-place-front-clause-goes : goal.returns-then-place-front-clause-
 returns-then-place-front-clause-goes g c honest =
     let p = c.args.self.now in
     let bytes = c.args.bytes.now in
-    let was = c.write.ensures.kept.was_honest honest.first in
-    goes-front g.A.Disk g.B.Disk p.front c.write.new.self p.back p.past c.note.new.self c.note.ensures c.write.ensures.kept.same_size c.write.ensures.kept.same_count
-    (λ y left. g.met.B.Disk.only_now p.back y honest.second left)
-    (Torn c.args.place bytes) (Torn c.args.place bytes)
-    (λ x x' y left _ torn. in-front 1 (torn_block bytes) c.args.place x x' y (omega (arith, c.if-place-front.true, c.blocks-front.ensures, (g.met.A.Disk.has_shape p.front x was left).blocks)) torn)
-    (λ x left. g.met.A.Disk.only_now p.front x was left)
+    goes-front g.A.Disk g.B.Disk g.met.A.Disk.only_now g.met.B.Disk.only_now p c.write.new.self c.note.new.self c.note.ensures c.write.ensures.kept
+    (Torn c.args.place bytes) (Torn c.args.place bytes) honest
+    (λ x x' y left torn. in-front 1 (torn_block bytes) c.args.place x x' y
+    (omega (arith, c.if-place-front.true, c.blocks-front.ensures, (g.met.A.Disk.has_shape p.front x (c.write.ensures.kept.was_honest honest.first) left).blocks)) torn)
     (c.write.ensures.goes honest.first)
 
 pub returns-clause-written : goal.returns-clause-written
@@ -55,9 +53,8 @@ returns-clause-goes g c honest =
     let p = c.args.self.now in
     let bytes = c.args.bytes.now in
     let place = c.args.place - c.blocks-front.result in
-    goes-back g.A.Disk g.B.Disk p.front p.back c.write-2.new.self p.past c.note.new.self c.note.ensures c.write-2.ensures.kept.same_size c.write-2.ensures.kept.same_count
-    (λ x left. g.met.A.Disk.only_now p.front x honest.first left)
-    (Torn place bytes) (Torn c.args.place bytes)
-    (λ x y y' left _ torn. in-back 1 (torn_block bytes) place c.args.place x y y' (omega (arith, c.if-place-front.false, c.blocks-front.ensures, (g.met.A.Disk.has_shape p.front x honest.first left).blocks)) torn)
-    (λ y left. g.met.B.Disk.only_now p.back y (c.write-2.ensures.kept.was_honest honest.second) left)
+    goes-back g.A.Disk g.B.Disk g.met.A.Disk.only_now g.met.B.Disk.only_now p c.write-2.new.self c.note.new.self c.note.ensures c.write-2.ensures.kept
+    (Torn place bytes) (Torn c.args.place bytes) honest
+    (λ x y y' left torn. in-back 1 (torn_block bytes) place c.args.place x y y'
+    (omega (arith, c.if-place-front.false, c.blocks-front.ensures, (g.met.A.Disk.has_shape p.front x honest.first left).blocks)) torn)
     (c.write-2.ensures.goes honest.second)

@@ -27,41 +27,33 @@ parts g c = record {
 
 pub returns-then-place-blocks-clause-steps : goal.returns-then-place-blocks-clause-steps
 returns-then-place-blocks-clause-steps g c honest =
-    let G = g.A.Disk in
     let p = c.args.self.now in
-    let size = G.size p.front in
     let blocks = c.args.blocks in
-    let place = c.args.place in
     let bytes = c.args.bytes.now in
+    let torn = TornRun (g.A.Disk.size p.front) blocks c.args.place bytes in
     let run = c.write_run.ensures in
-    let was = run.kept.was_honest honest.first in
-    steps-front G g.B.Disk p.front c.write_run.new.self p.back p.past c.note.new.self c.note.ensures run.kept.same_size run.kept.same_count
-    (λ y left. g.met.B.Disk.only_now p.back y honest.second left)
-    (TornRun size blocks place bytes) (TornRun size blocks place bytes)
-    (λ x x' y left _ torn. in-front blocks (torn_blocks size blocks bytes) place x x' y (omega (arith, c.if-place-blocks.true, c.blocks-front.ensures, (g.met.A.Disk.has_shape p.front x was left).blocks)) torn)
-    (torn_run-same size blocks place bytes) (run.steps honest.first)
+    steps-front g.A.Disk g.B.Disk g.met.A.Disk.only_now g.met.B.Disk.only_now p c.write_run.new.self c.note.new.self c.note.ensures run.kept torn torn honest
+    (λ x x' y left torn. in-front blocks (torn_blocks (g.A.Disk.size p.front) blocks bytes) c.args.place x x' y
+    (omega (arith, c.if-place-blocks.true, c.blocks-front.ensures, (g.met.A.Disk.has_shape p.front x (run.kept.was_honest honest.first) left).blocks)) torn)
+    (torn_run-same (g.A.Disk.size p.front) blocks c.args.place bytes) (run.steps honest.first)
 
 pub returns-then-front-place-clause-written : goal.returns-then-front-place-clause-written
 returns-then-front-place-clause-written g c honest =
     let p = c.args.self.now in
-    let place = c.args.place in
-    let q = place - c.blocks-front.result in
     let run = c.write_run-then-front-place.ensures in
-    let x = g.A.Disk.newest p.front in
-    let behind : place ≡ length x + q = omega (arith, c.if-front-place.true, front-long g (goal.at.returns-then-front-place-clause-written g c).After-blocks-front honest.first) in
     on_ok_weaker c.write_run-then-front-place.result
-    (in-back c.args.blocks (written_blocks (g.A.Disk.size p.front) c.args.blocks c.args.bytes.now) q place x (g.B.Disk.newest p.back) (g.B.Disk.newest c.write_run-then-front-place.new.self) behind)
+    (in-back c.args.blocks (written_blocks (g.A.Disk.size p.front) c.args.blocks c.args.bytes.now) (c.args.place - c.blocks-front.result) c.args.place
+    (g.A.Disk.newest p.front) (g.B.Disk.newest p.back) (g.B.Disk.newest c.write_run-then-front-place.new.self)
+    (omega (arith, c.if-front-place.true, front-long g (goal.at.returns-then-front-place-clause-written g c).After-blocks-front honest.first)))
     (rw (sym run.kept.same_size ∙ sym honest.same_size) at (run.written honest.second))
 
 pub returns-then-front-place-clause-torn : goal.returns-then-front-place-clause-torn
 returns-then-front-place-clause-torn g c honest =
     let p = c.args.self.now in
-    let place = c.args.place in
-    let q = place - c.blocks-front.result in
     let run = c.write_run-then-front-place.ensures in
-    let x = g.A.Disk.newest p.front in
-    let behind : place ≡ length x + q = omega (arith, c.if-front-place.true, front-long g (goal.at.returns-then-front-place-clause-torn g c).After-blocks-front honest.first) in
-    in-back c.args.blocks (torn_blocks (g.A.Disk.size p.front) c.args.blocks c.args.bytes.now) q place x (g.B.Disk.newest p.back) (g.B.Disk.newest c.write_run-then-front-place.new.self) behind
+    in-back c.args.blocks (torn_blocks (g.A.Disk.size p.front) c.args.blocks c.args.bytes.now) (c.args.place - c.blocks-front.result) c.args.place
+    (g.A.Disk.newest p.front) (g.B.Disk.newest p.back) (g.B.Disk.newest c.write_run-then-front-place.new.self)
+    (omega (arith, c.if-front-place.true, front-long g (goal.at.returns-then-front-place-clause-torn g c).After-blocks-front honest.first))
     (rw (sym run.kept.same_size ∙ sym honest.same_size) at (run.torn honest.second))
 
 pub returns-then-front-place-clause-steps : goal.returns-then-front-place-clause-steps
@@ -73,22 +65,19 @@ returns-then-front-place-clause-steps g c honest =
     let bytes = c.args.bytes.now in
     let q = place - c.blocks-front.result in
     let run = c.write_run-then-front-place.ensures in
-    steps-back g.A.Disk g.B.Disk p.front p.back c.write_run-then-front-place.new.self p.past c.note.new.self c.note.ensures run.kept.same_size run.kept.same_count
-    (λ x left. g.met.A.Disk.only_now p.front x honest.first left)
-    (TornRun size blocks q bytes) (TornRun size blocks place bytes)
-    (λ x y y' left _ torn. in-back blocks (torn_blocks size blocks bytes) q place x y y' (omega (arith, c.if-front-place.true, c.blocks-front.ensures, (g.met.A.Disk.has_shape p.front x honest.first left).blocks)) torn)
-    (torn_run-same size blocks place bytes)
-    (rw (sym run.kept.same_size ∙ sym honest.same_size) at (run.steps honest.second))
+    steps-back g.A.Disk g.B.Disk g.met.A.Disk.only_now g.met.B.Disk.only_now p c.write_run-then-front-place.new.self c.note.new.self c.note.ensures run.kept
+    (TornRun size blocks q bytes) (TornRun size blocks place bytes) honest
+    (λ x y y' left torn. in-back blocks (torn_blocks size blocks bytes) q place x y y'
+    (omega (arith, c.if-front-place.true, c.blocks-front.ensures, (g.met.A.Disk.has_shape p.front x honest.first left).blocks)) torn)
+    (torn_run-same size blocks place bytes) (rw (sym run.kept.same_size ∙ sym honest.same_size) at (run.steps honest.second))
 
 pub returns-in_err-write_run-clause-torn : goal.returns-in_err-write_run-clause-torn
 returns-in_err-write_run-clause-torn g c honest =
     let at = goal.at.returns-in_err-write_run-clause-torn g c in
-    let place = c.args.place in
+    let p = c.args.self.now in
     let run = c.write_run-2.ensures in
-    let x = g.A.Disk.newest c.args.self.now.front in
-    let y = g.B.Disk.newest c.args.self.now.back in
-    let end : place + (c.blocks-front.result - place) ≡ length x = omega (arith, c.if-front-place.false, front-long g at.After-blocks-front (run.kept.was_honest honest.first)) in
-    torn-both (parts g at.After-split_at) place x (g.A.Disk.newest c.write_run-2.new.self) y y end (run.torn honest.first) (torn_run-same _ _ 0 _ y)
+    torn-both (parts g at.After-split_at) c.args.place (g.A.Disk.newest p.front) (g.A.Disk.newest c.write_run-2.new.self) (g.B.Disk.newest p.back) (g.B.Disk.newest p.back)
+    (omega (arith, c.if-front-place.false, front-long g at.After-blocks-front (run.kept.was_honest honest.first))) (run.torn honest.first) (torn_run-same _ _ 0 _ (g.B.Disk.newest p.back))
 
 pub returns-in_err-write_run-clause-steps : goal.returns-in_err-write_run-clause-steps
 returns-in_err-write_run-clause-steps g c honest =
@@ -97,12 +86,10 @@ returns-in_err-write_run-clause-steps g c honest =
     let place = c.args.place in
     let n = c.blocks-front.result - place in
     let run = c.write_run-2.ensures in
-    let was = run.kept.was_honest honest.first in
-    steps-front g.A.Disk g.B.Disk p.front c.write_run-2.new.self p.back p.past c.note.new.self c.note.ensures run.kept.same_size run.kept.same_count
-    (λ y left. g.met.B.Disk.only_now p.back y honest.second left)
-    (TornRun size n place c.split_at.result.0.now) (TornRun size c.args.blocks place c.args.bytes.now)
-    (λ x x' y left _ torn.
-    let end : place + n ≡ length x = omega (arith, (g.met.A.Disk.has_shape p.front x was left).blocks, c.blocks-front.ensures, c.if-front-place.false) in
+    steps-front g.A.Disk g.B.Disk g.met.A.Disk.only_now g.met.B.Disk.only_now p c.write_run-2.new.self c.note.new.self c.note.ensures run.kept
+    (TornRun size n place c.split_at.result.0.now) (TornRun size c.args.blocks place c.args.bytes.now) honest
+    (λ x x' y left torn.
+    let end : place + n ≡ length x = omega (arith, (g.met.A.Disk.has_shape p.front x (run.kept.was_honest honest.first) left).blocks, c.blocks-front.ensures, c.if-front-place.false) in
     torn-both (parts g (goal.at.returns-in_err-write_run-clause-steps g c).After-split_at) place x x' y y end torn (torn_run-same _ _ 0 _ y))
     (torn_run-same size c.args.blocks place c.args.bytes.now) (run.steps honest.first)
 
@@ -110,42 +97,28 @@ pub returns-clause-written : goal.returns-clause-written
 returns-clause-written g c honest =
     let at = goal.at.returns-clause-written g c in
     let p = c.args.self.now in
-    let place = c.args.place in
     let begun = c.write_run-2.ensures in
     let ended = c.write_run-3.ensures in
-    let x = g.A.Disk.newest p.front in
-    let end : place + (c.blocks-front.result - place) ≡ length x = omega (arith, c.if-front-place.false, front-long g at.After-blocks-front (begun.kept.was_honest honest.first)) in
     on_ok_weaker c.write_run-3.result
-    (wrote-both (parts g at.After-split_at) place x (g.A.Disk.newest c.write_run-2.new.self) (g.B.Disk.newest p.back) (g.B.Disk.newest c.write_run-3.new.self) end (c.in_ok-write_run.ensures.written honest.first))
+    (wrote-both (parts g at.After-split_at) c.args.place (g.A.Disk.newest p.front) (g.A.Disk.newest c.write_run-2.new.self) (g.B.Disk.newest p.back) (g.B.Disk.newest c.write_run-3.new.self)
+    (omega (arith, c.if-front-place.false, front-long g at.After-blocks-front (begun.kept.was_honest honest.first))) (c.in_ok-write_run.ensures.written honest.first))
     (rw (sym ended.kept.same_size ∙ sym honest.same_size ∙ begun.kept.same_size) at (ended.written honest.second))
 
 pub returns-clause-torn : goal.returns-clause-torn
 returns-clause-torn g c honest =
     let at = goal.at.returns-clause-torn g c in
     let p = c.args.self.now in
-    let place = c.args.place in
     let begun = c.write_run-2.ensures in
     let ended = c.write_run-3.ensures in
-    let x = g.A.Disk.newest p.front in
-    let end : place + (c.blocks-front.result - place) ≡ length x = omega (arith, c.if-front-place.false, front-long g at.After-blocks-front (begun.kept.was_honest honest.first)) in
-    torn-both (parts g at.After-split_at) place x (g.A.Disk.newest c.write_run-2.new.self) (g.B.Disk.newest p.back) (g.B.Disk.newest c.write_run-3.new.self) end (begun.torn honest.first)
+    torn-both (parts g at.After-split_at) c.args.place (g.A.Disk.newest p.front) (g.A.Disk.newest c.write_run-2.new.self) (g.B.Disk.newest p.back) (g.B.Disk.newest c.write_run-3.new.self)
+    (omega (arith, c.if-front-place.false, front-long g at.After-blocks-front (begun.kept.was_honest honest.first))) (begun.torn honest.first)
     (rw (sym ended.kept.same_size ∙ sym honest.same_size ∙ begun.kept.same_size) at (ended.torn honest.second))
 
 pub returns-clause-steps : goal.returns-clause-steps
 returns-clause-steps g c honest =
-    let p = c.args.self.now in
-    let place = c.args.place in
-    let n = c.blocks-front.result - place in
     let begun = c.write_run-2.ensures in
     let ended = c.write_run-3.ensures in
-    let was_a = begun.kept.was_honest honest.first in
-    let was_b = ended.kept.was_honest honest.second in
-    let end : place + n ≡ g.A.Disk.count p.front = omega (arith, c.blocks-front.ensures, c.if-front-place.false) in
-    steps-both g.A.Disk g.B.Disk p.front c.write_run-2.new.self p.back c.write_run-3.new.self p.past c.note.new.self c.note-2.new.self c.note.ensures c.note-2.ensures
-    begun.kept.same_size begun.kept.same_count ended.kept.same_size ended.kept.same_count
-    (λ x left. g.met.A.Disk.only_now p.front x was_a left) (λ x left. g.met.A.Disk.only_now c.write_run-2.new.self x honest.first left) (λ y left. g.met.B.Disk.only_now p.back y was_b left)
-    (parts g (goal.at.returns-clause-steps g c).After-split_at) place
-    (λ x left. end ∙ sym (g.met.A.Disk.has_shape p.front x was_a left).blocks)
-    (λ x left. end ∙ sym begun.kept.same_count ∙ sym (g.met.A.Disk.has_shape c.write_run-2.new.self x honest.first left).blocks)
-    (begun.steps honest.first)
+    steps-both g.A.Disk g.B.Disk g.met.A.Disk.only_now g.met.B.Disk.only_now g.met.A.Disk.has_shape g.met.B.Disk.has_shape c.args.self.now c.write_run-2.new.self c.write_run-3.new.self
+    c.note.new.self c.note-2.new.self c.note.ensures c.note-2.ensures begun.kept ended.kept honest (parts g (goal.at.returns-clause-steps g c).After-split_at) c.args.place
+    (omega (arith, c.blocks-front.ensures, c.if-front-place.false)) (begun.steps honest.first)
     (rw (sym ended.kept.same_size ∙ sym honest.same_size ∙ begun.kept.same_size) at (ended.steps honest.second))

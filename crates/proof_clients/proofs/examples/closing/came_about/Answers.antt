@@ -1,5 +1,4 @@
-use Rattle.std.proofs.Common.{◌≡◌, arith, sum_by}
-use Rattle.jb_board.specs.HistoryRule.{with_places}
+use Rattle.std.proofs.Common.{arith}
 use Rattle.proof_clients.proofs.ExampleEnds.{at_first, one-first}
 use Rattle.proof_clients.proofs.ExampleIdle.{came-idle}
 use Rattle.proof_clients.proofs.examples.closing.came_about.Goals as goal
@@ -8,6 +7,4 @@ pub returns-clause-meets : goal.returns-clause-meets
 returns-clause-meets g c d bounds are = came-idle bounds are g.D.Disk d
 
 pub returns-clause-not_twice : goal.returns-clause-not_twice
-returns-clause-not_twice g c shape disk trail is =
-    let twice : 2 ≡ sum_by at_first (with_places 0 is.log) = is.stopped.once at_first in
-    omega (arith, twice, one-first is.log)
+returns-clause-not_twice g c shape disk trail is = omega (arith, is.stopped.once at_first, one-first is.log)

@@ -1,7 +1,7 @@
-use Rattle.std.proofs.Common.{◌≡◌, List, [], ◌∷◌, length, Some, slice_get, sym, ap, ◌∙◌, arith, sum_by}
+use Rattle.std.proofs.Common.{◌≡◌, List, [], ◌∷◌, Some, slice_get, sym, ap, ◌∙◌, arith}
 use Rattle.std.proofs.lemmas.List.Elements.{All-head}
 use Rattle.std.proofs.lemmas.Option.{same_Some}
-use Rattle.jb_board.specs.HistoryRule.{StandsIn, with_places}
+use Rattle.jb_board.specs.HistoryRule.{StandsIn}
 use Rattle.jb_handle.specs.Word.{WordMap}
 use Rattle.jb_deck.specs.Done.{past_after}
 use Rattle.proof_clients.specs.ExampleMarks.{first, second, third}
@@ -16,16 +16,11 @@ returns-clause-meets g c d bounds are = ends-idle bounds are g.D.Disk d
 
 pub returns-clause-not_twice : goal.returns-clause-not_twice
 returns-clause-not_twice g c handles shape disk trail known marks is =
-    let log = is.ends.log in
-    let twice : 2 ≡ sum_by at_first (with_places 0 log) = is.ends.stopped.once at_first in
-    omega (arith, twice, one-first log)
+    omega (arith, is.ends.stopped.once at_first, one-first is.ends.log)
 
 pub returns-clause-not_missing : goal.returns-clause-not_missing
 returns-clause-not_missing g c shape disk trail known marks is =
-    let log = is.ends.log in
-    let two : 2 ≡ sum_by (λ s. 1) (with_places 0 log) = is.ends.stopped.once (λ s. 1) in
-    let three : length log ≡ 3 = is.ends.number in
-    omega (arith, two, three, ones 0 log)
+    omega (arith, is.ends.stopped.once (λ s. 1), is.ends.number, ones 0 is.ends.log)
 
 pub returns-clause-not_other_words : goal.returns-clause-not_other_words
 returns-clause-not_other_words g c shape disk trail marks is =
@@ -39,5 +34,4 @@ returns-clause-not_settled g c shape disk known marks is =
     let has = is.ends.since.has in
     let four : past_after 0 is.ends.deck.trail ≡ 4 = ap (past_after 0) is.ends.same_trail in
     let many = inside g.H.Origin.begun is.ends.log is.ends.since.given has.tickets has.stopped 3 (omega (arith, four, has.settled)) in
-    let three : length is.ends.log ≡ 3 = is.ends.number in
-    omega (arith, many, three)
+    omega (arith, many, is.ends.number)

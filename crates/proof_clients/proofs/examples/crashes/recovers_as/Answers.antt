@@ -1,6 +1,4 @@
-use Rattle.std.proofs.Common.{◌≡◌, ◌+◌, Some, None, refl, sym, ap, ◌∙◌}
-use Rattle.jb_disk.specs.Image.{block}
-use Rattle.jb_scan.specs.Effect.{effect}
+use Rattle.std.proofs.Common.{◌≡◌, Some, None, refl, sym, ◌∙◌}
 use Rattle.jb_recover.specs.Outcomes.{recovered}
 use Rattle.jb_recover.proofs.RecoveredImage.{recovered-is, recovered-dirty, recovers-recovered}
 use Rattle.jb_recover.proofs.RecoverCrash.{recovers-same}
@@ -16,14 +14,12 @@ returns-clause-meets_recovered c size count sb ts base has dirty fits =
 pub returns-clause-not_older : goal.returns-clause-not_older
 returns-clause-not_older c size count sb older newer base image apart has older_there same =
     let is = recovered-is size count base sb has.blocks has.taken has.not_refused in
-    let newer_there : block (recovered size count base) (sb.maxlen + 5) ≡ newer = is.home 5 has.homes ∙ ap (effect 5 (block base (sb.maxlen + 5))) has.found in
-    apart (sym older_there ∙ ap (λ d. block d (sb.maxlen + 5)) same.image ∙ newer_there)
+    apart (sym (rw (same.image, is.home 5 has.homes, has.found) at older_there))
 
 pub returns-clause-not_revoked : goal.returns-clause-not_revoked
 returns-clause-not_revoked c size count sb bytes base image apart has there same =
     let is = recovered-is size count base sb has.blocks has.taken has.not_refused in
-    let stays : block (recovered size count base) (sb.maxlen + 5) ≡ block base (sb.maxlen + 5) = is.home 5 has.homes ∙ ap (effect 5 (block base (sb.maxlen + 5))) has.found in
-    apart (sym stays ∙ ap (λ d. block d (sb.maxlen + 5)) (sym same.image) ∙ there)
+    apart (rw (same.image, is.home 5 has.homes, has.found) at there)
 
 pub returns-clause-not_refused : goal.returns-clause-not_refused
 returns-clause-not_refused c size count sb ts fault base image has refused same =
