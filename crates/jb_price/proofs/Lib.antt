@@ -1,3 +1,4 @@
+pub mod CertLines
 pub mod FaultyCert
 pub mod ReadBack
 pub mod SpelledCert

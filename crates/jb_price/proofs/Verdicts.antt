@@ -2,6 +2,7 @@
 use Rattle.std.proofs.Common.{◌≡◌, ℕ, ◌+◌, ◌≤◌, List, [], ◌∷◌, Option, Some, None, Result, Ok, Err, IfOk, ◌⊎◌, inl, inr, sym, ap, ◌∙◌, subst, refl, arith}
 use Rattle.std.specs.declared.alloc.AllocError.{AllocError}
 use Rattle.std.proofs.lemmas.Bool.{cases_lt}
+use Rattle.std.proofs.lemmas.Option.{none-some, same_Some}
 use Rattle.jb_cost.specs.Cut.{EachFrom, EachPiece, total, price, IsPrice, ArePrices, Hold}
 use Rattle.jb_cost.proofs.PriceBounds.{lower, exact-hold}
 use Rattle.jb_price.specs.declared.certificate.CertAnswer.{CertAnswer}
@@ -16,12 +17,6 @@ use Rattle.jb_price.specs.Verdict.{IsDearer, FirstOverFrom, IsFirstOver, PricesH
 dearer-or : (q : Option ℕ) (p : ℕ) → IsDearer q p ⊎ ((r : ℕ) × (q ≡ Some r) × (r ≤ p))
 dearer-or None p = inl tt
 dearer-or (Some q) p = elim (cases_lt p q) [ inl less ↦ inl less | inr most ↦ inr (q, refl, most) ]
-
-some-same : (x : Option ℕ) (p q : ℕ) → x ≡ Some p → x ≡ Some q → p ≡ q
-some-same x p q is also = let both : Some p ≡ Some q = sym is ∙ also in cc
-
-none-some : (x : Option ℕ) (p : ℕ) → x ≡ None → x ≡ Some p → ⊥
-none-some x p none some = let both : None ≡ Some p = sym none ∙ some in cc
 
 over-fits : (c : ℕ → ℕ → ℕ) (limit a : ℕ) (bs : List ℕ) (i j : ℕ) → EachFrom (λ i j. c i j ≤ limit) a bs → FirstOverFrom c limit a bs i j → ⊥
 over-fits c limit a [] i j fits over = over
@@ -63,12 +58,12 @@ module _ (c : ℕ → ℕ → ℕ) (limit n : ℕ) (ps : List (Option ℕ)) wher
       fitting = holds.fitting;
       least = λ other fitting.
           let low = lower c limit n ps (hold prices) other fitting in
-          let same = some-same (price ps n) sum low.0 holds.end_price low.1 in
+          let same = same_Some sum low.0 (sym holds.end_price ∙ low.1) in
           omega (arith, holds.sums, low.2);
     },
     holds.sums,
   )
-  right-accepted NoCut (prices, none) = λ other fitting. let low = lower c limit n ps (hold prices) other fitting in none-some (price ps n) low.0 none low.1
+  right-accepted NoCut (prices, none) = λ other fitting. let low = lower c limit n ps (hold prices) other fitting in none-some low.0 (sym none ∙ low.1)
 
   prices-exact : ArePrices c limit n ps → PricesHold c limit n ps
   prices-exact are =

@@ -4,7 +4,7 @@ use Rattle.std.proofs.lemmas.Bool.Decides.{nat_tests}
 use Rattle.hex.specs.Hex.{decode_of}
 use Rattle.hex.specs.declared.error.FromHexError.{FromHexError}
 use Rattle.hex.proofs.HexLemmas.{decode_of-ok}
-use Rattle.jb_text.proofs.Splits.{tail-is}
+use Rattle.jb_text.proofs.PutBytes.{rest_all}
 use Rattle.jb_queue.specs.declared.fault.Cause.TheVariants.{DataWord}
 use Rattle.jb_queue.specs.Queue.{data_in_word, decoded_block}
 
@@ -23,4 +23,4 @@ unfit size digits (Ok bytes) is out = rw (out-false size (length bytes) (length 
 pub no_data : (size most : ℕ) → size ≡ most → (text : List ℕ) → 1 ≤ length text → AreOut size (length (take (length text - 1) (drop 1 text))) → data_in_word most text ≡ Err DataWord
 no_data size most same [] some out = let never : ⊥ = omega arith in absurd never
 no_data size most same (equals ∷ digits) some out =
-    ap (λ n. decoded_block n (decode_of digits)) (sym same) ∙ unfit size digits (decode_of digits) refl (rw (← ap length (tail-is (equals ∷ digits))) out)
+    ap (λ n. decoded_block n (decode_of digits)) (sym same) ∙ unfit size digits (decode_of digits) refl (rw (← ap length (rest_all (equals ∷ digits) 1)) out)

@@ -1,4 +1,3 @@
-pub mod CutReader
 pub mod Grammar
 pub mod Joins
 pub mod LineLeft

@@ -1,5 +1,5 @@
 -- Texts that are written part by part.
-use Rattle.std.proofs.Common.{◌≡◌, ◌+◌, ◌≤◌, ◌<◌, ℕ, List, [], ◌∷◌, ◌++◌, Option, Result, Ok, Err, min, ◌∙◌, ap, drop, get_or, length, map, subst, suc, sym, refl, arith, take}
+use Rattle.std.proofs.Common.{◌≡◌, ◌+◌, ◌≤◌, ◌<◌, ℕ, List, [], ◌∷◌, ◌++◌, Option, Result, Ok, Err, min, ◌∙◌, ap, drop, get_or, length, map, subst, sym, refl, take}
 use Rattle.std.proofs.Math.Seq.{take-append-add, take-length}
 use Rattle.std.proofs.Math.Nat.{min-le_right}
 use Rattle.std.proofs.lemmas.List.{drop_all, drop_more, take-append-le, take_min}
@@ -43,10 +43,9 @@ spelled_none text xs k past = sym (ap (λ rest. spelled (map text rest)) (drop_a
 -- a beginning of an empty text is empty
 pub none_first : (x y : List ℕ) → x ++ y ≡ [] → x ≡ []
 none_first [] y none = refl
-none_first (a ∷ x) y none =
-    let long : suc (length (x ++ y)) ≡ 0 = ap length none in
-    absurd (let never : ⊥ = omega (arith, long) in never)
+none_first (a ∷ x) y none = cc
 
 -- what is left of an empty text is empty
 pub none_after : (x y : List ℕ) → x ++ y ≡ [] → y ≡ []
-none_after x y none = subst (λ front. front ++ y ≡ []) (none_first x y none) none
+none_after [] y none = none
+none_after (a ∷ x) y none = cc
