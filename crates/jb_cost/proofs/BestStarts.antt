@@ -1,19 +1,18 @@
 -- The least prices of stretches that are joined, and the best start as one more stretch is looked at.
 use Rattle.std.proofs.Common.{◌≡◌, ℕ, ◌+◌, ◌-◌, ◌<◌, ◌≤◌, Bool, true, false, List, Option, Some, None, nat_lt, if◌then◌else◌, inl, inr, sym, ap, subst, ◌∙◌, refl, arith}
 use Rattle.std.proofs.lemmas.Bool.{ltb-true, ltb-false, cases_lt}
+use Rattle.std.proofs.lemmas.Option.{none-some, same_Some}
 use Rattle.jb_cost.specs.declared.stretch.Priced.{Priced}
 use Rattle.jb_cost.specs.declared.group_start.GroupStart.{GroupStart}
 use Rattle.jb_cost.specs.Cut.{price}
 use Rattle.jb_cost.specs.Starts.{priced_of, found_start, dearer_by, better_of, LeastPrice, IsBestStart, BestStart}
 
 same-price : (ps : List (Option ℕ)) (i j p q : ℕ) → i ≡ j → price ps i ≡ Some p → price ps j ≡ Some q → p ≡ q
-same-price ps i j p q same is also = let both : Some p ≡ Some q = sym is ∙ ap (price ps) same ∙ also in cc
+same-price ps i j p q same is also = same_Some p q (sym is ∙ ap (price ps) same ∙ also)
 
 -- a start alone
 pub least-one : (ps : List (Option ℕ)) (k : ℕ) (start : Option ℕ) → price ps k ≡ start → LeastPrice ps k (k + 1) (priced_of k start)
-least-one ps k None is = λ i p above below also.
-    let same : i ≡ k = omega arith in
-    let both : None ≡ Some p = sym is ∙ ap (price ps) (sym same) ∙ also in cc
+least-one ps k None is = λ i p above below also. let same : k ≡ i = omega arith in none-some p (sym is ∙ ap (price ps) same ∙ also)
 least-one ps k (Some q) is = record {
   above = omega arith;
   below = omega arith;

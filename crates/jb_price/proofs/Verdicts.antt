@@ -3,7 +3,7 @@ use Rattle.std.proofs.Common.{◌≡◌, ℕ, ◌+◌, ◌≤◌, List, [], ◌�
 use Rattle.std.specs.declared.alloc.AllocError.{AllocError}
 use Rattle.std.proofs.lemmas.Bool.{cases_lt}
 use Rattle.std.proofs.lemmas.Option.{none-some, same_Some}
-use Rattle.jb_cost.specs.Cut.{EachFrom, EachPiece, total, price, IsPrice, ArePrices, Hold}
+use Rattle.jb_cost.specs.Cut.{EachFrom, EachPiece, price, IsPrice, ArePrices, Hold}
 use Rattle.jb_cost.proofs.PriceBounds.{lower, exact-hold}
 use Rattle.jb_price.specs.declared.certificate.CertAnswer.{CertAnswer}
 use Rattle.jb_price.specs.declared.certificate.CertAnswer.TheVariants.{Cut, NoCut}
@@ -79,20 +79,16 @@ module _ (c : ℕ → ℕ → ℕ) (limit n : ℕ) (ps : List (Option ℕ)) wher
 
   answer-exact : (answer : CertAnswer) → ArePrices c limit n ps → IsRight c limit n answer → AnswerSays c limit n ps answer Accepted
   answer-exact (Cut bounds sum) are (least, sums) =
-      record { fitting = least.fitting; sums = sums; end_price = go (price ps n) refl (are.each n (omega arith)) }
+      record { fitting = least.fitting; sums = sums; end_price = go (price ps n) (are.each n (omega arith)) }
     where
-      go : (found : Option ℕ) → price ps n ≡ found → IsPrice c limit n found → price ps n ≡ Some sum
-      go None is none = absurd (none bounds.items least.fitting)
-      go (Some p) is exact =
-          let low : p ≤ total c bounds.items = exact.1 bounds.items least.fitting in
-          let high : total c bounds.items ≤ total c exact.0.0 = least.least exact.0.0 exact.0.1 in
-          let same : p ≡ sum = omega (arith, exact.0.2, sums) in
-          is ∙ ap Some same
-  answer-exact NoCut are none = go (price ps n) refl (are.each n (omega arith))
+      go : (found : Option ℕ) → IsPrice c limit n found → found ≡ Some sum
+      go None none = absurd (none bounds.items least.fitting)
+      go (Some p) exact = ap Some (let same : p ≡ sum = omega (arith, exact.1 bounds.items least.fitting, least.least exact.0.0 exact.0.1, exact.0.2, sums) in same)
+  answer-exact NoCut are none = go (price ps n) (are.each n (omega arith))
     where
-      go : (found : Option ℕ) → price ps n ≡ found → IsPrice c limit n found → price ps n ≡ None
-      go None is exact = is
-      go (Some p) is exact = absurd (none exact.0.0 exact.0.1)
+      go : (found : Option ℕ) → IsPrice c limit n found → found ≡ None
+      go None exact = refl
+      go (Some p) exact = absurd (none exact.0.0 exact.0.1)
 
   only-accepted : (answer : CertAnswer) → PricesHold c limit n ps → AnswerSays c limit n ps answer Accepted → (verdict : Verdict) → Says c limit n ps answer verdict → verdict ≡ Accepted
   only-accepted answer prices holds Accepted says = refl
