@@ -1,4 +1,3 @@
 pub mod BatchHandles
-pub mod BestStep
 pub mod SameCosts
 pub mod StepTable

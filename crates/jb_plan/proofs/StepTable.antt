@@ -1,12 +1,17 @@
 -- The table of the best steps, as it grows, and what it says once it is whole.
-use Rattle.std.proofs.Common.{◌≡◌, ℕ, zero, suc, ◌+◌, ◌<◌, ◌≤◌, List, [], ◌∷◌, ◌++◌, length, Option, Some, None, slice_index, inl, inr, sym, subst, ap, ◌∙◌, refl, arith, length-append, eq-or-lt_of_le, eq-zero-or-pos}
+use Rattle.std.proofs.Common.{◌≡◌, ℕ, zero, suc, ◌+◌, ◌<◌, ◌≤◌, List, [], ◌∷◌, ◌++◌, length, Option, Some, None, slice_index, inl, inr, sym, subst, ap, ◌∙◌, refl, arith, length-append, eq-or-lt_of_le, eq-zero-or-pos, ◌^◌}
 use Rattle.std.proofs.Math.ListN.{get_or-append}
 use Rattle.std.proofs.Math.Seq.{get_or-append_seam}
 use Rattle.std.proofs.lemmas.Option.{none-some, same_Some}
 use Rattle.jb_cost.specs.Cut.{RisesTo, EachFrom, total_from, IsCut, EachPiece, total, price, FitsCut, IsLeastCut, IsReached, ArePrices, Hold, IsFirstToAttain}
 use Rattle.jb_cost.proofs.Cuts.{rises-le, reached-push, reached-none, places-push}
 use Rattle.jb_cost.proofs.PriceBounds.{hold-fewer, lower, price-exact}
-use Rattle.jb_plan.specs.Step.{LastGroup, IsBest, BestFrom, step_of, AreSteps, price_of, from_of, AreBefore, AreWithin, IsTable}
+use Rattle.jb_plan.specs.Step.{LastGroup, IsBest, BestFrom, step_of, AreSteps, price_of, from_of, AreBefore, AreWithin, IsTable, step_from, most_of}
+use Rattle.jb_handle.specs.declared.stopped.Stopped.{Stopped}
+use Rattle.jb_handle.specs.Size.{IsWithinSize}
+use Rattle.jb_cost.specs.declared.group_start.GroupStart.{GroupStart}
+use Rattle.jb_cost.specs.Starts.{IsBestStart, BestStart}
+use Rattle.jb_cost.proofs.PieceCosts.{weight-take}
 
 price-kept : (ps more : List (Option ℕ)) (i : ℕ) → i < length ps → price (ps ++ more) i ≡ price ps i
 price-kept ps more i less = get_or-append ps more None i less
@@ -191,3 +196,17 @@ module _ (c : ℕ → ℕ → ℕ) (limit : ℕ) where
     back = back-more froms n ps best table.back table.starts found;
     within = within-more w ps n best table.within table.number grows found;
   }
+
+-- ---- the best start to an end, as a step of the table
+
+pub best-step : (c : ℕ → ℕ → ℕ) (limit : ℕ) (ps : List (Option ℕ)) (end : ℕ) (found : Option GroupStart) → BestStart (λ i. c i end) limit ps 0 end found → BestFrom c limit ps 0 end (step_from found)
+best-step c limit ps end None none = none
+best-step c limit ps end (Some s) best = record {
+  leads = record { before = best.before; fits = best.fits; sum = (s.price, best.is, ap (λ n. s.price + n) best.costs) };
+  least = best.least;
+  first = best.first;
+}
+
+-- price and cost add up within 64 bits
+pub step-room : (hs : List Stopped) (c : ℕ → ℕ) (limit : ℕ) (ps : List (Option ℕ)) (end : ℕ) (s : GroupStart) → IsWithinSize hs → limit < 2 ^ 32 → AreWithin (most_of hs) ps → end ≤ length ps → IsBestStart c limit ps 0 end s → s.price + s.cost < 2 ^ 64
+step-room hs c limit ps end s size small within inside best = omega (arith, size, small, within s.from s.price (omega (arith, best.before)) best.is, weight-take hs s.from, best.costs, best.fits)

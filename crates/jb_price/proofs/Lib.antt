@@ -1,5 +1,4 @@
 pub mod CertLines
-pub mod FaultyCert
 pub mod ReadBack
 pub mod SpelledCert
 pub mod UndercutSteps

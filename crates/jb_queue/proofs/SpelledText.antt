@@ -1,7 +1,7 @@
 -- A queue text is read exactly where it spells a queue, and else has a first fault.
-use Rattle.std.proofs.Common.{subst, ◌↔◌, ◌≡◌, ◌∙◌, sym, ap, ℕ, ◌^◌, ◌<◌, ◌≤◌, ◌&&◌, nat_le, true, List, [], ◌∷◌, ◌++◌, length, length-append, refl, arith, append_assoc, Option, Some, None, Result, Ok, inl, inr, codes, decimal, option_and_then, MatchResult, bytes_eq, append-nil}
+use Rattle.std.proofs.Common.{subst, ◌↔◌, ◌≡◌, ◌∙◌, sym, ap, ℕ, ◌^◌, ◌<◌, ◌≤◌, ◌&&◌, nat_le, true, List, [], ◌∷◌, ◌++◌, length, length-append, refl, arith, append_assoc, Option, Some, None, Result, Ok, inl, inr, codes, decimal, option_and_then, MatchResult, bytes_eq, append-nil, Err}
 use Rattle.std.specs.List.{AllZip}
-use Rattle.std.proofs.lemmas.Result.{MatchResult-at_ok, MatchResult-weaker}
+use Rattle.std.proofs.lemmas.Result.{MatchResult-at_ok, MatchResult-weaker, MatchResult-at_err}
 use Rattle.std.proofs.lemmas.Option.{option_and_then_some, cond_some, some_pair_parts}
 use Rattle.std.proofs.lemmas.Bool.Decides.{nat_tests}
 use Rattle.std.proofs.lemmas.Slice.Eq.{bytes_eq-Decides}
@@ -19,10 +19,10 @@ use Rattle.jb_text.specs.Lines.{AreLines}
 use Rattle.jb_queue.specs.Grammar.{width_text, format_line, SpellsOp, SpellsHandle, Spells}
 use Rattle.jb_handle.specs.Tickets.{TicketsFrom}
 use Rattle.jb_handle.specs.Word.{WordMap}
-use Rattle.jb_text.proofs.ReadSteps.{IsForm, first-by, known, then-says, behind-read}
-use Rattle.jb_queue.specs.Faults.{HandleFault, FirstFaultOf}
+use Rattle.jb_text.proofs.ReadSteps.{IsForm, first-by, known, then-says, behind-read, first-none, wrong-is}
+use Rattle.jb_queue.specs.Faults.{HandleFault, FirstFaultOf, HasNoFormat, FirstFault}
 use Rattle.jb_queue.proofs.Walks.{each-map, each-all}
-use Rattle.jb_queue.proofs.FaultyLines.{lines-fault, handle-is, handle-from}
+use Rattle.jb_queue.proofs.FaultyLines.{lines-fault, handle-is, handle-from, lines-wrong}
 use Rattle.jb_queue.proofs.Weights.{lines-walk, handles-are}
 use Rattle.jb_text.proofs.Grammar.{lines-are, are-lines, IsLine}
 use Rattle.jb_text.proofs.Joins.{Without, Begins, literal-without, literal-put, without-append, parts-put, spaced-without, decimal-without}
@@ -218,3 +218,30 @@ queue-from text queue spells =
 
 pub spelled : (text : List ℕ) (queue : Queue) → (queue_of text ≡ Ok queue) ↔ Spells text queue
 spelled text queue = (queue-is text queue, queue-from text queue)
+
+-- ---- and the first fault of a text is the one at which reading ends
+
+read-fault : (all : List (List ℕ)) (fault : QueueFault) → read all ≡ Err fault → FirstFaultOf all fault
+read-fault all fault is = MatchResult-at_err (SpellsLines all) (FirstFaultOf all) fault is (read-says all)
+
+-- and back
+format-wrong : (all : List (List ℕ)) → HasNoFormat all → read all ≡ Err (record { line = 1; cause = BlockSizeLine })
+format-wrong all none = wrong-is (read all) (record { line = 1; cause = BlockSizeLine }) (read-says all) (λ queue spells. none queue.size queue.width _ spells.parts) (λ fault no. elim no [
+  | inl here ↦ here.0
+  | inr (inl later) ↦ absurd (none later.1.size later.1.width later.1.more later.1.parts)
+  | inr (inr later) ↦ absurd (none later.size later.width _ later.parts)
+])
+
+read-wrong : (all : List (List ℕ)) (fault : QueueFault) → FirstFaultOf all fault → read all ≡ Err fault
+read-wrong all fault found = elim found [
+  | inl format ↦ format-wrong all format.1 ∙ ap Err (sym format.0)
+  | inr (inl limit) ↦
+      let at = limit.1 in
+      ap read at.parts ∙ rw (format-from at.size at.width, first-none limit-form at.more (λ limit more is fits. at.none limit more fits.0 fits.1 is)) (ap Err (sym limit.0))
+  | inr (inr at) ↦
+      ap read at.parts
+      ∙ rw (format-from at.size at.width, limit-from at.limit at.least at.most, lines-wrong (bytes_of at.size) at.more fault at.wrong) refl
+]
+
+pub first_faults : (text : List ℕ) (fault : QueueFault) → (queue_of text ≡ Err fault) ↔ FirstFault text fault
+first_faults text fault = (read-fault (lines text) fault, read-wrong (lines text) fault)

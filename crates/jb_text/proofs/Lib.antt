@@ -3,6 +3,5 @@ pub mod Joins
 pub mod LineLeft
 pub mod Numerals
 pub mod PartByPart
-pub mod PutBytes
 pub mod ReadSteps
 pub mod Splits

@@ -1,5 +1,5 @@
--- Texts that are written part by part.
-use Rattle.std.proofs.Common.{◌≡◌, ◌+◌, ◌≤◌, ◌<◌, ℕ, List, [], ◌∷◌, ◌++◌, Option, Result, Ok, Err, min, ◌∙◌, ap, drop, get_or, length, map, subst, sym, refl, take}
+-- Texts that are written part by part, and each byte by byte.
+use Rattle.std.proofs.Common.{◌≡◌, ◌+◌, ◌≤◌, ◌<◌, ℕ, List, [], ◌∷◌, ◌++◌, Option, Result, Ok, Err, min, ◌∙◌, ap, drop, get_or, length, map, subst, sym, refl, take, ◌-◌, arith, take-add, length-drop, take_all}
 use Rattle.std.proofs.Math.Seq.{take-append-add, take-length}
 use Rattle.std.proofs.Math.Nat.{min-le_right}
 use Rattle.std.proofs.lemmas.List.{drop_all, drop_more, take-append-le, take_min}
@@ -49,3 +49,22 @@ none_first (a ∷ x) y none = cc
 pub none_after : (x y : List ℕ) → x ++ y ≡ [] → y ≡ []
 none_after [] y none = none
 none_after (a ∷ x) y none = cc
+
+-- ---- more bytes of a text after the first ones
+
+-- what is after the first m, read to the end
+pub rest_all : (text : List ℕ) (m : ℕ) → take (length text - m) (drop m text) ≡ drop m text
+rest_all text m = take_all (length text - m) (drop m text) (omega (arith, length-drop m text))
+
+-- n more bytes after the first m
+pub puts_more : (a b c : Option (List ℕ)) (text : List ℕ) (m n : ℕ) → Appends a b (take m text)
+    → Appends b c (take n (take (length text - m) (drop m text))) → Appends a c (take (m + n) text)
+puts_more a b c text m n first second =
+    let rest : Appends b c (take n (drop m text)) = subst (λ (r : List ℕ). Appends b c (take n r)) (rest_all text m) second in
+    subst (Appends a c) (sym (take-add m n text)) (Appends-trans a b c (take m text) (take n (drop m text)) first rest)
+
+-- so many more bytes are still within the text
+pub within_more : (text : List ℕ) (m n : ℕ) → m ≤ length text → n ≤ length (take (length text - m) (drop m text)) → m + n ≤ length text
+within_more text m n within more =
+    let rest : n ≤ length (drop m text) = subst (λ (r : List ℕ). n ≤ length r) (rest_all text m) more in
+    omega (arith, length-drop m text)

@@ -6,8 +6,7 @@ use Rattle.jb_cost.specs.LastTouches.{TellsQueue}
 use Rattle.jb_cost.proofs.TouchCosts.{tells-as, homes-few}
 use Rattle.jb_cost.proofs.PieceCosts.{piece-within}
 use Rattle.jb_plan.specs.Step.{most_of, price_of, from_of, step_from}
-use Rattle.jb_plan.proofs.BestStep.{best-step, step-room}
-use Rattle.jb_plan.proofs.StepTable.{table-start, table-more}
+use Rattle.jb_plan.proofs.StepTable.{table-start, table-more, best-step, step-room}
 use Rattle.jb_plan.proofs.price_table.table_of.Goals as goal
 use Rattle.jb_plan.proofs.price_table.table_of.Goals.{In_ok-add, in-Some, in-None}
 

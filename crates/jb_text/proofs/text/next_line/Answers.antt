@@ -1,6 +1,6 @@
 use Rattle.std.proofs.Common.{◌∙◌, sym, arith, refl}
 use Rattle.std.proofs.lemmas.Bool.Decides.{nat_tests}
-use Rattle.jb_text.proofs.PutBytes.{rest_all}
+use Rattle.jb_text.proofs.PartByPart.{rest_all}
 use Rattle.jb_text.proofs.Splits.{empty-lines, none-left, first-line}
 use Rattle.jb_text.proofs.text.next_line.Goals as goal
 

@@ -1,5 +1,5 @@
 use Rattle.std.proofs.Common.{arith}
-use Rattle.jb_text.proofs.PutBytes.{rest_all}
+use Rattle.jb_text.proofs.PartByPart.{rest_all}
 use Rattle.jb_text.proofs.Splits.{words-last, words-more, part-lengths}
 use Rattle.jb_text.proofs.text.next_word.Goals as goal
 
