@@ -82,7 +82,7 @@ module _ (c : ℕ → ℕ) (limit : ℕ) (ps : List (Option ℕ)) where
       → BestStart c limit ps low end best → BestStart c limit ps from end (better_of best (found_start least cost))
   best-stretch from low cost end before inside fits same best least lowest tried =
       let back : low - 1 + 1 ≡ low = omega arith in
-      best-joined from low low end (omega arith) (omega arith) inside best (found_start least cost) (best-alike from low cost fits same least (subst (λ n. LeastPrice ps from n least) back lowest)) tried
+      best-joined from low low end (omega arith) (omega arith) inside best (found_start least cost) (best-alike from low cost fits same least (rw back at lowest)) tried
 
 -- the best start by other costs and prices, and from another start on, where the same groups fit and each costs by so much more
 module _ (c d : ℕ → ℕ) (limit most : ℕ) (ps qs : List (Option ℕ)) (low from end more : ℕ) (back : from ≤ low)

@@ -113,19 +113,16 @@ module _ {os : List Owned} {low : ℕ} {s : Span} (is : IsSpan os low s) (walk :
       span-cost : (i : ℕ) → s.from ≤ i → i < low → owned_cost walk.geometry os i ≡ copies_until os low i + owned_cost walk.geometry os low
       span-cost i above below =
           let g = walk.geometry in
-          let more : owned_from copies_of os low ≤ owned_from copies_of os i = owned-later copies_of os i low (omega arith) in
-          let most : owned_from copies_of os i ≤ owned_from copies_of os s.from = owned-later copies_of os s.from i above in
-          let freed_more : owned_from frees_of os low ≤ owned_from frees_of os i = owned-later frees_of os i low (omega arith) in
-          let freed_most : owned_from frees_of os i ≤ owned_from frees_of os s.from = owned-later frees_of os s.from i above in
+          let more = owned-later copies_of os i low (omega arith) in
           omega (
             arith,
             descriptors,
             revokes,
             more,
-            ceil-mono (owned_from copies_of os low) (owned_from copies_of os i) g.t g.tags more,
-            ceil-mono (owned_from copies_of os i) (owned_from copies_of os s.from) g.t g.tags most,
-            ceil-mono (owned_from frees_of os low) (owned_from frees_of os i) g.r g.entries freed_more,
-            ceil-mono (owned_from frees_of os i) (owned_from frees_of os s.from) g.r g.entries freed_most,
+            ceil-mono _ _ g.t g.tags more,
+            ceil-mono _ _ g.t g.tags (owned-later copies_of os s.from i above),
+            ceil-mono _ _ g.r g.entries (owned-later frees_of os i low (omega arith)),
+            ceil-mono _ _ g.r g.entries (owned-later frees_of os s.from i above),
           )
 
       -- and its best start is the best of them, where they are all within the limit; a search may have looked at the last ones of them

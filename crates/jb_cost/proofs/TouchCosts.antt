@@ -1,5 +1,5 @@
 -- What the last touches say of a queue's handles, and what the handles cost by them.
-use Rattle.std.proofs.Common.{◌≡◌, ℕ, ◌+◌, ◌-◌, ◌*◌, ◌^◌, ◌<◌, ◌≤◌, Bool, true, false, cond, not, ◌&&◌, nat_le, List, [], ◌∷◌, ◌++◌, length, take, drop, get_or, slice_range, Option, Some, None, inl, inr, refl, sym, ap, subst, ◌∙◌, arith, length-drop, nat_cmp}
+use Rattle.std.proofs.Common.{◌≡◌, ℕ, ◌+◌, ◌-◌, ◌*◌, ◌^◌, ◌<◌, ◌≤◌, Bool, true, false, cond, not, ◌&&◌, nat_le, List, [], ◌∷◌, ◌++◌, length, take, drop, get_or, slice_range, Option, Some, None, inl, inr, refl, sym, ap, ◌∙◌, arith, length-drop, nat_cmp}
 use Rattle.std.specs.Option.{option_map, option_or}
 use Rattle.std.specs.BTreeMap.{BTreeMap, get}
 use Rattle.std.specs.FinMap as map
@@ -54,8 +54,7 @@ pub follows-more : (hs : List Stopped) (h : Stopped) (n : ℕ) (last next : BTre
 follows-more hs h n last next within is below taken follows i q inside = elim (cases_lt n i) [
   | inl late ↦
       let same : i ≡ n + 1 = omega arith in
-      subst (λ k. left_since k (get nat_cmp next q) ≡ option_map is_copy (word (slice_range hs k (n + 1)) q)) (sym same)
-      (ap (left_since (n + 1)) (taken q) ∙ left-none n (map.get h.words q) (get nat_cmp last q) (below q) ∙ ap (λ gs. option_map is_copy (word gs q)) (sym (piece-none hs (n + 1))))
+      rw same (ap (left_since (n + 1)) (taken q) ∙ left-none n (map.get h.words q) (get nat_cmp last q) (below q) ∙ ap (λ gs. option_map is_copy (word gs q)) (sym (piece-none hs (n + 1))))
   | inr early ↦
       ap (left_since i) (taken q)
       ∙ left-more i n (map.get h.words q) (get nat_cmp last q) (word (slice_range hs i n) q) early (follows i q early)

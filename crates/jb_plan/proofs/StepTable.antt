@@ -1,7 +1,7 @@
 -- The table of the best steps, as it grows, and what it says once it is whole.
 use Rattle.std.proofs.Common.{◌≡◌, ℕ, zero, suc, ◌+◌, ◌<◌, ◌≤◌, List, [], ◌∷◌, ◌++◌, length, Option, Some, None, slice_index, inl, inr, sym, subst, ap, ◌∙◌, refl, arith, length-append, eq-or-lt_of_le, eq-zero-or-pos, ◌^◌}
 use Rattle.std.proofs.Math.ListN.{get_or-append}
-use Rattle.std.proofs.Math.Seq.{get_or-append_seam}
+use Rattle.std.proofs.lemmas.List.{get_or_push}
 use Rattle.std.proofs.lemmas.Option.{none-some, same_Some}
 use Rattle.jb_cost.specs.Cut.{RisesTo, EachFrom, total_from, IsCut, EachPiece, total, price, FitsCut, IsLeastCut, IsReached, ArePrices, Hold, IsFirstToAttain}
 use Rattle.jb_cost.proofs.Cuts.{rises-le, reached-push, reached-none, places-push}
@@ -17,10 +17,10 @@ price-kept : (ps more : List (Option ℕ)) (i : ℕ) → i < length ps → price
 price-kept ps more i less = get_or-append ps more None i less
 
 price-new : (ps : List (Option ℕ)) (n : ℕ) (x : Option ℕ) → length ps ≡ n → price (ps ++ (x ∷ [])) n ≡ x
-price-new ps n x all = subst (λ k. price (ps ++ (x ∷ [])) k ≡ x) all (get_or-append_seam ps x [] None)
+price-new ps n x all = get_or_push ps x None n all
 
 from-new : (froms : List ℕ) (n x : ℕ) → length froms ≡ n → slice_index (froms ++ (x ∷ [])) n ≡ x
-from-new froms n x all = subst (λ k. slice_index (froms ++ (x ∷ [])) k ≡ x) all (get_or-append_seam froms x [] 0)
+from-new froms n x all = get_or_push froms x 0 n all
 
 step-same : (froms starts : List ℕ) (j : ℕ) → slice_index froms j ≡ slice_index starts j → (p : Option ℕ) → step_of froms j p ≡ step_of starts j p
 step-same froms starts j same None = refl
@@ -84,8 +84,7 @@ module _ (c : ℕ → ℕ → ℕ) (limit : ℕ) where
     where
       first : j ≡ 0 → IsReached c limit j p
       first none =
-          let same = same_Some p 0 (sym is ∙ (ap (price ps) none ∙ steps.start)) in
-          subst (λ k. IsReached c limit k p) (sym none) (subst (IsReached c limit 0) (sym same) (reached-none c limit))
+          rw (same_Some p 0 (sym is ∙ (ap (price ps) none ∙ steps.start)), none) (reached-none c limit)
 
       later : ((i q : ℕ) → i < m → i ≤ n → price ps i ≡ Some q → IsReached c limit i q) → 0 < j → IsReached c limit j p
       later reach above =
@@ -117,7 +116,7 @@ module _ (c : ℕ → ℕ → ℕ) (limit : ℕ) where
   chain ps froms n sum steps is a (b ∷ bs) rises back =
       let rest = chain ps froms n sum steps is b bs rises.1 back.1 in
       let within : b ≤ n = rises-le n b bs rises.1 in
-      let best : IsBest c limit ps 0 b (record { from = a; price = rest.p }) = subst (λ from. IsBest c limit ps 0 b (record { from = from; price = rest.p })) back.0 (best-at ps froms n b rest.p steps (omega (arith, rises.0)) within rest.is) in
+      let best : IsBest c limit ps 0 b (record { from = a; price = rest.p }) = rw back.0 at (best-at ps froms n b rest.p steps (omega (arith, rises.0)) within rest.is) in
       record {
         p = best.leads.sum.0;
         is = best.leads.sum.1;

@@ -1,5 +1,5 @@
 -- What follows from the verdicts: an accepted answer is right, and a right answer with least totals is accepted.
-use Rattle.std.proofs.Common.{◌≡◌, ℕ, ◌+◌, ◌≤◌, List, [], ◌∷◌, Option, Some, None, Result, Ok, Err, IfOk, ◌⊎◌, inl, inr, sym, ap, ◌∙◌, subst, refl, arith}
+use Rattle.std.proofs.Common.{◌≡◌, ℕ, ◌+◌, ◌≤◌, List, [], ◌∷◌, Option, Some, None, Result, Ok, Err, IfOk, ◌⊎◌, inl, inr, sym, ap, ◌∙◌, refl, arith}
 use Rattle.std.specs.declared.alloc.AllocError.{AllocError}
 use Rattle.std.proofs.lemmas.Bool.{cases_lt}
 use Rattle.std.proofs.lemmas.Option.{none-some, same_Some}
@@ -41,7 +41,7 @@ module _ (c : ℕ → ℕ → ℕ) (limit n : ℕ) (ps : List (Option ℕ)) wher
   -- the prices hold where the opening price is 0 and no first undercut was found
   pub prices-hold : (first : Option (ℕ × ℕ)) → FirstAmong c limit n ps n first → first ≡ None → price ps 0 ≡ Some 0 → PricesHold c limit n ps
   prices-hold first looked none opening =
-      let looked_all : FirstAmong c limit n ps n None = subst (λ found. FirstAmong c limit n ps n found) none looked in
+      let looked_all = rw none at looked in
       record { opening = opening; no_undercut = λ i j u. looked_all i j u.within u }
 
   -- where the prices hold, what a verdict says of the answer it says of the certificate
@@ -73,8 +73,7 @@ module _ (c : ℕ → ℕ → ℕ) (limit n : ℕ) (ps : List (Option ℕ)) wher
         no_undercut = λ i j u.
             let p = u.cheaper.0 in
             let most = exact.step i j p u.before u.within u.cheaper.1 u.fits in
-            let dearer : IsDearer (Some most.0) (p + c i j) = subst (λ q. IsDearer q (p + c i j)) most.1 u.cheaper.2 in
-            omega (arith, dearer, most.2);
+            omega (arith, rw most.1 at u.cheaper.2, most.2);
       }
 
   answer-exact : (answer : CertAnswer) → ArePrices c limit n ps → IsRight c limit n answer → AnswerSays c limit n ps answer Accepted

@@ -1,6 +1,7 @@
 -- The handles of a queue, read from its text one by one.
-use Rattle.std.proofs.Common.{◌≡◌, ◌∙◌, sym, ap, subst, ℕ, zero, suc, ◌+◌, ◌-◌, ◌<◌, ◌≤◌, List, [], ◌∷◌, ◌++◌, length, length-append, drop, get_or, arith, refl, Result, Ok, Err, IsOk, append_assoc, drop-drop, length-drop}
-use Rattle.std.proofs.Math.Seq.{drop-nil, get_or-append_seam}
+use Rattle.std.proofs.Common.{◌≡◌, ◌∙◌, sym, ap, subst, ℕ, zero, suc, ◌+◌, ◌<◌, ◌≤◌, List, [], ◌∷◌, ◌++◌, length, length-append, drop, get_or, arith, refl, Result, Ok, Err, IsOk, append_assoc, drop-drop, length-drop}
+use Rattle.std.proofs.Math.Seq.{get_or-append_seam}
+use Rattle.std.proofs.lemmas.List.{drop_all}
 use Rattle.std.proofs.lemmas.Slice.Zip.{AllZip-long}
 use Rattle.jb_queue.specs.declared.fault.Cause.{Cause}
 use Rattle.jb_queue.specs.declared.fault.QueueFault.{QueueFault}
@@ -16,9 +17,7 @@ drop-more n ls line more is = sym (drop-drop 1 n ls) ∙ ap (drop 1) is
 
 -- after more lines than there are
 pub drop-past : {A : Type 0} (n m : ℕ) (ls : List A) → drop n ls ≡ [] → n ≤ m → drop m ls ≡ []
-drop-past n m ls is less =
-    let whole : n + (m - n) ≡ m = omega (arith, less) in
-    subst (λ k. drop k ls ≡ []) whole (sym (drop-drop (m - n) n ls) ∙ ap (drop (m - n)) is ∙ drop-nil (m - n))
+drop-past n m ls is less = drop_all m ls (omega (arith, ap length is, length-drop n ls, less))
 
 -- after handles of this number, the lines give all
 pub record IsAt (size : ℕ) (all : List Stopped) (at : ℕ) (ls : List (List ℕ)) : Type 0 where
@@ -30,9 +29,8 @@ pub record IsAt (size : ℕ) (all : List Stopped) (at : ℕ) (ls : List (List �
 pub number-all : (size : ℕ) (all : List Stopped) (at : ℕ) (ls : List (List ℕ)) → IsAt size all at ls → length all ≡ at + length ls
 number-all size all at ls placed =
     let are = handles-are size placed.had all ls placed.reads in
-    let sums = ap length are.whole ∙ length-append placed.had are.handles in
     let number = AllZip-long (λ line handle. handle_of size line ≡ Ok handle.words) ls are.handles are.each in
-    omega (arith, sums, placed.number, number)
+    omega (arith, ap length are.whole, length-append placed.had are.handles, placed.number, number)
 
 -- the handle at a place, and what is left after it
 pub record Next (size : ℕ) (all : List Stopped) (at : ℕ) (line : List ℕ) (more : List (List ℕ)) : Type 0 where
@@ -49,11 +47,11 @@ next-here size all at line more placed =
     let are = handles-are size (placed.had ++ one ∷ []) all more first.2 in
     let parts : all ≡ placed.had ++ one ∷ are.handles = are.whole ∙ append_assoc placed.had (one ∷ []) are.handles in
     record {
-      there = (let whole = number-all size all at (line ∷ more) placed in omega (arith, whole));
+      there = omega (arith, number-all size all at (line ∷ more) placed);
       words = first.0;
       read = first.1;
       is = λ d. sym (ap (λ (x : Stopped). x.words) (ap (λ hs. get_or hs at d) parts ∙ ap (λ n. get_or (placed.had ++ one ∷ are.handles) n d) (sym placed.number) ∙ get_or-append_seam placed.had one are.handles d));
-      after = record { had = placed.had ++ one ∷ []; number = (let sums = length-append placed.had (one ∷ []) in let has = placed.number in omega (arith, sums, has)); reads = first.2 };
+      after = record { had = placed.had ++ one ∷ []; number = omega (arith, length-append placed.had (one ∷ []), placed.number); reads = first.2 };
     }
 
 -- lines are passed over
@@ -64,17 +62,11 @@ passes size all (suc n) at to (line ∷ ls) placed is within = passes size all n
 
 pub next-is : (size : ℕ) (all : List Stopped) (n at : ℕ) (ls : List (List ℕ)) (line : List ℕ) (more : List (List ℕ)) → IsAt size all at ls → drop n ls ≡ line ∷ more → Next size all (at + n) line more
 next-is size all n at ls line more placed is =
-    let less = ap length is in
-    let dropped = length-drop n ls in
-    next-here size all (at + n) line more (subst (IsAt size all (at + n)) is (passes size all n at (at + n) ls placed refl (omega (arith, less, dropped))))
+    next-here size all (at + n) line more (rw is at (passes size all n at (at + n) ls placed refl (omega (arith, ap length is, length-drop n ls))))
 
 -- no handle is left
 pub none-left : (size : ℕ) (all : List Stopped) (n at : ℕ) (ls : List (List ℕ)) → IsAt size all at ls → drop n ls ≡ [] → length all ≤ at + n
-none-left size all n at ls placed is =
-    let whole = number-all size all at ls placed in
-    let less = ap length is in
-    let dropped = length-drop n ls in
-    omega (arith, whole, less, dropped)
+none-left size all n at ls placed is = omega (arith, number-all size all at ls placed, ap length is, length-drop n ls)
 
 -- the handles that were counted
 pub counted-is : (read : Result (List Stopped) QueueFault) (count : ℕ) → IsCount read count → IsOk read × (read ≡ Ok (handles_or_none read)) × (count ≡ length (handles_or_none read))

@@ -35,9 +35,7 @@ lines-walk size = record { ends = λ had. refl; goes = λ had line more words is
 
 pub put-length : (had : List Stopped) (each : List WordMap) → length (fold put_handle had each) ≡ length had + length each
 put-length had [] = omega arith
-put-length had (words ∷ each) =
-    let further = put-length (put_handle had words) each in
-    omega (arith, further, length-append had (record { ticket = length had; words = words } ∷ []))
+put-length had (words ∷ each) = omega (arith, put-length (put_handle had words) each, length-append had (record { ticket = length had; words = words } ∷ []))
 
 -- the handles that lines are read to
 pub record ReadsLines (size : ℕ) (had now : List Stopped) (left : List (List ℕ)) : Type 0 where
@@ -136,9 +134,7 @@ pub ops-weight : (size : ℕ) (had : WordMap) (texts : List (List ℕ)) (now : W
 ops-weight size had [] now reads = omega (arith, ap map.len (walk-last (ops-walk size) had now reads))
 ops-weight size had (text ∷ texts) now reads =
     let first = walk-first (ops-walk size) had now text texts reads in
-    let further = ops-weight size (put_op had first.0) texts now first.2 in
-    let one = len-insert-le had first.0.0 first.0.1 in
-    omega (arith, further, one, some-word size text first.0 first.1)
+    omega (arith, ops-weight size (put_op had first.0) texts now first.2, len-insert-le had first.0.0 first.0.1, some-word size text first.0 first.1)
 
 no-words : map.len (map.empty {X = Word} {R = nat_cmp}) ≡ 0
 no-words = map.len-empty nat_cmp Word
@@ -153,17 +149,14 @@ handle-weight size (b ∷ []) now reads =
 handle-weight size (b ∷ c ∷ text) now reads =
     let behind = (tested (b == 104) HandleLine (behind_h size (c ∷ text)) now reads).1 in
     let ops = (tested (c == 32) HandleLine (after_ops size map.empty (words text)) now behind).1 in
-    let light = ops-weight size map.empty (words text) now ops in
-    omega (arith, light, no-words, words-total text)
+    omega (arith, ops-weight size map.empty (words text) now ops, no-words, words-total text)
 
 pub lines-weight : (size : ℕ) (had : List Stopped) (left : List (List ℕ)) (now : List Stopped) → after_lines size had left ≡ Ok now → 2 * weight now ≤ 2 * weight had + total left
 lines-weight size had [] now reads = omega (arith, ap weight (walk-last (lines-walk size) had now reads))
 lines-weight size had (line ∷ more) now reads =
     let first = walk-first (lines-walk size) had now line more reads in
-    let further = lines-weight size (put_handle had first.0) more now first.2 in
-    let light = handle-weight size line first.0 first.1 in
     let sums = sum_by-append (λ (h : Stopped). map.len h.words + 1) had (record { ticket = length had; words = first.0 } ∷ []) in
-    omega (arith, further, light, sums)
+    omega (arith, lines-weight size (put_handle had first.0) more now first.2, handle-weight size line first.0 first.1, sums)
 
 -- what is read of the first line leaves those after it
 first-parts : {A : Type 0} (read : List ℕ → Option A) (all : List (List ℕ)) (x : A) (more : List (List ℕ))
@@ -192,7 +185,4 @@ queue-weight size handles text line next third parts reads = omega (arith, lines
 -- there are no more handles than they weigh
 pub number-weight : (handles : List Stopped) → length handles ≤ weight handles
 number-weight [] = omega arith
-number-weight (handle ∷ handles) =
-    let rest = number-weight handles in
-    let sums : weight (handle ∷ handles) ≡ map.len handle.words + 1 + weight handles = sum_by-cons (λ (h : Stopped). map.len h.words + 1) handle handles in
-    omega (arith, rest, sums)
+number-weight (handle ∷ handles) = omega (arith, number-weight handles, sum_by-cons (λ (h : Stopped). map.len h.words + 1) handle handles)

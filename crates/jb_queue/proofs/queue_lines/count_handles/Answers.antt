@@ -14,9 +14,9 @@ loop-line-preserved c =
     let words = ok-value (handle_of (bytes_of c.args.bs) c.in-Some.line.now) c.in-Ok.ensures.judges in
     record {
       had = put_handle so_far.had words.0;
-      number = (let has = so_far.number in omega (arith, has, put-length so_far.had (words.0 ∷ [])));
+      number = omega (arith, so_far.number, put-length so_far.had (words.0 ∷ []));
       read = line-goes (rw c.in-Some.ensures.parts at so_far.read) words.0 words.1;
-      few = (let few = so_far.few in let less = c.in-Some.ensures.shorter in omega (arith, few, less));
+      few = omega (arith, so_far.few, c.in-Some.ensures.shorter);
     }
 
 pub returns-clause-ok : goal.returns-clause-ok
