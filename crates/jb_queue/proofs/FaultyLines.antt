@@ -1,5 +1,5 @@
 -- The first wrong line of a handle is the one at which reading ends.
-use Rattle.std.proofs.Common.{subst, ◌≡◌, ◌⊎◌, ◌∙◌, sym, ap, ℕ, ◌==◌, Bool, true, false, cond, if◌then◌else◌, List, [], ◌∷◌, ◌++◌, fold, refl, arith, inl, inr, Option, Some, None, Ok, Err, ◌+◌, length, Result, codes, MatchResult, eqb-true}
+use Rattle.std.proofs.Common.{subst, ◌≡◌, ◌⊎◌, ◌∙◌, sym, ap, ℕ, ◌==◌, true, false, cond, if◌then◌else◌, List, [], ◌∷◌, ◌++◌, fold, refl, arith, inl, inr, Some, None, Ok, Err, ◌+◌, length, Result, codes, MatchResult, eqb-true}
 use Rattle.std.specs.Option.{option_or}
 use Rattle.std.specs.List.{AllZip}
 use Rattle.std.proofs.lemmas.Result.{MatchResult-at_ok, MatchResult-weaker, MatchResult-at_err}
@@ -10,7 +10,6 @@ use Rattle.std.proofs.lemmas.Bool.Decides.{nat_tests}
 use Rattle.std.proofs.lemmas.Slice.Zip.{AllZip-long}
 use Rattle.jb_queue.specs.declared.fault.Cause.{Cause}
 use Rattle.jb_queue.specs.declared.fault.Cause.TheVariants.{HandleLine, OpWord, DataWord}
-use Rattle.jb_handle.specs.declared.word.Word.{Word}
 use Rattle.jb_text.specs.Parts.{words, spaced}
 use Rattle.jb_queue.specs.Queue.{op_of, after_ops, behind_h, handle_of, after_lines}
 use Rattle.jb_queue.specs.Grammar.{Entry, SpellsOp, SpellsHandle, last_op}
@@ -33,11 +32,8 @@ use Rattle.std.specs.FinMap as map
 insert-last : (had : WordMap) (op : Entry) (b : ℕ) → map.get (map.insert had op.0 op.1) b ≡ option_or (if op.0 == b then Some op.1 else None) (map.get had b)
 insert-last had op b =
     let order : eq_by_cmp nat_cmp b op.0 ≡ (op.0 == b) = grind (arith, nat_tests) in
-    map.get-insert nat_cmp_total had op.0 op.1 b ∙ ap (λ test. cond test (Some op.1) (map.get had b)) order ∙ chosen (op.0 == b) op.1 (map.get had b)
-  where
-    chosen : (test : Bool) (word : Word) (other : Option Word) → cond test (Some word) other ≡ option_or (if test then Some word else None) other
-    chosen true word other = refl
-    chosen false word other = refl
+    map.get-insert nat_cmp_total had op.0 op.1 b ∙ ap (λ test. cond test (Some op.1) (map.get had b)) order
+    ∙ elim (op.0 == b) as (λ test. cond test (Some op.1) (map.get had b) ≡ option_or (if test then Some op.1 else None) (map.get had b)) [ true ↦ refl | false ↦ refl ]
 
 -- what a map has after all is known by the last op on each block
 put-last : (had : WordMap) (ops : List Entry) (b : ℕ) → map.get (fold put_op had ops) b ≡ option_or (last_op ops b) (map.get had b)

@@ -65,14 +65,11 @@ module _ {S X Y E F : Type 0} {read : X → Result Y E} {put : S → Y → S} {b
   walk-fails had (first ∷ earlier) (y ∷ ys) x later e each wrong = is.goes had first (earlier ++ x ∷ later) y each.0 ∙ walk-fails (put had y) earlier ys x later e each.1 wrong
   walk-fails had earlier ys x later e each wrong = absurd each
 
-  stopped : (had : S) (xs : List X) (at : StopsAt read xs) → walk had xs ≡ Err (blame (fold put had at.ys) at.fault)
-  stopped had xs at = ap (walk had) at.parts ∙ walk-fails had at.earlier at.ys at.item at.later at.fault at.each at.wrong
-
   -- a walk with a result read all items, and one with a fault stopped at one
   pub walk-says : (had : S) (xs : List X) → MatchResult (walk had xs) (λ now. (all : ReadsAll read xs) × (fold put had all.ys ≡ now)) (λ fault. (at : StopsAt read xs) × (blame (fold put had at.ys) at.fault ≡ fault))
   walk-says had xs = elim (either read xs) [
     | inl all ↦ rw (walk-goes had xs all.ys all.each) (all, refl)
-    | inr at ↦ rw (stopped had xs at) (at, refl)
+    | inr at ↦ rw (ap (walk had) at.parts ∙ walk-fails had at.earlier at.ys at.item at.later at.fault at.each at.wrong) (at, refl)
   ]
 
   -- no item was left

@@ -70,10 +70,6 @@ number-is_decimal digits n reads =
     let found = number-reads 0 digits n (omega arith) (grind (arith, nat_tests, reads)) in
     (sym (decimal-digits_value numerals digits found.0 (grind (arith, nat_tests, reads)) (λ first. grind (arith, nat_tests, reads, first)) (rw found.1 found.2)) ∙ ap decimal found.1, found.2)
 
-zero-is_number : (n : ℕ) → n ≡ 0 → number_of (decimal n) ≡ Some n
-unfolding number_from
-zero-is_number n none = rw none (rw (decimal_digit 0 (omega arith)) refl)
-
 positive-is_number : (n : ℕ) → 0 < n → n < 2 ^ 64 → number_of (decimal n) ≡ Some n
 positive-is_number n some fits =
     let digits = decimal n in
@@ -84,4 +80,8 @@ positive-is_number n some fits =
     rw (ne_eqb (length digits) 0 (λ e. omega arith), ne_eqb (slice_index digits 0) 48 (λ e. omega arith), and-false) (read ∙ ap Some value)
 
 pub decimal-is_number : (n : ℕ) → n < 2 ^ 64 → number_of (decimal n) ≡ Some n
-decimal-is_number n fits = elim (cases_lt 0 n) [ inl some ↦ positive-is_number n some fits | inr least ↦ zero-is_number n (omega arith) ]
+unfolding number_from
+decimal-is_number n fits = elim (cases_lt 0 n) [
+  | inl some ↦ positive-is_number n some fits
+  | inr least ↦ let none : n ≡ 0 = omega (arith, least) in rw none (rw (decimal_digit 0 (omega arith)) refl)
+]
