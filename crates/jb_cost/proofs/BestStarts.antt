@@ -1,19 +1,18 @@
 -- The least prices of stretches that are joined, and the best start as one more stretch is looked at.
 use Rattle.std.proofs.Common.{◌≡◌, ℕ, ◌+◌, ◌-◌, ◌<◌, ◌≤◌, Bool, true, false, List, Option, Some, None, nat_lt, if◌then◌else◌, inl, inr, sym, ap, subst, ◌∙◌, refl, arith}
 use Rattle.std.proofs.lemmas.Bool.{ltb-true, ltb-false, cases_lt}
+use Rattle.std.proofs.lemmas.Option.{none-some, same_Some}
 use Rattle.jb_cost.specs.declared.stretch.Priced.{Priced}
 use Rattle.jb_cost.specs.declared.group_start.GroupStart.{GroupStart}
 use Rattle.jb_cost.specs.Cut.{price}
 use Rattle.jb_cost.specs.Starts.{priced_of, found_start, dearer_by, better_of, LeastPrice, IsBestStart, BestStart}
 
 same-price : (ps : List (Option ℕ)) (i j p q : ℕ) → i ≡ j → price ps i ≡ Some p → price ps j ≡ Some q → p ≡ q
-same-price ps i j p q same is also = let both : Some p ≡ Some q = sym is ∙ ap (price ps) same ∙ also in cc
+same-price ps i j p q same is also = same_Some p q (sym is ∙ ap (price ps) same ∙ also)
 
 -- a start alone
 pub least-one : (ps : List (Option ℕ)) (k : ℕ) (start : Option ℕ) → price ps k ≡ start → LeastPrice ps k (k + 1) (priced_of k start)
-least-one ps k None is = λ i p above below also.
-    let same : i ≡ k = omega arith in
-    let both : None ≡ Some p = sym is ∙ ap (price ps) (sym same) ∙ also in cc
+least-one ps k None is = λ i p above below also. let same : k ≡ i = omega arith in none-some p (sym is ∙ ap (price ps) same ∙ also)
 least-one ps k (Some q) is = record {
   above = omega arith;
   below = omega arith;
@@ -83,7 +82,7 @@ module _ (c : ℕ → ℕ) (limit : ℕ) (ps : List (Option ℕ)) where
       → BestStart c limit ps low end best → BestStart c limit ps from end (better_of best (found_start least cost))
   best-stretch from low cost end before inside fits same best least lowest tried =
       let back : low - 1 + 1 ≡ low = omega arith in
-      best-joined from low low end (omega arith) (omega arith) inside best (found_start least cost) (best-alike from low cost fits same least (subst (λ n. LeastPrice ps from n least) back lowest)) tried
+      best-joined from low low end (omega arith) (omega arith) inside best (found_start least cost) (best-alike from low cost fits same least (rw back at lowest)) tried
 
 -- the best start by other costs and prices, and from another start on, where the same groups fit and each costs by so much more
 module _ (c d : ℕ → ℕ) (limit most : ℕ) (ps qs : List (Option ℕ)) (low from end more : ℕ) (back : from ≤ low)

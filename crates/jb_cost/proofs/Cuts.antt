@@ -1,5 +1,8 @@
 -- A cut grows by one piece more at its end.
-use Rattle.std.proofs.Common.{◌≡◌, ℕ, ◌+◌, ◌<◌, ◌≤◌, List, [], ◌∷◌, ◌++◌, sym, subst, ap, ◌∙◌, refl, arith}
+use Rattle.std.proofs.Common.{◌≡◌, ℕ, ◌+◌, ◌<◌, ◌≤◌, List, [], ◌∷◌, ◌++◌, length, get_or, inl, inr, sym, subst, ap, ◌∙◌, refl, arith}
+use Rattle.std.proofs.Math.ListN.{get_or-append}
+use Rattle.std.proofs.lemmas.Bool.{cases_lt}
+use Rattle.std.proofs.lemmas.List.{get_or_push}
 use Rattle.jb_cost.specs.Cut.{RisesTo, EachFrom, total_from, IsReached}
 
 -- a rising list does not pass its end
@@ -34,3 +37,11 @@ reached-push c limit n m p (a ∷ bs, fitting, sum) less fits = (
 -- no handles are cut into no pieces, which cost nothing
 pub reached-none : (c : ℕ → ℕ → ℕ) (limit : ℕ) → IsReached c limit 0 0
 reached-none c limit = (0 ∷ [], record { cut = (refl, refl); fits = tt }, refl)
+
+-- what holds at each place of a list, and of one item more, holds at each place of the longer list
+pub places-push : {A : Type 0} (d : A) (P : ℕ → A → Type 0) (xs : List A) (x : A) → ((k : ℕ) → k < length xs → P k (get_or xs k d)) → P (length xs) x
+    → (k : ℕ) → k < length xs + 1 → P k (get_or (xs ++ x ∷ []) k d)
+places-push d P xs x each last k inside = elim (cases_lt k (length xs)) [
+  | inl less ↦ rw (get_or-append xs (x ∷ []) d k less) (each k less)
+  | inr more ↦ let same : length xs ≡ k = omega (arith, more, inside) in rw (get_or_push xs x d k same) (subst (λ n. P n x) same last)
+]

@@ -1,5 +1,5 @@
--- The footprint of handles, and of those with one more in front.
-use Rattle.std.proofs.Common.{◌≡◌, ℕ, ◌+◌, ◌^◌, ◌≤◌, ◌||◌, List, [], ◌∷◌, is_some, sym, ap, ◌∙◌, arith, nat_cmp}
+-- The footprint of handles, and of those with one more in front, as it goes leftwards over the handles of a piece.
+use Rattle.std.proofs.Common.{◌≡◌, ℕ, ◌+◌, ◌^◌, ◌≤◌, ◌||◌, List, [], ◌∷◌, is_some, sym, ap, ◌∙◌, arith, nat_cmp, ◌-◌, ◌<◌, length, get_or, slice_range}
 use Rattle.std.specs.Cmp.{nat_cmp_total}
 use Rattle.std.specs.BTreeSet as tree
 use Rattle.std.specs.BTreeSet.{BTreeSet}
@@ -8,7 +8,7 @@ use Rattle.std.specs.FinSet as set
 use Rattle.std.proofs.Math.Bool.{or_comm}
 use Rattle.std.proofs.lemmas.List.Sums.{sum_by-cons}
 use Rattle.jb_handle.specs.declared.stopped.Stopped.{Stopped}
-use Rattle.jb_handle.specs.Size.{weight}
+use Rattle.jb_handle.specs.Size.{weight, IsWithinSize}
 use Rattle.jb_handle.specs.Word.{is_copy, is_free}
 use Rattle.jb_handle.specs.Words.{word, touched, copies, frees}
 use Rattle.jb_handle.proofs.TouchedHomes.{contains-touched}
@@ -19,6 +19,8 @@ use Rattle.jb_cost.specs.Footprint.{Covered, covered_by}
 use Rattle.jb_cost.specs.NewHomes.{new_homes}
 use Rattle.jb_cost.proofs.MeetHomes.{set-contains}
 use Rattle.jb_cost.proofs.HandleInFront.{len-copies, len-frees, few, no-copies, no-frees}
+use Rattle.jb_cost.specs.Cut.{piece_cost}
+use Rattle.jb_cost.proofs.PieceCosts.{piece-before, weight-part}
 
 -- no handle touches a home
 pub covers-none : (g : Geometry) (homes : BTreeSet ℕ) → homes.keys ≡ [] → record { geometry = g; homes = set.from_list homes.keys; copies = 0; frees = 0 } ≡ covered_by g []
@@ -58,3 +60,18 @@ module _ (g : Geometry) (hs : List Stopped) (footprint : Covered) (is : footprin
         × (blocks_of footprint.geometry (footprint.copies + copied) (footprint.frees + freed) ≡ cost g (h ∷ hs))
     unfolding covered_by
     added-left = (λ i. record { geometry = parts.geometry i; homes = homes-left i; copies = copies-left i; frees = frees-left i }, λ i. blocks_of (parts.geometry i) (copies-left i) (frees-left i))
+
+-- ---- the handles of a piece
+
+module _ (g : Geometry) (hs : List Stopped) (h : Stopped) (k j : ℕ) (positive : 0 < k) (before : k ≤ j) (within : j ≤ length hs) (is : h ≡ get_or hs (k - 1) h) where
+  -- the footprint has room for the words of the handle before it
+  pub walk-room : (footprint : Covered) → IsWithinSize hs → footprint ≡ covered_by g (slice_range hs k j) → footprint.copies + footprint.frees + map.len h.words ≤ 2 ^ 62
+  walk-room footprint small covers =
+      let whole = ap weight (piece-before hs h k j positive before within is) in
+      room-left g (slice_range hs k j) footprint covers h (omega (arith, small, whole, weight-part hs (k - 1) j (omega arith)))
+
+  -- with this handle it is the footprint of the piece that begins there, and what it answers is the piece's cost
+  pub stepped-left : (footprint : Covered) (blocks : ℕ) → (footprint ≡ covered_by g (h ∷ slice_range hs k j)) × (blocks ≡ cost g (h ∷ slice_range hs k j)) → (footprint ≡ covered_by g (slice_range hs (k - 1) j)) × (blocks ≡ piece_cost g hs (k - 1) j)
+  stepped-left footprint blocks added =
+      let front = sym (piece-before hs h k j positive before within is) in
+      (added.0 ∙ ap (covered_by g) front, added.1 ∙ ap (cost g) front)

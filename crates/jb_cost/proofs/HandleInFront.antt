@@ -129,9 +129,8 @@ one-kind a m = grind (arith, nat_tests)
 pub new-few : (met : set.FinSet nat_cmp) (es : List (ℕ × Word)) → new_homes is_copy met es + new_homes is_free met es ≤ length es
 new-few met [] = omega arith
 new-few met (e ∷ es) =
-    let rest : new_homes is_copy met es + new_homes is_free met es ≤ length es = new-few met es in
-    let one = one-kind (is_copy e.1) (not (set.contains met e.0)) in
-    rw (sum_by-cons (λ x. cond (is_new is_copy met x) 1 0) e es, sum_by-cons (λ x. cond (is_new is_free met x) 1 0) e es) (omega (arith, rest, one))
+    rw (sum_by-cons (λ x. cond (is_new is_copy met x) 1 0) e es, sum_by-cons (λ x. cond (is_new is_free met x) 1 0) e es)
+    (omega (arith, new-few met es, one-kind (is_copy e.1) (not (set.contains met e.0))))
 
 pub no-copies : set.len (copies []) ≡ 0
 no-copies = ap set.len (set.same_set nat_cmp_total set.nat_cmp-IsAntisymmetric (copies []) set.empty (λ q. contains-copies [] q ∙ sym (set.contains-empty nat_cmp q))) ∙ set.len-empty nat_cmp
@@ -141,11 +140,6 @@ no-frees = ap set.len (set.same_set nat_cmp_total set.nat_cmp-IsAntisymmetric (f
 
 -- handles copy and free no more homes than they touch
 pub few : (hs : List Stopped) → set.len (copies hs) + set.len (frees hs) + length hs ≤ weight hs
-few [] =
-    let copied : set.len (copies []) ≡ 0 = no-copies in
-    let freed : set.len (frees []) ≡ 0 = no-frees in
-    omega (arith, copied, freed)
+few [] = omega (arith, no-copies, no-frees)
 few (h ∷ hs) =
-    let rest : set.len (copies hs) + set.len (frees hs) + length hs ≤ weight hs = few hs in
-    let new : new_homes is_copy (touched hs) (map.entries h.words) + new_homes is_free (touched hs) (map.entries h.words) ≤ length (map.entries h.words) = new-few (touched hs) (map.entries h.words) in
-    omega (arith, rest, new, map.len-entries h.words, len-copies h hs, len-frees h hs, sum_by-cons (λ x. map.len x.words + 1) h hs)
+    omega (arith, few hs, new-few (touched hs) (map.entries h.words), map.len-entries h.words, len-copies h hs, len-frees h hs, sum_by-cons (λ x. map.len x.words + 1) h hs)

@@ -2,17 +2,14 @@ pub mod BestStarts
 pub mod Ceilings
 pub mod Costs
 pub mod Cuts
-pub mod FootprintWalk
 pub mod Footprints
 pub mod HandleInFront
 pub mod HandleWords
-pub mod HomeCount
 pub mod ListPieces
 pub mod MeetHomes
 pub mod PieceCosts
 pub mod PriceBounds
 pub mod SpanChanges
-pub mod SpanPlaces
 pub mod SpanSearch
 pub mod StretchSearch
 pub mod TouchCosts

@@ -1,7 +1,8 @@
 -- Prices that no piece undercuts bound every cut that fits from below.
-use Rattle.std.proofs.Common.{◌≡◌, ℕ, ◌+◌, ◌<◌, ◌≤◌, List, [], ◌∷◌, Option, Some, None, sym, subst, ap, ◌∙◌, refl, arith}
+use Rattle.std.proofs.Common.{◌≡◌, ℕ, ◌+◌, ◌≤◌, List, [], ◌∷◌, Option, Some, None, sym, subst, ap, ◌∙◌, refl, arith}
 use Rattle.jb_cost.specs.Cut.{RisesTo, EachFrom, total_from, total, price, FitsCut, IsReached, IsPrice, ArePrices, Hold}
-use Rattle.jb_cost.proofs.Cuts.{rises-le, reached-push}
+use Rattle.std.proofs.lemmas.Option.{none-some, same_Some}
+use Rattle.jb_cost.proofs.Cuts.{rises-le, reached-push, reached-none}
 
 -- prices of more handles hold of fewer
 pub hold-fewer : (c : ℕ → ℕ → ℕ) (limit n m : ℕ) (ps : List (Option ℕ)) → Hold c limit n ps → m ≤ n → Hold c limit m ps
@@ -34,26 +35,19 @@ pub price-exact : (c : ℕ → ℕ → ℕ) (limit n : ℕ) (ps : List (Option �
 price-exact c limit n ps hold reached = at (price ps n) refl
   where
     at : (found : Option ℕ) → price ps n ≡ found → IsPrice c limit n found
-    at None is = λ other fitting. let low = lower c limit n ps hold other fitting in let e : None ≡ Some low.0 = sym is ∙ low.1 in absurd (cc)
-    at (Some p) is = (reached p is, λ other fitting. let low = lower c limit n ps hold other fitting in let e : p ≡ low.0 = let both : Some p ≡ Some low.0 = sym is ∙ low.1 in cc in omega (arith, e, low.2))
+    at None is = λ other fitting. let low = lower c limit n ps hold other fitting in none-some low.0 (sym is ∙ low.1)
+    at (Some p) is = (reached p is, λ other fitting. let low = lower c limit n ps hold other fitting in omega (arith, same_Some p low.0 (sym is ∙ low.1), low.2))
+
+-- a least total is at most what a cut takes
+at-most : (c : ℕ → ℕ → ℕ) (limit n t : ℕ) (found : Option ℕ) → IsReached c limit n t → IsPrice c limit n found → (q : ℕ) × (found ≡ Some q) × (q ≤ t)
+at-most c limit n t None (bounds, fitting, sum) exact = absurd (exact bounds fitting)
+at-most c limit n t (Some q) (bounds, fitting, sum) exact = let low : q ≤ total c bounds = exact.1 bounds fitting in (q, refl, omega (arith, sum))
 
 -- least totals hold as prices
 pub exact-hold : (c : ℕ → ℕ → ℕ) (limit n : ℕ) (ps : List (Option ℕ)) → ArePrices c limit n ps → Hold c limit n ps
-exact-hold c limit n ps are = record { start = start (price ps 0) refl (are.each 0 (omega arith)); step = step }
-  where
-    start : (found : Option ℕ) → price ps 0 ≡ found → IsPrice c limit 0 found → price ps 0 ≡ Some 0
-    start None is exact = absurd (exact (0 ∷ []) (record { cut = (refl, refl); fits = tt }))
-    start (Some p) is exact = let least : p ≤ 0 = exact.1 (0 ∷ []) (record { cut = (refl, refl); fits = tt }) in let e : p ≡ 0 = omega arith in is ∙ ap Some e
-
-    reach : (i p : ℕ) (found : Option ℕ) → price ps i ≡ found → price ps i ≡ Some p → IsPrice c limit i found → IsReached c limit i p
-    reach i p None is some exact = let e : None ≡ Some p = sym is ∙ some in absurd (cc)
-    reach i p (Some q) is some exact = let e : q ≡ p = let both : Some q ≡ Some p = sym is ∙ some in cc in subst (IsReached c limit i) e exact.0
-
-    most : (j t : ℕ) (found : Option ℕ) → price ps j ≡ found → IsPrice c limit j found → IsReached c limit j t → (q : ℕ) × (price ps j ≡ Some q) × (q ≤ t)
-    most j t None is exact (bounds, fitting, sum) = absurd (exact bounds fitting)
-    most j t (Some q) is exact (bounds, fitting, sum) = let low : q ≤ total c bounds = exact.1 bounds fitting in (q, is, omega (arith, sum))
-
-    step : (i j p : ℕ) → i < j → j ≤ n → price ps i ≡ Some p → c i j ≤ limit → (q : ℕ) × (price ps j ≡ Some q) × (q ≤ p + c i j)
-    step i j p before within is fits =
-        let from = reach i p (price ps i) refl is (are.each i (omega arith)) in
-        most j (p + c i j) (price ps j) refl (are.each j within) (reached-push c limit i j p from before fits)
+exact-hold c limit n ps are = record {
+  start = let least = at-most c limit 0 0 (price ps 0) (reached-none c limit) (are.each 0 (omega arith)) in least.1 ∙ ap Some (let none : least.0 ≡ 0 = omega (arith, least.2) in none);
+  step = λ i j p before within is fits.
+      let from = subst (IsPrice c limit i) is (are.each i (omega arith)) in
+      at-most c limit j (p + c i j) (price ps j) (reached-push c limit i j p from.0 before fits) (are.each j within);
+}

@@ -1,15 +1,14 @@
 -- What the handles own as a home goes from one to another, and the spans and the shortcuts then.
-use Rattle.std.proofs.Common.{◌≡◌, ℕ, ◌+◌, ◌<◌, ◌≤◌, Bool, true, false, cond, nat_le, List, [], ◌∷◌, ◌++◌, length, drop, set, Option, Some, inl, inr, refl, sym, ap, ◌∙◌, arith, length-append, length-set, ◌≢◌, ◌*◌, ◌/◌, not, subst, sum_by, unwrap_or, option_map, nat_cmp}
+use Rattle.std.proofs.Common.{◌≡◌, ℕ, ◌+◌, ◌<◌, ◌≤◌, Bool, true, false, cond, nat_le, List, [], ◌∷◌, ◌++◌, length, drop, set, Option, Some, None, inl, inr, refl, sym, ap, ◌∙◌, arith, length-append, length-set, ◌≢◌, ◌*◌, ◌/◌, not, subst, sum_by, unwrap_or, option_map, nat_cmp}
 use Rattle.std.specs.Map.{values_of}
 use Rattle.std.specs.Cmp.{nat_cmp_total}
 use Rattle.std.specs.Option.{ForSome}
 use Rattle.std.specs.BTreeMap.{BTreeMap, IsOrdered, get, values, insert_entry, is_at}
 use Rattle.std.proofs.lemmas.Bool.{cases_lt, le-leb, lt-leb}
 use Rattle.std.proofs.lemmas.Bool.Decides.{nat_tests}
-use Rattle.std.proofs.lemmas.List.{drop-set-lt, take-set-le, drop-append-le, drop_all, get_or_push, get_or-set_other}
+use Rattle.std.proofs.lemmas.List.{drop-set-lt, take-set-le, drop-append-le, drop_all, get_or-set_other}
 use Rattle.std.proofs.lemmas.List.Sums.{sum_by-set, sum_by-drop_more, sum_by-take-drop, sum_by-le-sum_by, sum_by_push}
 use Rattle.std.proofs.lemmas.Map.Entries.{sum_by-insert_entry}
-use Rattle.std.proofs.Math.ListN.{get_or-append}
 use Rattle.jb_cost.specs.declared.owned.Touch.{Touch}
 use Rattle.jb_cost.specs.declared.owned.Owned.{Owned}
 use Rattle.jb_cost.specs.LastTouch.{owned_at, owned_from, counts_since, Counts, AreOwners, Owns, OwnsNoMore, Lose, copies_of, frees_of, left_copy, IsIdle}
@@ -17,8 +16,9 @@ use Rattle.jb_cost.specs.declared.stretch.Priced.{Priced}
 use Rattle.jb_cost.specs.declared.stretch.Stretch.{Stretch}
 use Rattle.jb_cost.specs.declared.span.Span.{Span}
 use Rattle.jb_cost.specs.declared.shortcuts.Shortcuts.{Shortcuts}
-use Rattle.jb_cost.specs.Starts.{AreIdle, stretch_at}
+use Rattle.jb_cost.specs.Starts.{AreIdle}
 use Rattle.jb_cost.specs.Spans.{span_at, AreSpans, AreBest, KeepSpans, FitOwned}
+use Rattle.jb_cost.proofs.Cuts.{places-push}
 use Rattle.jb_cost.proofs.MeetHomes.{turned}
 use Rattle.jb_cost.proofs.SpanSearch.{span-as, span-best-as}
 
@@ -175,16 +175,13 @@ fit-more os now least was next xs fit long less kept stretches more known =
       number = longer;
       places = more (omega (arith, kept.places, fit.places, fit.number)) ∙ ap (λ n. n / 8) longer;
       back = λ k below.
-          let Goes : Stretch → Type 0 = λ x. (x.from ≤ k) × AreIdle now x.from k in
-          elim (cases_lt k (length os)) [
-            | inl early ↦
-                let here : stretch_at next.stretches.items k ≡ stretch_at was.stretches.items k = ap (λ ss. stretch_at ss k) stretches ∙ get_or-append was.stretches.items (last ∷ []) _ k (omega (arith, early, fit.number)) in
-                let goes = fit.back k early in
-                subst Goes (sym here) (goes.0, λ j above before. let was = goes.1 j above before in let now = less j (omega (arith, before, early)) in (omega (arith, was.0, now.0), omega (arith, was.1, now.1)))
-            | inr more_than ↦
-                let same : k ≡ length was.stretches.items = omega (arith, below, long, more_than, fit.number) in
-                let here : stretch_at next.stretches.items k ≡ last = ap (λ ss. stretch_at ss k) stretches ∙ get_or_push was.stretches.items last _ k (sym same) in
-                subst Goes (sym here) ((let at : length os ≤ k = more_than in at), λ j above before. absurd (let h : ⊥ = omega (arith, above, before, same, fit.number) in h))
-          ];
+          rw stretches
+          (places-push (record { from = 0; least = None }) (λ k (x : Stretch). (x.from ≤ k) × AreIdle now x.from k) was.stretches.items last
+          (λ k early.
+          let here : k < length os = omega (arith, early, fit.number) in
+          let goes = fit.back k here in
+          (goes.0, λ j above before. let was = goes.1 j above before in let now = less j (omega (arith, before, here)) in (omega (arith, was.0, now.0), omega (arith, was.1, now.1))))
+          (omega (arith, fit.number), λ j above before. absurd (omega (arith, above, before, fit.number)))
+          k (omega (arith, below, long, fit.number)));
       spans = λ k s is. spans-kept os now was.spans.items xs kept fit.spans (omega (arith, long)) k s (known k s is);
     }

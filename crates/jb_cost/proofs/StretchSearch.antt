@@ -7,9 +7,11 @@ use Rattle.jb_cost.specs.declared.stretch.Stretch.{Stretch}
 use Rattle.jb_cost.specs.LastTouch.{owned_at, owned_from, copies_of, frees_of, owned_cost, IsIdle}
 use Rattle.jb_cost.specs.Starts.{LeastPrice, AreIdle, AreLeast, BestStart, found_start, better_of}
 use Rattle.jb_cost.specs.declared.shortcuts.Shortcuts.{Shortcuts}
+use Rattle.jb_cost.specs.Search.{IsWalk, GoesEarlier, BestSoFar, AreBeyondLimit}
 use Rattle.jb_cost.specs.Spans.{OwnTheSame, StillFit}
+use Rattle.jb_cost.specs.declared.best_start.StartSearch.{StartSearch}
+use Rattle.jb_cost.specs.declared.group_size.GroupSize.{GroupSize}
 use Rattle.jb_cost.specs.declared.stretch.Priced.{Priced}
-use Rattle.jb_cost.specs.declared.group_start.GroupStart.{GroupStart}
 use Rattle.jb_cost.specs.Cost.{blocks_of}
 use Rattle.jb_cost.proofs.Costs.{blocks-mono}
 use Rattle.jb_cost.proofs.BestStarts.{best-stretch}
@@ -82,32 +84,44 @@ room-one os low copies frees positive within copied freed few =
 pub still-fit : (os : List Owned) (was mid now : Shortcuts) → StillFit os was mid → StillFit os mid now → StillFit os was now
 still-fit os was mid now first then = record { owned = then.owned; prices = λ ps fit. then.prices ps (first.prices ps fit) }
 
-module _ (g : Geometry) (os : List Owned) (low copies frees : ℕ) (within : low ≤ length os) (copies_are : copies ≡ owned_from copies_of os low) (frees_are : frees ≡ owned_from frees_of os low) (positive : 0 < low) where
-  module _ (copies_now frees_now : ℕ) (copied : copies_now ≡ copies + (owned_at os (low - 1)).copies) (freed : frees_now ≡ frees + (owned_at os (low - 1)).frees) where
-    sums-here : (copies_now ≡ owned_from copies_of os (low - 1)) × (frees_now ≡ owned_from frees_of os (low - 1))
-    sums-here = let one = owned-one os low positive within in (omega (arith, copied, copies_are, one.0), omega (arith, freed, frees_are, one.1))
+-- a search that has gone on to an earlier handle, with the sums from there on
+pub goes-earlier : {os : List Owned} {w next : StartSearch} → (next.tally.copies.entries ≡ owned_from copies_of os next.low) × (next.tally.frees.entries ≡ owned_from frees_of os next.low)
+    → next.low < w.low → (next.low ≤ next.until) × (next.until ≤ length os) → AreIdle os next.low next.until → next.tally.geometry ≡ w.tally.geometry → GoesEarlier os w next
+goes-earlier sums earlier order idle geometry = record {
+  walk = record { copies = sums.0; frees = sums.1; within = omega (arith, order); order = order; idle = idle };
+  earlier = earlier;
+  geometry = geometry;
+}
 
-    -- what the handles from this one on cost
-    stretch-cost : owned_cost g os (low - 1) ≡ blocks_of g copies_now frees_now
-    stretch-cost = λ i. blocks_of g (sym sums-here.0 i) (sym sums-here.1 i)
+-- the sums of a search with what the handle before it owns
+module _ {os : List Owned} {w : StartSearch} (walk : IsWalk os w × (0 < w.low)) (sum : GroupSize)
+    (plus : record { geometry : sum.geometry ≡ w.tally.geometry;
+      copies : sum.copies.entries ≡ w.tally.copies.entries + (owned_at os (w.low - 1)).copies;
+      frees : sum.frees.entries ≡ w.tally.frees.entries + (owned_at os (w.low - 1)).frees }) where
+  sums-here : (sum.copies.entries ≡ owned_from copies_of os (w.low - 1)) × (sum.frees.entries ≡ owned_from frees_of os (w.low - 1))
+  sums-here = let one = owned-one os w.low walk.1 walk.0.within in (omega (arith, plus.copies, walk.0.copies, one.0), omega (arith, plus.frees, walk.0.frees, one.1))
 
-    -- where that is over the limit, so is what those from an earlier one on cost
-    pub stretch-over : (limit : ℕ) → limit < blocks_of g copies_now frees_now → (i : ℕ) → i < low → limit < owned_cost g os i
-    stretch-over limit over i earlier = omega (arith, over, stretch-cost, owned-dearer g os i (low - 1) (omega arith))
+  -- what the handles from this one on cost
+  stretch-cost : owned_cost w.tally.geometry os (w.low - 1) ≡ blocks_of sum.geometry sum.copies.entries sum.frees.entries
+  stretch-cost = λ i. blocks_of (sym plus.geometry i) (sym sums-here.0 i) (sym sums-here.1 i)
 
-    module _ (from : ℕ) (before : from ≤ low - 1) (idle : AreIdle os from (low - 1)) where
-      -- the handles of the stretch own no more
-      pub stretch-sums : (copies_now ≡ owned_from copies_of os from) × (frees_now ≡ owned_from frees_of os from)
-      stretch-sums = let same = idle-sums os from (low - 1) before (omega (arith, within)) idle in (sums-here.0 ∙ sym same.0, sums-here.1 ∙ sym same.1)
+  -- where that is over the limit, so is what those from an earlier one on cost
+  pub stretch-over : (limit : ℕ) → limit < blocks_of sum.geometry sum.copies.entries sum.frees.entries → AreBeyondLimit w.tally.geometry os limit w.low
+  stretch-over limit over i earlier = omega (arith, over, stretch-cost, owned-dearer w.tally.geometry os i (w.low - 1) (omega arith))
 
-      -- the best start with those of the stretch
-      pub stretch-best : (limit cost end : ℕ) → cost ≡ blocks_of g copies_now frees_now → cost ≤ limit → low ≤ end → (ps : List (Option ℕ)) (best : Option GroupStart) (least : Option Priced) → LeastPrice ps from (low - 1 + 1) least
-          → BestStart (owned_cost g os) limit ps low end best → BestStart (owned_cost g os) limit ps from end (better_of best (found_start least cost))
-      stretch-best limit cost end is fits inside ps best least lowest tried =
-          let short : low - 1 ≤ length os = omega (arith, within) in
-          best-stretch (owned_cost g os) limit ps from low cost end (omega (arith, before)) inside fits
-          (λ i above below.
-          let until : AreIdle os i (low - 1) = λ j late early. idle j (omega arith) early in
-          let same = idle-sums os i (low - 1) (omega arith) short until in
-          (λ k. blocks_of g (same.0 k) (same.1 k)) ∙ stretch-cost ∙ sym is)
-          best least lowest tried
+  module _ (from : ℕ) (before : from ≤ w.low - 1) (idle : AreIdle os from (w.low - 1)) where
+    -- the handles of the stretch own no more
+    pub stretch-sums : (sum.copies.entries ≡ owned_from copies_of os from) × (sum.frees.entries ≡ owned_from frees_of os from)
+    stretch-sums = let same = idle-sums os from (w.low - 1) before (omega (arith, walk.0.within)) idle in (sums-here.0 ∙ sym same.0, sums-here.1 ∙ sym same.1)
+
+    -- the best start with those of the stretch
+    pub stretch-best : (limit cost : ℕ) → cost ≡ blocks_of sum.geometry sum.copies.entries sum.frees.entries → cost ≤ limit → (ps : List (Option ℕ)) (least : Option Priced)
+        → LeastPrice ps from (w.low - 1 + 1) least → BestSoFar w.tally.geometry os limit ps w
+        → BestStart (owned_cost w.tally.geometry os) limit ps from (length os) (better_of w.best (found_start least cost))
+    stretch-best limit cost is fits ps least lowest tried =
+        best-stretch (owned_cost w.tally.geometry os) limit ps from w.low cost (length os) (omega (arith, before, walk.1)) walk.0.within fits
+        (λ i above below.
+        let until : AreIdle os i (w.low - 1) = λ j late early. idle j (omega arith) early in
+        let same = idle-sums os i (w.low - 1) (omega arith) (omega (arith, walk.0.within)) until in
+        (λ k. blocks_of w.tally.geometry (same.0 k) (same.1 k)) ∙ stretch-cost ∙ sym is)
+        w.best least lowest tried

@@ -1,12 +1,11 @@
 -- What the last touches say of a queue's handles, and what the handles cost by them.
-use Rattle.std.proofs.Common.{◌≡◌, ℕ, ◌+◌, ◌-◌, ◌*◌, ◌^◌, ◌<◌, ◌≤◌, Bool, true, false, cond, not, ◌&&◌, nat_le, List, [], ◌∷◌, ◌++◌, length, take, drop, get_or, slice_range, Option, Some, None, inl, inr, refl, sym, ap, subst, ◌∙◌, arith, length-drop, nat_cmp}
+use Rattle.std.proofs.Common.{◌≡◌, ℕ, ◌+◌, ◌-◌, ◌*◌, ◌^◌, ◌<◌, ◌≤◌, Bool, true, false, cond, not, ◌&&◌, nat_le, List, [], ◌∷◌, ◌++◌, length, take, drop, get_or, slice_range, Option, Some, None, inl, inr, refl, sym, ap, ◌∙◌, arith, length-drop, nat_cmp}
 use Rattle.std.specs.Option.{option_map, option_or}
 use Rattle.std.specs.BTreeMap.{BTreeMap, get}
 use Rattle.std.specs.FinMap as map
 use Rattle.std.specs.FinSet as set
 use Rattle.std.proofs.lemmas.Bool.{cases_lt, le-leb, lt-leb}
-use Rattle.std.proofs.lemmas.List.{take_more, get_or-drop, get_or_push}
-use Rattle.std.proofs.Math.ListN.{get_or-append}
+use Rattle.std.proofs.lemmas.List.{take_more, get_or-drop}
 use Rattle.jb_handle.specs.declared.word.Word.{Word}
 use Rattle.jb_handle.specs.declared.stopped.Stopped.{Stopped}
 use Rattle.jb_handle.specs.Size.{IsWithinSize}
@@ -25,6 +24,7 @@ use Rattle.jb_cost.specs.Starts.{LeastPrice, stretch_at, AreLeast, priced_of}
 use Rattle.jb_cost.specs.Spans.{copies_until}
 use Rattle.jb_cost.specs.LastTouches.{PartsFit, TellsQueue, homes_owned}
 use Rattle.jb_cost.proofs.HandleInFront.{few, len-of_kind}
+use Rattle.jb_cost.proofs.Cuts.{places-push}
 use Rattle.jb_cost.proofs.PieceCosts.{piece-none, weight-part}
 use Rattle.jb_cost.proofs.BestStarts.{least-one, least-as, best-as}
 
@@ -37,21 +37,15 @@ piece-right hs h i n before within is =
     let here : get_or (drop i hs) (n - i) h ≡ h = get_or-drop i hs (n - i) h ∙ ap (λ k. get_or hs k h) at ∙ sym is in
     ap (λ k. take k (drop i hs)) more ∙ take_more (drop i hs) (n - i) h long ∙ ap (λ x. slice_range hs i n ++ x ∷ []) here
 
-left-early : (i : ℕ) (t : Touch) → i ≤ t.handle → left_since i (Some t) ≡ Some t.copy
-left-early i t early = ap (λ b. cond b (Some t.copy) None) (le-leb i t.handle early)
-
-left-late : (i : ℕ) (t : Touch) → t.handle < i → left_since i (Some t) ≡ None
-left-late i t late = ap (λ b. cond b (Some t.copy) None) (lt-leb i t.handle late)
-
 -- one handle more: at a home that it touches, and at another
 left-more : (i n : ℕ) (w : Option Word) (before : Option Touch) (found : Option Word) → i ≤ n → left_since i before ≡ option_map is_copy found → left_since i (later_touch n w before) ≡ option_map is_copy (option_or w found)
 left-more i n None before found early is = is
-left-more i n (Some w) before found early is = left-early i (record { handle = n; copy = is_copy w }) early
+left-more i n (Some w) before found early is = rw (le-leb i n early) refl
 
 left-none : (n : ℕ) (w : Option Word) (before : Option Touch) → ((t : Touch) → before ≡ Some t → t.handle < n) → left_since (n + 1) (later_touch n w before) ≡ None
 left-none n None None below = refl
-left-none n None (Some t) below = left-late (n + 1) t (let h = below t refl in omega arith)
-left-none n (Some w) before below = left-late (n + 1) (record { handle = n; copy = is_copy w }) (omega arith)
+left-none n None (Some t) below = rw (lt-leb (n + 1) t.handle (let h = below t refl in omega arith)) refl
+left-none n (Some w) before below = rw (lt-leb (n + 1) n (omega arith)) refl
 
 pub follows-more : (hs : List Stopped) (h : Stopped) (n : ℕ) (last next : BTreeMap ℕ Touch) → n < length hs → h ≡ get_or hs n h → ((q : ℕ) (t : Touch) → get nat_cmp last q ≡ Some t → t.handle < n)
     → ((q : ℕ) → get nat_cmp next q ≡ later_touch n (map.get h.words q) (get nat_cmp last q))
@@ -60,8 +54,7 @@ pub follows-more : (hs : List Stopped) (h : Stopped) (n : ℕ) (last next : BTre
 follows-more hs h n last next within is below taken follows i q inside = elim (cases_lt n i) [
   | inl late ↦
       let same : i ≡ n + 1 = omega arith in
-      subst (λ k. left_since k (get nat_cmp next q) ≡ option_map is_copy (word (slice_range hs k (n + 1)) q)) (sym same)
-      (ap (left_since (n + 1)) (taken q) ∙ left-none n (map.get h.words q) (get nat_cmp last q) (below q) ∙ ap (λ gs. option_map is_copy (word gs q)) (sym (piece-none hs (n + 1))))
+      rw same (ap (left_since (n + 1)) (taken q) ∙ left-none n (map.get h.words q) (get nat_cmp last q) (below q) ∙ ap (λ gs. option_map is_copy (word gs q)) (sym (piece-none hs (n + 1))))
   | inr early ↦
       ap (left_since i) (taken q)
       ∙ left-more i n (map.get h.words q) (get nat_cmp last q) (word (slice_range hs i n) q) early (follows i q early)
@@ -72,14 +65,8 @@ follows-more hs h n last next within is below taken follows i q inside = elim (c
 -- the stretch of one handle more is its own start alone
 pub leasts-more : (ps : List (Option ℕ)) (ss : List Stretch) (n : ℕ) (start : Option ℕ) → length ss ≡ n → AreLeast ps ss n → price ps n ≡ start → AreLeast ps (ss ++ record { from = n; least = priced_of n start } ∷ []) (n + 1)
 leasts-more ps ss n start long leasts is k below =
-    let last : Stretch = record { from = n; least = priced_of n start } in
-    let Least : Stretch → Type 0 = λ x. LeastPrice ps x.from (k + 1) x.least in
-    elim (cases_lt k n) [
-      | inl less ↦ subst Least (sym (get_or-append ss (last ∷ []) _ k (omega (arith, less, long)))) (leasts k less)
-      | inr more ↦
-          let same : n ≡ k = omega (arith, more) in
-          subst Least (sym (get_or_push ss last _ k (long ∙ same))) (subst (λ m. LeastPrice ps n (m + 1) (priced_of n start)) same (least-one ps n start is))
-    ]
+    places-push (record { from = 0; least = None }) (λ k (x : Stretch). LeastPrice ps x.from (k + 1) x.least) ss _
+    (λ k less. leasts k (omega (arith, less, long))) (rw long (least-one ps n start is)) k (omega (arith, below, long))
 
 is_of-since : (kind : Bool → Bool) (i : ℕ) (t : Option Touch) → is_of kind (left_since i t) ≡ is_of (is_since kind i) t
 is_of-since kind i None = refl

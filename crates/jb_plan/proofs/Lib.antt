@@ -1,5 +1,3 @@
 pub mod BatchHandles
-pub mod BestStep
-pub mod PlannedBatch
 pub mod SameCosts
 pub mod StepTable

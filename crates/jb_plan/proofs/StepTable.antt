@@ -1,21 +1,26 @@
 -- The table of the best steps, as it grows, and what it says once it is whole.
-use Rattle.std.proofs.Common.{◌≡◌, ℕ, zero, suc, ◌+◌, ◌<◌, ◌≤◌, List, [], ◌∷◌, ◌++◌, length, Option, Some, None, slice_index, inl, inr, sym, subst, ap, ◌∙◌, refl, arith, length-append, eq-or-lt_of_le, eq-zero-or-pos}
+use Rattle.std.proofs.Common.{◌≡◌, ℕ, zero, suc, ◌+◌, ◌<◌, ◌≤◌, List, [], ◌∷◌, ◌++◌, length, Option, Some, None, slice_index, inl, inr, sym, subst, ap, ◌∙◌, refl, arith, length-append, eq-or-lt_of_le, eq-zero-or-pos, ◌^◌}
 use Rattle.std.proofs.Math.ListN.{get_or-append}
-use Rattle.std.proofs.Math.Seq.{get_or-append_seam}
-use Rattle.std.proofs.lemmas.Bool.{cases_lt}
+use Rattle.std.proofs.lemmas.List.{get_or_push}
+use Rattle.std.proofs.lemmas.Option.{none-some, same_Some}
 use Rattle.jb_cost.specs.Cut.{RisesTo, EachFrom, total_from, IsCut, EachPiece, total, price, FitsCut, IsLeastCut, IsReached, ArePrices, Hold, IsFirstToAttain}
-use Rattle.jb_cost.proofs.Cuts.{rises-le, reached-push, reached-none}
+use Rattle.jb_cost.proofs.Cuts.{rises-le, reached-push, reached-none, places-push}
 use Rattle.jb_cost.proofs.PriceBounds.{hold-fewer, lower, price-exact}
-use Rattle.jb_plan.specs.Step.{LastGroup, IsBest, BestFrom, step_of, AreSteps, price_of, from_of, AreBefore, AreWithin, IsTable}
+use Rattle.jb_plan.specs.Step.{LastGroup, IsBest, BestFrom, step_of, AreSteps, price_of, from_of, AreBefore, AreWithin, IsTable, step_from, most_of}
+use Rattle.jb_handle.specs.declared.stopped.Stopped.{Stopped}
+use Rattle.jb_handle.specs.Size.{IsWithinSize}
+use Rattle.jb_cost.specs.declared.group_start.GroupStart.{GroupStart}
+use Rattle.jb_cost.specs.Starts.{IsBestStart, BestStart}
+use Rattle.jb_cost.proofs.PieceCosts.{weight-take}
 
 price-kept : (ps more : List (Option ℕ)) (i : ℕ) → i < length ps → price (ps ++ more) i ≡ price ps i
 price-kept ps more i less = get_or-append ps more None i less
 
 price-new : (ps : List (Option ℕ)) (n : ℕ) (x : Option ℕ) → length ps ≡ n → price (ps ++ (x ∷ [])) n ≡ x
-price-new ps n x all = subst (λ k. price (ps ++ (x ∷ [])) k ≡ x) all (get_or-append_seam ps x [] None)
+price-new ps n x all = get_or_push ps x None n all
 
 from-new : (froms : List ℕ) (n x : ℕ) → length froms ≡ n → slice_index (froms ++ (x ∷ [])) n ≡ x
-from-new froms n x all = subst (λ k. slice_index (froms ++ (x ∷ [])) k ≡ x) all (get_or-append_seam froms x [] 0)
+from-new froms n x all = get_or_push froms x 0 n all
 
 step-same : (froms starts : List ℕ) (j : ℕ) → slice_index froms j ≡ slice_index starts j → (p : Option ℕ) → step_of froms j p ≡ step_of starts j p
 step-same froms starts j same None = refl
@@ -66,15 +71,12 @@ module _ (c : ℕ → ℕ → ℕ) (limit : ℕ) where
   best-at ps froms n j q steps above within is = subst (λ p. BestFrom c limit ps 0 j (step_of froms j p)) is (steps.each j above within)
 
   -- no piece undercuts the prices of the table
-  pub hold-steps : (ps : List (Option ℕ)) (froms : List ℕ) (n : ℕ) → AreSteps c limit ps froms n → Hold c limit n ps
-  hold-steps ps froms n steps = record { start = steps.start; step = step }
+  hold-steps : (ps : List (Option ℕ)) (froms : List ℕ) (n : ℕ) → AreSteps c limit ps froms n → Hold c limit n ps
+  hold-steps ps froms n steps = record { start = steps.start; step = λ i j p before within is fits. at i j p before is fits (price ps j) (steps.each j (omega arith) within) }
     where
-      at : (i j p : ℕ) → i < j → price ps i ≡ Some p → c i j ≤ limit → (found : Option ℕ) → price ps j ≡ found → BestFrom c limit ps 0 j (step_of froms j found) → (q : ℕ) × (price ps j ≡ Some q) × (q ≤ p + c i j)
-      at i j p before is fits None none best = absurd (best i p (omega arith) before fits is)
-      at i j p before is fits (Some q) some best = (q, some, best.least i p (omega arith) before fits is)
-
-      step : (i j p : ℕ) → i < j → j ≤ n → price ps i ≡ Some p → c i j ≤ limit → (q : ℕ) × (price ps j ≡ Some q) × (q ≤ p + c i j)
-      step i j p before within is fits = at i j p before is fits (price ps j) refl (steps.each j (omega arith) within)
+      at : (i j p : ℕ) → i < j → price ps i ≡ Some p → c i j ≤ limit → (found : Option ℕ) → BestFrom c limit ps 0 j (step_of froms j found) → (q : ℕ) × (found ≡ Some q) × (q ≤ p + c i j)
+      at i j p before is fits None best = absurd (best i p (omega arith) before fits is)
+      at i j p before is fits (Some q) best = (q, refl, best.least i p (omega arith) before fits is)
 
   reached-below : (ps : List (Option ℕ)) (froms : List ℕ) (n : ℕ) → AreSteps c limit ps froms n → (m j p : ℕ) → j < m → j ≤ n → price ps j ≡ Some p → IsReached c limit j p
   reached-below ps froms n steps zero j p below within is = absurd (let h : ⊥ = omega arith in h)
@@ -82,8 +84,7 @@ module _ (c : ℕ → ℕ → ℕ) (limit : ℕ) where
     where
       first : j ≡ 0 → IsReached c limit j p
       first none =
-          let same : p ≡ 0 = let both : Some p ≡ Some 0 = sym is ∙ (ap (price ps) none ∙ steps.start) in cc in
-          subst (λ k. IsReached c limit k p) (sym none) (subst (IsReached c limit 0) (sym same) (reached-none c limit))
+          rw (same_Some p 0 (sym is ∙ (ap (price ps) none ∙ steps.start)), none) (reached-none c limit)
 
       later : ((i q : ℕ) → i < m → i ≤ n → price ps i ≡ Some q → IsReached c limit i q) → 0 < j → IsReached c limit j p
       later reach above =
@@ -115,7 +116,7 @@ module _ (c : ℕ → ℕ → ℕ) (limit : ℕ) where
   chain ps froms n sum steps is a (b ∷ bs) rises back =
       let rest = chain ps froms n sum steps is b bs rises.1 back.1 in
       let within : b ≤ n = rises-le n b bs rises.1 in
-      let best : IsBest c limit ps 0 b (record { from = a; price = rest.p }) = subst (λ from. IsBest c limit ps 0 b (record { from = from; price = rest.p })) back.0 (best-at ps froms n b rest.p steps (omega (arith, rises.0)) within rest.is) in
+      let best : IsBest c limit ps 0 b (record { from = a; price = rest.p }) = rw back.0 at (best-at ps froms n b rest.p steps (omega (arith, rises.0)) within rest.is) in
       record {
         p = best.leads.sum.0;
         is = best.leads.sum.1;
@@ -126,8 +127,7 @@ module _ (c : ℕ → ℕ → ℕ) (limit : ℕ) where
             record { before = rises.0; fits = best.leads.fits; sum = (best.leads.sum.0, best.leads.sum.1, rest.is ∙ ap Some best.leads.sum.2) },
             λ k earlier attains.
                 let more = best.first k attains.sum.0 (omega arith) earlier attains.fits attains.sum.1 in
-                let same : rest.p ≡ attains.sum.0 + c k b = let both : Some rest.p ≡ Some (attains.sum.0 + c k b) = sym rest.is ∙ attains.sum.2 in cc in
-                omega arith,
+                omega (arith, more, same_Some rest.p (attains.sum.0 + c k b) (sym rest.is ∙ attains.sum.2)),
           ),
           rest.firsts,
         );
@@ -138,14 +138,13 @@ module _ (c : ℕ → ℕ → ℕ) (limit : ℕ) where
   answers-cut ps froms n sum [] steps is cut back = absurd cut
   answers-cut ps froms n sum (a ∷ bs) steps is cut back =
       let whole = chain ps froms n sum steps is a bs cut.1 back in
-      let none : whole.p ≡ 0 = let both : Some whole.p ≡ Some 0 = sym whole.is ∙ (ap (price ps) cut.0 ∙ steps.start) in cc in
-      let sums : total_from c a bs ≡ sum = omega (arith, whole.adds) in (
+      let none = same_Some whole.p 0 (sym whole.is ∙ (ap (price ps) cut.0 ∙ steps.start)) in
+      let sums : total_from c a bs ≡ sum = omega (arith, whole.adds, none) in (
         record {
           fitting = record { cut = cut; fits = whole.fits };
           least = λ other fitting.
               let low = lower c limit n ps (hold-steps ps froms n steps) other fitting in
-              let same : sum ≡ low.0 = let both : Some sum ≡ Some low.0 = sym is ∙ low.1 in cc in
-              omega (arith, low.2);
+              omega (arith, sums, low.2, same_Some sum low.0 (sym is ∙ low.1));
         },
         sums,
         whole.firsts,
@@ -153,39 +152,29 @@ module _ (c : ℕ → ℕ → ℕ) (limit : ℕ) where
 
   -- where the last price is none, no cut fits
   pub answers-none : (ps : List (Option ℕ)) (froms : List ℕ) (n : ℕ) → AreSteps c limit ps froms n → price ps n ≡ None → (other : List ℕ) → FitsCut c limit n other → ⊥
-  answers-none ps froms n steps is other fitting = let low = lower c limit n ps (hold-steps ps froms n steps) other fitting in let e : None ≡ Some low.0 = sym is ∙ low.1 in cc
+  answers-none ps froms n steps is other fitting = let low = lower c limit n ps (hold-steps ps froms n steps) other fitting in none-some low.0 (sym is ∙ low.1)
 
   -- the start of one step more is before its end
-  pub back-more : (ps : List (Option ℕ)) (froms : List ℕ) (n : ℕ) (best : Option LastGroup) → AreBefore froms → length froms ≡ n + 1 → BestFrom c limit ps 0 (n + 1) best → AreBefore (froms ++ (from_of best ∷ []))
-  back-more ps froms n best back starts found j above within = elim (cases_lt j (n + 1)) [ inl less ↦ earlier less | inr more ↦ last (omega (arith, more, simp length-append at within)) ]
+  back-more : (froms : List ℕ) (n : ℕ) (ps : List (Option ℕ)) (best : Option LastGroup) → AreBefore froms → length froms ≡ n + 1
+      → BestFrom c limit ps 0 (n + 1) best → AreBefore (froms ++ (from_of best ∷ []))
+  back-more froms n ps best back starts found j above within =
+      places-push 0 (λ j from. 0 < j → from < j) froms (from_of best) (λ j below above. back j above below) (λ above. rw starts (now best found)) j (simp length-append at within) above
     where
       now : (best : Option LastGroup) → BestFrom c limit ps 0 (n + 1) best → from_of best < n + 1
       now None found = omega arith
       now (Some s) found = found.leads.before
 
-      earlier : j < n + 1 → slice_index (froms ++ (from_of best ∷ [])) j < j
-      earlier less = rw (get_or-append froms (from_of best ∷ []) 0 j (omega arith)) (back j above (omega arith))
-
-      last : j ≡ n + 1 → slice_index (froms ++ (from_of best ∷ [])) j < j
-      last same = subst (λ k. slice_index (froms ++ (from_of best ∷ [])) k < k) (sym same) (rw (from-new froms (n + 1) (from_of best) starts) (now best found))
-
   -- one price more is at most what the handles before it weigh
-  pub within-more : (w : ℕ → ℕ) (ps : List (Option ℕ)) (n : ℕ) (best : Option LastGroup) → AreWithin w ps → length ps ≡ n + 1 → ((i : ℕ) → i < n + 1 → c i (n + 1) + w i ≤ w (n + 1)) → BestFrom c limit ps 0 (n + 1) best → AreWithin w (ps ++ (price_of best ∷ []))
-  within-more w ps n best within prices grows found j p below is = elim (cases_lt j (n + 1)) [ inl less ↦ earlier less | inr more ↦ last (omega (arith, more, simp length-append at below)) ]
+  within-more : (w : ℕ → ℕ) (ps : List (Option ℕ)) (n : ℕ) (best : Option LastGroup) → AreWithin w ps → length ps ≡ n + 1
+      → ((i : ℕ) → i < n + 1 → c i (n + 1) + w i ≤ w (n + 1)) → BestFrom c limit ps 0 (n + 1) best → AreWithin w (ps ++ (price_of best ∷ []))
+  within-more w ps n best within prices grows found j p below is =
+      places-push None (λ j price. price ≡ Some p → p ≤ w j) ps (price_of best) (λ j less is. within j p less is) (λ is. rw prices (now best found is)) j (simp length-append at below) is
     where
       now : (best : Option LastGroup) → BestFrom c limit ps 0 (n + 1) best → price_of best ≡ Some p → p ≤ w (n + 1)
-      now None found e = let absurdity : None ≡ Some p = e in absurd (cc)
-      now (Some s) found e =
-          let same : s.price ≡ p = cc in
+      now None found is = absurd (none-some p is)
+      now (Some s) found is =
           let from = within s.from found.leads.sum.0 (let before : s.from < n + 1 = found.leads.before in omega arith) found.leads.sum.1 in
-          let more = grows s.from found.leads.before in
-          omega (arith, found.leads.sum.2)
-
-      earlier : j < n + 1 → p ≤ w j
-      earlier less = within j p (omega arith) (sym (price-kept ps (price_of best ∷ []) j (omega arith)) ∙ is)
-
-      last : j ≡ n + 1 → p ≤ w j
-      last same = subst (λ k. p ≤ w k) (sym same) (now best found (sym (price-new ps (n + 1) (price_of best) prices) ∙ (ap (price (ps ++ (price_of best ∷ []))) (sym same) ∙ is)))
+          omega (arith, same_Some s.price p is, from, grows s.from found.leads.before, found.leads.sum.2)
 
   -- the table of no handles
   pub table-start : (w : ℕ → ℕ) → IsTable c limit w 0 (Some 0 ∷ []) (0 ∷ [])
@@ -194,14 +183,8 @@ module _ (c : ℕ → ℕ → ℕ) (limit : ℕ) where
     number = refl;
     starts = refl;
     back = λ j above within. absurd (let h : ⊥ = omega arith in h);
-    within = λ j p below is. first j p below is;
+    within = λ j p below is. let none : j ≡ 0 = omega arith in omega (arith, same_Some 0 p (ap (price (Some 0 ∷ [])) (sym none) ∙ is));
   }
-    where
-      first : (j p : ℕ) → j < 1 → price (Some 0 ∷ []) j ≡ Some p → p ≤ w j
-      first j p below is =
-          let none : j ≡ 0 = omega arith in
-          let same : 0 ≡ p = let both : Some 0 ≡ Some p = ap (price (Some 0 ∷ [])) (sym none) ∙ is in cc in
-          omega arith
 
   -- the table of one handle more
   pub table-more : (w : ℕ → ℕ) (n : ℕ) (ps : List (Option ℕ)) (froms : List ℕ) (best : Option LastGroup) → IsTable c limit w n ps froms → BestFrom c limit ps 0 (n + 1) best → ((i : ℕ) → i < n + 1 → c i (n + 1) + w i ≤ w (n + 1)) → IsTable c limit w (n + 1) (ps ++ (price_of best ∷ [])) (froms ++ (from_of best ∷ []))
@@ -209,6 +192,20 @@ module _ (c : ℕ → ℕ → ℕ) (limit : ℕ) where
     steps = steps-more ps froms n best table.steps table.number table.starts found;
     number = simp length-append (omega (arith, table.number));
     starts = simp length-append (omega (arith, table.starts));
-    back = back-more ps froms n best table.back table.starts found;
+    back = back-more froms n ps best table.back table.starts found;
     within = within-more w ps n best table.within table.number grows found;
   }
+
+-- ---- the best start to an end, as a step of the table
+
+pub best-step : (c : ℕ → ℕ → ℕ) (limit : ℕ) (ps : List (Option ℕ)) (end : ℕ) (found : Option GroupStart) → BestStart (λ i. c i end) limit ps 0 end found → BestFrom c limit ps 0 end (step_from found)
+best-step c limit ps end None none = none
+best-step c limit ps end (Some s) best = record {
+  leads = record { before = best.before; fits = best.fits; sum = (s.price, best.is, ap (λ n. s.price + n) best.costs) };
+  least = best.least;
+  first = best.first;
+}
+
+-- price and cost add up within 64 bits
+pub step-room : (hs : List Stopped) (c : ℕ → ℕ) (limit : ℕ) (ps : List (Option ℕ)) (end : ℕ) (s : GroupStart) → IsWithinSize hs → limit < 2 ^ 32 → AreWithin (most_of hs) ps → end ≤ length ps → IsBestStart c limit ps 0 end s → s.price + s.cost < 2 ^ 64
+step-room hs c limit ps end s size small within inside best = omega (arith, size, small, within s.from s.price (omega (arith, best.before)) best.is, weight-take hs s.from, best.costs, best.fits)

@@ -1,4 +1,4 @@
-pub mod FaultyCert
+pub mod CertLines
 pub mod ReadBack
 pub mod SpelledCert
 pub mod UndercutSteps

@@ -50,30 +50,29 @@ module _ (c : ℕ → ℕ → ℕ) (limit n : ℕ) (ps : List (Option ℕ)) wher
   pub first-start : FirstAmong c limit n ps 0 None
   first-start i j within u = let before : i < j = u.before in omega arith
 
-  -- what holds of the ends up to one, and of the next, holds of the ends up to the next
-  up-to : (P : ℕ → Type 0) (end : ℕ) → ((j : ℕ) → j ≤ end → P j) → P (end + 1) → (j : ℕ) → j ≤ end + 1 → P j
-  up-to P end earlier last j within = elim (eq-or-lt_of_le within) [ inl same ↦ subst P (sym same) last | inr less ↦ earlier j (omega (arith, less)) ]
+  -- where no start undercuts an end up to one, nor the next, none undercuts one up to the next
+  up-to : (a end : ℕ) → ((j : ℕ) → j ≤ end → Undercuts c limit n ps a j → ⊥) → (Undercuts c limit n ps a (end + 1) → ⊥) → (j : ℕ) → j ≤ end + 1 → Undercuts c limit n ps a j → ⊥
+  up-to a end earlier last j within u = elim (eq-or-lt_of_le within) [ inl same ↦ last (subst (Undercuts c limit n ps a) same u) | inr less ↦ earlier j (omega (arith, less)) u ]
 
   -- one more end
   pub first-more : (end : ℕ) (first : Option (ℕ × ℕ)) (found : Option ℕ) → FirstAmong c limit n ps end first → LeastTo c limit n ps 0 (end + 1) found → FirstAmong c limit n ps (end + 1) (earlier_of first found (end + 1))
-  first-more end None None looked least = λ i j. up-to (λ j. Undercuts c limit n ps i j → ⊥) end (λ j within. looked i j within) (λ u. least i (omega arith) u) j
+  first-more end None None looked least = λ i j. up-to i end (looked i) (least i (omega arith)) j
   first-more end None (Some i) looked least = (
     least.0,
-    λ a b within below. up-to (λ b. Undercuts c limit n ps a b → ⊥) end (λ b within. looked a b within) (λ u. least.1 a (omega arith) below u) b within,
+    λ a b within below. up-to a end (looked a) (least.1 a (omega arith) below) b within,
     λ b below u. looked i b (omega arith) u,
   )
-  first-more end (Some first) None looked least =
-      (looked.0, λ a b within below. up-to (λ b. Undercuts c limit n ps a b → ⊥) end (λ b within. looked.1 a b within below) (λ u. least a (omega arith) u) b within, looked.2)
+  first-more end (Some first) None looked least = (looked.0, λ a b within below. up-to a end (λ b within. looked.1 a b within below) (least a (omega arith)) b within, looked.2)
   first-more end (Some first) (Some i) looked least = pick (nat_le first.0 i) refl
     where
       pick : (test : Bool) → nat_le first.0 i ≡ test → FirstAmong c limit n ps (end + 1) (if test then Some first else Some (i, end + 1))
       pick true e =
           let less : first.0 ≤ i = leb-true first.0 i e in
-          (looked.0, λ a b within below. up-to (λ b. Undercuts c limit n ps a b → ⊥) end (λ b within. looked.1 a b within below) (λ u. least.1 a (omega arith) (omega arith) u) b within, looked.2)
+          (looked.0, λ a b within below. up-to a end (λ b within. looked.1 a b within below) (least.1 a (omega arith) (omega arith)) b within, looked.2)
       pick false e =
           let more : i < first.0 = leb-false first.0 i e in (
             least.0,
-            λ a b within below. up-to (λ b. Undercuts c limit n ps a b → ⊥) end (λ b within. looked.1 a b within (omega arith)) (λ u. least.1 a (omega arith) below u) b within,
+            λ a b within below. up-to a end (λ b within. looked.1 a b within (omega arith)) (least.1 a (omega arith) below) b within,
             λ b below u. looked.1 i b (omega arith) more u,
           )
 

@@ -1,8 +1,9 @@
 -- What follows from the verdicts: an accepted answer is right, and a right answer with least totals is accepted.
-use Rattle.std.proofs.Common.{◌≡◌, ℕ, ◌+◌, ◌≤◌, List, [], ◌∷◌, Option, Some, None, Result, Ok, Err, IfOk, ◌⊎◌, inl, inr, sym, ap, ◌∙◌, subst, refl, arith}
+use Rattle.std.proofs.Common.{◌≡◌, ℕ, ◌+◌, ◌≤◌, List, [], ◌∷◌, Option, Some, None, Result, Ok, Err, IfOk, ◌⊎◌, inl, inr, sym, ap, ◌∙◌, refl, arith}
 use Rattle.std.specs.declared.alloc.AllocError.{AllocError}
 use Rattle.std.proofs.lemmas.Bool.{cases_lt}
-use Rattle.jb_cost.specs.Cut.{EachFrom, EachPiece, total, price, IsPrice, ArePrices, Hold}
+use Rattle.std.proofs.lemmas.Option.{none-some, same_Some}
+use Rattle.jb_cost.specs.Cut.{EachFrom, EachPiece, price, IsPrice, ArePrices, Hold}
 use Rattle.jb_cost.proofs.PriceBounds.{lower, exact-hold}
 use Rattle.jb_price.specs.declared.certificate.CertAnswer.{CertAnswer}
 use Rattle.jb_price.specs.declared.certificate.CertAnswer.TheVariants.{Cut, NoCut}
@@ -16,12 +17,6 @@ use Rattle.jb_price.specs.Verdict.{IsDearer, FirstOverFrom, IsFirstOver, PricesH
 dearer-or : (q : Option ℕ) (p : ℕ) → IsDearer q p ⊎ ((r : ℕ) × (q ≡ Some r) × (r ≤ p))
 dearer-or None p = inl tt
 dearer-or (Some q) p = elim (cases_lt p q) [ inl less ↦ inl less | inr most ↦ inr (q, refl, most) ]
-
-some-same : (x : Option ℕ) (p q : ℕ) → x ≡ Some p → x ≡ Some q → p ≡ q
-some-same x p q is also = let both : Some p ≡ Some q = sym is ∙ also in cc
-
-none-some : (x : Option ℕ) (p : ℕ) → x ≡ None → x ≡ Some p → ⊥
-none-some x p none some = let both : None ≡ Some p = sym none ∙ some in cc
 
 over-fits : (c : ℕ → ℕ → ℕ) (limit a : ℕ) (bs : List ℕ) (i j : ℕ) → EachFrom (λ i j. c i j ≤ limit) a bs → FirstOverFrom c limit a bs i j → ⊥
 over-fits c limit a [] i j fits over = over
@@ -46,7 +41,7 @@ module _ (c : ℕ → ℕ → ℕ) (limit n : ℕ) (ps : List (Option ℕ)) wher
   -- the prices hold where the opening price is 0 and no first undercut was found
   pub prices-hold : (first : Option (ℕ × ℕ)) → FirstAmong c limit n ps n first → first ≡ None → price ps 0 ≡ Some 0 → PricesHold c limit n ps
   prices-hold first looked none opening =
-      let looked_all : FirstAmong c limit n ps n None = subst (λ found. FirstAmong c limit n ps n found) none looked in
+      let looked_all = rw none at looked in
       record { opening = opening; no_undercut = λ i j u. looked_all i j u.within u }
 
   -- where the prices hold, what a verdict says of the answer it says of the certificate
@@ -63,12 +58,12 @@ module _ (c : ℕ → ℕ → ℕ) (limit n : ℕ) (ps : List (Option ℕ)) wher
       fitting = holds.fitting;
       least = λ other fitting.
           let low = lower c limit n ps (hold prices) other fitting in
-          let same = some-same (price ps n) sum low.0 holds.end_price low.1 in
+          let same = same_Some sum low.0 (sym holds.end_price ∙ low.1) in
           omega (arith, holds.sums, low.2);
     },
     holds.sums,
   )
-  right-accepted NoCut (prices, none) = λ other fitting. let low = lower c limit n ps (hold prices) other fitting in none-some (price ps n) low.0 none low.1
+  right-accepted NoCut (prices, none) = λ other fitting. let low = lower c limit n ps (hold prices) other fitting in none-some low.0 (sym none ∙ low.1)
 
   prices-exact : ArePrices c limit n ps → PricesHold c limit n ps
   prices-exact are =
@@ -78,26 +73,21 @@ module _ (c : ℕ → ℕ → ℕ) (limit n : ℕ) (ps : List (Option ℕ)) wher
         no_undercut = λ i j u.
             let p = u.cheaper.0 in
             let most = exact.step i j p u.before u.within u.cheaper.1 u.fits in
-            let dearer : IsDearer (Some most.0) (p + c i j) = subst (λ q. IsDearer q (p + c i j)) most.1 u.cheaper.2 in
-            omega (arith, dearer, most.2);
+            omega (arith, rw most.1 at u.cheaper.2, most.2);
       }
 
   answer-exact : (answer : CertAnswer) → ArePrices c limit n ps → IsRight c limit n answer → AnswerSays c limit n ps answer Accepted
   answer-exact (Cut bounds sum) are (least, sums) =
-      record { fitting = least.fitting; sums = sums; end_price = go (price ps n) refl (are.each n (omega arith)) }
+      record { fitting = least.fitting; sums = sums; end_price = go (price ps n) (are.each n (omega arith)) }
     where
-      go : (found : Option ℕ) → price ps n ≡ found → IsPrice c limit n found → price ps n ≡ Some sum
-      go None is none = absurd (none bounds.items least.fitting)
-      go (Some p) is exact =
-          let low : p ≤ total c bounds.items = exact.1 bounds.items least.fitting in
-          let high : total c bounds.items ≤ total c exact.0.0 = least.least exact.0.0 exact.0.1 in
-          let same : p ≡ sum = omega (arith, exact.0.2, sums) in
-          is ∙ ap Some same
-  answer-exact NoCut are none = go (price ps n) refl (are.each n (omega arith))
+      go : (found : Option ℕ) → IsPrice c limit n found → found ≡ Some sum
+      go None none = absurd (none bounds.items least.fitting)
+      go (Some p) exact = ap Some (let same : p ≡ sum = omega (arith, exact.1 bounds.items least.fitting, least.least exact.0.0 exact.0.1, exact.0.2, sums) in same)
+  answer-exact NoCut are none = go (price ps n) (are.each n (omega arith))
     where
-      go : (found : Option ℕ) → price ps n ≡ found → IsPrice c limit n found → price ps n ≡ None
-      go None is exact = is
-      go (Some p) is exact = absurd (none exact.0.0 exact.0.1)
+      go : (found : Option ℕ) → IsPrice c limit n found → found ≡ None
+      go None exact = refl
+      go (Some p) exact = absurd (none exact.0.0 exact.0.1)
 
   only-accepted : (answer : CertAnswer) → PricesHold c limit n ps → AnswerSays c limit n ps answer Accepted → (verdict : Verdict) → Says c limit n ps answer verdict → verdict ≡ Accepted
   only-accepted answer prices holds Accepted says = refl

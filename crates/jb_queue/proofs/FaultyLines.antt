@@ -1,7 +1,7 @@
 -- The first wrong line of a handle is the one at which reading ends.
-use Rattle.std.proofs.Common.{subst, ◌≡◌, ◌⊎◌, ◌∙◌, sym, ap, ℕ, ◌==◌, Bool, true, false, cond, if◌then◌else◌, List, [], ◌∷◌, ◌++◌, fold, refl, arith, inl, inr, Option, Some, None, Ok, Err, ◌+◌, length, Result, codes, MatchResult, eqb-true}
+use Rattle.std.proofs.Common.{subst, ◌≡◌, ◌⊎◌, ◌∙◌, sym, ap, ℕ, ◌==◌, true, false, cond, if◌then◌else◌, List, [], ◌∷◌, ◌++◌, fold, refl, arith, inl, inr, Some, None, Ok, Err, ◌+◌, length, Result, codes, MatchResult, eqb-true}
 use Rattle.std.specs.Option.{option_or}
-use Rattle.std.specs.List.{AllZip, AllByRecursion}
+use Rattle.std.specs.List.{AllZip}
 use Rattle.std.proofs.lemmas.Result.{MatchResult-at_ok, MatchResult-weaker, MatchResult-at_err}
 use Rattle.std.specs.Ordering.{nat_cmp, eq_by_cmp}
 use Rattle.std.specs.Cmp.{nat_cmp_total}
@@ -10,7 +10,6 @@ use Rattle.std.proofs.lemmas.Bool.Decides.{nat_tests}
 use Rattle.std.proofs.lemmas.Slice.Zip.{AllZip-long}
 use Rattle.jb_queue.specs.declared.fault.Cause.{Cause}
 use Rattle.jb_queue.specs.declared.fault.Cause.TheVariants.{HandleLine, OpWord, DataWord}
-use Rattle.jb_handle.specs.declared.word.Word.{Word}
 use Rattle.jb_text.specs.Parts.{words, spaced}
 use Rattle.jb_queue.specs.Queue.{op_of, after_ops, behind_h, handle_of, after_lines}
 use Rattle.jb_queue.specs.Grammar.{Entry, SpellsOp, SpellsHandle, last_op}
@@ -21,9 +20,9 @@ use Rattle.jb_text.proofs.Joins.{Without, words-spaced}
 use Rattle.jb_text.proofs.ReadSteps.{if-says, wrong-is}
 use Rattle.jb_queue.specs.Faults.{HasWrongWord, FirstWrongWord, IsNoHandle, IsWrongLine, FirstWrongLine}
 use Rattle.jb_queue.specs.declared.fault.QueueFault.{QueueFault}
-use Rattle.jb_queue.proofs.Walks.{each-map, walk-goes, walk-says, walk-fails}
+use Rattle.jb_queue.proofs.Walks.{each-map, each-all, walk-goes, walk-says, walk-fails}
 use Rattle.jb_queue.proofs.Ops.{put_op, ops-walk}
-use Rattle.jb_queue.proofs.FaultyOps.{ops-fault, ops-wrong, op-is, op-from, op-clear, IsDelimiter, space-delimits}
+use Rattle.jb_queue.proofs.FaultyOps.{ops-fault, ops-wrong, op-is, op-from, op-clear, space-delimits}
 use Rattle.jb_queue.proofs.Weights.{put_handle, put-length, lines-walk}
 use Rattle.std.specs.FinMap as map
 
@@ -33,11 +32,8 @@ use Rattle.std.specs.FinMap as map
 insert-last : (had : WordMap) (op : Entry) (b : ℕ) → map.get (map.insert had op.0 op.1) b ≡ option_or (if op.0 == b then Some op.1 else None) (map.get had b)
 insert-last had op b =
     let order : eq_by_cmp nat_cmp b op.0 ≡ (op.0 == b) = grind (arith, nat_tests) in
-    map.get-insert nat_cmp_total had op.0 op.1 b ∙ ap (λ test. cond test (Some op.1) (map.get had b)) order ∙ chosen (op.0 == b) op.1 (map.get had b)
-  where
-    chosen : (test : Bool) (word : Word) (other : Option Word) → cond test (Some word) other ≡ option_or (if test then Some word else None) other
-    chosen true word other = refl
-    chosen false word other = refl
+    map.get-insert nat_cmp_total had op.0 op.1 b ∙ ap (λ test. cond test (Some op.1) (map.get had b)) order
+    ∙ elim (op.0 == b) as (λ test. cond test (Some op.1) (map.get had b) ≡ option_or (if test then Some op.1 else None) (map.get had b)) [ true ↦ refl | false ↦ refl ]
 
 -- what a map has after all is known by the last op on each block
 put-last : (had : WordMap) (ops : List Entry) (b : ℕ) → map.get (fold put_op had ops) b ≡ option_or (last_op ops b) (map.get had b)
@@ -68,12 +64,12 @@ behind-says size rest =
 pub handle-says : (size : ℕ) (line : List ℕ) → MatchResult (handle_of size line) (SpellsHandle size line) (IsFaultyLine size line)
 handle-says size [] = inl refl
 handle-says size (b ∷ []) =
-    if-says (SpellsHandle size (b ∷ [])) (IsFaultyLine size (b ∷ [])) (b == 104) (Ok map.empty) (Err HandleLine)
+    if-says _ _ (b == 104) (Ok map.empty) (Err HandleLine)
     (λ h. record { texts = []; ops = []; spelled = ap (λ first. first ∷ []) (eqb-true b 104 h); each = tt; left = map.get-empty nat_cmp })
     (λ _. inl refl)
 handle-says size (b ∷ c ∷ rest) =
-    if-says (SpellsHandle size (b ∷ c ∷ rest)) (IsFaultyLine size (b ∷ c ∷ rest)) (b == 104) (behind_h size (c ∷ rest)) (Err HandleLine)
-    (λ h. if-says (SpellsHandle size (b ∷ c ∷ rest)) (IsFaultyLine size (b ∷ c ∷ rest)) (c == 32) (after_ops size map.empty (words rest)) (Err HandleLine)
+    if-says _ _ (b == 104) (behind_h size (c ∷ rest)) (Err HandleLine)
+    (λ h. if-says _ _ (c == 32) (after_ops size map.empty (words rest)) (Err HandleLine)
     (λ space. rw (eqb-true b 104 h, eqb-true c 32 space) (behind-says size rest))
     (λ _. inl refl))
     (λ _. inl refl)
@@ -85,11 +81,6 @@ handle-is size line now is = MatchResult-at_ok (SpellsHandle size line) (IsFault
 same-words : (ops : List Entry) (now : WordMap) → ((b : ℕ) → map.get now b ≡ last_op ops b) → fold put_op map.empty ops ≡ now
 same-words ops now left = map.same_map nat_cmp_total nat_cmp-IsAntisymmetric (fold put_op map.empty ops) now (λ b. ops-left ops b ∙ sym (left b))
 
-pub texts-clear : (size delimiter : ℕ) (is : IsDelimiter delimiter) (texts : List (List ℕ)) (ops : List Entry) → AllZip (SpellsOp size) texts ops → AllByRecursion (Without delimiter) texts
-texts-clear size delimiter is [] [] each = tt
-texts-clear size delimiter is (text ∷ texts) (op ∷ ops) each = (op-clear size delimiter is text op each.0, texts-clear size delimiter is texts ops each.1)
-texts-clear size delimiter is texts ops each = absurd each
-
 pub handle-from : (size : ℕ) (line : List ℕ) (now : WordMap) → SpellsHandle size line now → handle_of size line ≡ Ok now
 handle-from size line now spells = ap (handle_of size) spells.spelled ∙ from spells.texts spells.ops spells.each ∙ ap Ok (same-words spells.ops now spells.left)
   where
@@ -97,7 +88,7 @@ handle-from size line now spells = ap (handle_of size) spells.spelled ∙ from s
     from [] [] each = refl
     from [] (op ∷ ops) each = absurd each
     from (text ∷ texts) ops each =
-        ap (after_ops size map.empty) (words-spaced text texts (texts-clear size 32 space-delimits (text ∷ texts) ops each))
+        ap (after_ops size map.empty) (words-spaced text texts (each-all (SpellsOp size) (Without 32) (op-clear size 32 space-delimits) (text ∷ texts) ops each))
         ∙ walk-goes (ops-walk size) map.empty (text ∷ texts) ops (each-map (SpellsOp size) (λ word op. op_of size word ≡ Ok op) (op-from size) (text ∷ texts) ops each)
 
 -- ---- the first wrong line of a handle is the one at which reading ends

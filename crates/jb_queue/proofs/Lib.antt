@@ -1,8 +1,6 @@
-pub mod DataDigits
 pub mod DigitTable
 pub mod FaultyLines
 pub mod FaultyOps
-pub mod FaultyText
 pub mod Ops
 pub mod QueueHandles
 pub mod SpelledText

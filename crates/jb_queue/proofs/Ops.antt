@@ -1,10 +1,10 @@
 -- The words of a handle, read one by one.
-use Rattle.std.proofs.Common.{◌≡◌, ◌∙◌, sym, ap, ℕ, List, [], ◌∷◌, refl, Option, Some, None, Result, Ok, Err, IsOk, Bool, true, false, if◌then◌else◌, ◌==◌, eqb-true, Bor, option_copied}
+use Rattle.std.proofs.Common.{◌≡◌, ◌∙◌, sym, ℕ, List, [], ◌∷◌, refl, Result, Ok, Err, Bool, true, false, if◌then◌else◌, ◌==◌, eqb-true}
 use Rattle.std.specs.FinMap as map
 use Rattle.jb_queue.specs.declared.fault.Cause.{Cause}
 use Rattle.jb_queue.specs.declared.fault.Cause.TheVariants.{HandleLine, Memory}
 use Rattle.jb_handle.specs.declared.word.Word.{Word}
-use Rattle.jb_text.specs.Parts.{words, words_in}
+use Rattle.jb_text.specs.Parts.{words}
 use Rattle.jb_queue.specs.Queue.{Gives, FirstReads, BeginsHandle, op_of, after_ops, behind_h, handle_of}
 use Rattle.jb_handle.specs.Word.{WordMap}
 use Rattle.jb_queue.proofs.Walks.{IsWalk, walk-first}
@@ -20,37 +20,22 @@ pub ops-walk : (size : ℕ) → IsWalk (op_of size) put_op same_cause (after_ops
 unfolding after_ops
 ops-walk size = record { ends = λ had. refl; goes = λ had text texts op is. rw is refl; fails = λ had text texts cause is. rw is refl }
 
--- the words of a line are those that the rest leaves after what was gathered; the first of them is of the form, if the first of the rest is
-pub record ReadTo (size : ℕ) (line : List ℕ) (had : WordMap) (rest : Option (Bor (List ℕ))) : Type 0 where
-  pub reads : after_ops size had (words_in (option_copied rest)) ≡ after_ops size map.empty (words line)
-  pub first : FirstReads size (words_in (option_copied rest)) → FirstReads size (words line)
+-- the words of a line are those that are left after what was gathered; the first of them is of the form, if the first that is left is
+pub record ReadTo (size : ℕ) (line : List ℕ) (had : WordMap) (left : List (List ℕ)) : Type 0 where
+  pub reads : after_ops size had left ≡ after_ops size map.empty (words line)
+  pub first : FirstReads size left → FirstReads size (words line)
 
 -- the next word
-module _ (size : ℕ) (line : List ℕ) (had : WordMap) (rest : Option (Bor (List ℕ))) (text : Bor (List ℕ)) (word : List ℕ) (behind : Option (Bor (List ℕ)))
-    (is : rest ≡ Some text) (parts : words text.now ≡ word ∷ words_in (option_copied behind)) (so : ReadTo size line had rest) where
-  left_is : words_in (option_copied rest) ≡ word ∷ words_in (option_copied behind)
-  left_is = ap (λ r. words_in (option_copied r)) is ∙ parts
-
-  from_word : after_ops size had (word ∷ words_in (option_copied behind)) ≡ after_ops size map.empty (words line)
-  from_word = ap (after_ops size had) (sym left_is) ∙ so.reads
-
+module _ {size : ℕ} {line : List ℕ} {had : WordMap} {word : List ℕ} {left : List (List ℕ)} (so : ReadTo size line had (word ∷ left)) where
   pub op-fails : (cause : Cause) → op_of size word ≡ Err cause → after_ops size map.empty (words line) ≡ Err cause
-  op-fails cause step = sym from_word ∙ (ops-walk size).fails had word (words_in (option_copied behind)) cause step
+  op-fails cause step = sym so.reads ∙ (ops-walk size).fails had word left cause step
 
-  pub op-first : IsOk (op_of size word) → FirstReads size (words line)
-  op-first reads = so.first (rw left_is reads)
-
-  pub op-goes : (op : ℕ × Word) → op_of size word ≡ Ok op → ReadTo size line (map.insert had op.0 op.1) behind
-  op-goes op step = record {
-    reads = sym ((ops-walk size).goes had word (words_in (option_copied behind)) op step) ∙ from_word;
-    first = λ later. op-first (rw step refl);
-  }
+  pub op-goes : (op : ℕ × Word) → op_of size word ≡ Ok op → ReadTo size line (map.insert had op.0 op.1) left
+  op-goes op step = record { reads = sym ((ops-walk size).goes had word left op step) ∙ so.reads; first = λ later. so.first (rw step refl) }
 
 -- no word is left
-pub ops-whole : (size : ℕ) (line : List ℕ) (had : WordMap) (rest : Option (Bor (List ℕ))) → ((text : Bor (List ℕ)) → rest ≡ Some text → ⊥) → ReadTo size line had rest
-    → (after_ops size map.empty (words line) ≡ Ok had) × FirstReads size (words line)
-ops-whole size line had None ended so = (sym so.reads ∙ (ops-walk size).ends had, so.first tt)
-ops-whole size line had (Some text) ended so = absurd (ended text refl)
+pub ops-whole : {size : ℕ} {line : List ℕ} {had : WordMap} → ReadTo size line had [] → after_ops size map.empty (words line) ≡ Ok had
+ops-whole {size} {line} {had} so = sym so.reads ∙ (ops-walk size).ends had
 
 -- a fault of a part is one of the whole
 pub gives-on : {A B : Type 0} (cause : Cause) (part : Result A Cause) (whole : Result B Cause) → ((cause' : Cause) → part ≡ Err cause' → whole ≡ Err cause') → Gives {A = A} (Err cause) part → Gives {A = B} (Err cause) whole

@@ -1,14 +1,14 @@
 -- The handles of a queue, read from its text one by one.
-use Rattle.std.proofs.Common.{◌≡◌, ◌∙◌, sym, ap, subst, ℕ, zero, suc, ◌+◌, ◌-◌, ◌<◌, ◌≤◌, List, [], ◌∷◌, ◌++◌, length, length-append, drop, get_or, arith, refl, Option, Some, Result, Ok, Err, IsOk, append_assoc, drop-drop, length-drop}
-use Rattle.std.proofs.Math.Seq.{drop-nil, get_or-append_seam}
+use Rattle.std.proofs.Common.{◌≡◌, ◌∙◌, sym, ap, subst, ℕ, zero, suc, ◌+◌, ◌<◌, ◌≤◌, List, [], ◌∷◌, ◌++◌, length, length-append, drop, get_or, arith, refl, Result, Ok, Err, IsOk, append_assoc, drop-drop, length-drop}
+use Rattle.std.proofs.Math.Seq.{get_or-append_seam}
+use Rattle.std.proofs.lemmas.List.{drop_all}
 use Rattle.std.proofs.lemmas.Slice.Zip.{AllZip-long}
 use Rattle.jb_queue.specs.declared.fault.Cause.{Cause}
 use Rattle.jb_queue.specs.declared.fault.QueueFault.{QueueFault}
 use Rattle.jb_handle.specs.declared.stopped.Stopped.{Stopped}
 use Rattle.jb_handle.specs.Word.{WordMap}
 use Rattle.jb_queue.specs.Queue.{IsCount, after_lines, handle_of, handles_or_none}
-use Rattle.jb_text.specs.Parts.{read_first}
-use Rattle.jb_queue.proofs.Weights.{after-first, lines-walk, handles-are}
+use Rattle.jb_queue.proofs.Weights.{lines-walk, handles-are}
 use Rattle.jb_queue.proofs.Walks.{walk-first}
 
 -- after one line more
@@ -17,9 +17,7 @@ drop-more n ls line more is = sym (drop-drop 1 n ls) ∙ ap (drop 1) is
 
 -- after more lines than there are
 pub drop-past : {A : Type 0} (n m : ℕ) (ls : List A) → drop n ls ≡ [] → n ≤ m → drop m ls ≡ []
-drop-past n m ls is less =
-    let whole : n + (m - n) ≡ m = omega (arith, less) in
-    subst (λ k. drop k ls ≡ []) whole (sym (drop-drop (m - n) n ls) ∙ ap (drop (m - n)) is ∙ drop-nil (m - n))
+drop-past n m ls is less = drop_all m ls (omega (arith, ap length is, length-drop n ls, less))
 
 -- after handles of this number, the lines give all
 pub record IsAt (size : ℕ) (all : List Stopped) (at : ℕ) (ls : List (List ℕ)) : Type 0 where
@@ -31,20 +29,8 @@ pub record IsAt (size : ℕ) (all : List Stopped) (at : ℕ) (ls : List (List �
 pub number-all : (size : ℕ) (all : List Stopped) (at : ℕ) (ls : List (List ℕ)) → IsAt size all at ls → length all ≡ at + length ls
 number-all size all at ls placed =
     let are = handles-are size placed.had all ls placed.reads in
-    let sums = ap length are.whole ∙ length-append placed.had are.handles in
     let number = AllZip-long (λ line handle. handle_of size line ≡ Ok handle.words) ls are.handles are.each in
-    omega (arith, sums, placed.number, number)
-
--- lines are passed over
-pub passes : (size : ℕ) (all : List Stopped) (n at to : ℕ) (ls : List (List ℕ)) → IsAt size all at ls → to ≡ at + n → n ≤ length ls → IsAt size all to (drop n ls)
-passes size all zero at to ls placed is within = record { had = placed.had; number = (let has = placed.number in omega (arith, has, is)); reads = placed.reads }
-passes size all (suc n) at to [] placed is within = absurd (omega (arith, within))
-passes size all (suc n) at to (line ∷ ls) placed is within =
-    let first = walk-first (lines-walk size) placed.had all line ls placed.reads in
-    let one : Stopped = record { ticket = length placed.had; words = first.0 } in
-    passes size all n (at + 1) to ls
-    (record { had = placed.had ++ one ∷ []; number = (let sums = length-append placed.had (one ∷ []) in let has = placed.number in omega (arith, sums, has)); reads = first.2 })
-    (omega (arith, is)) (omega (arith, within))
+    omega (arith, ap length are.whole, length-append placed.had are.handles, placed.number, number)
 
 -- the handle at a place, and what is left after it
 pub record Next (size : ℕ) (all : List Stopped) (at : ℕ) (line : List ℕ) (more : List (List ℕ)) : Type 0 where
@@ -61,53 +47,31 @@ next-here size all at line more placed =
     let are = handles-are size (placed.had ++ one ∷ []) all more first.2 in
     let parts : all ≡ placed.had ++ one ∷ are.handles = are.whole ∙ append_assoc placed.had (one ∷ []) are.handles in
     record {
-      there = (let whole = number-all size all at (line ∷ more) placed in omega (arith, whole));
+      there = omega (arith, number-all size all at (line ∷ more) placed);
       words = first.0;
       read = first.1;
       is = λ d. sym (ap (λ (x : Stopped). x.words) (ap (λ hs. get_or hs at d) parts ∙ ap (λ n. get_or (placed.had ++ one ∷ are.handles) n d) (sym placed.number) ∙ get_or-append_seam placed.had one are.handles d));
-      after = record { had = placed.had ++ one ∷ []; number = (let sums = length-append placed.had (one ∷ []) in let has = placed.number in omega (arith, sums, has)); reads = first.2 };
+      after = record { had = placed.had ++ one ∷ []; number = omega (arith, length-append placed.had (one ∷ []), placed.number); reads = first.2 };
     }
+
+-- lines are passed over
+passes : (size : ℕ) (all : List Stopped) (n at to : ℕ) (ls : List (List ℕ)) → IsAt size all at ls → to ≡ at + n → n ≤ length ls → IsAt size all to (drop n ls)
+passes size all zero at to ls placed is within = subst (λ n. IsAt size all n ls) (let same : at ≡ to = omega (arith, is) in same) placed
+passes size all (suc n) at to [] placed is within = absurd (omega (arith, within))
+passes size all (suc n) at to (line ∷ ls) placed is within = passes size all n (at + 1) to ls (next-here size all at line ls placed).after (omega (arith, is)) (omega (arith, within))
 
 pub next-is : (size : ℕ) (all : List Stopped) (n at : ℕ) (ls : List (List ℕ)) (line : List ℕ) (more : List (List ℕ)) → IsAt size all at ls → drop n ls ≡ line ∷ more → Next size all (at + n) line more
 next-is size all n at ls line more placed is =
-    let less = ap length is in
-    let dropped = length-drop n ls in
-    next-here size all (at + n) line more (subst (IsAt size all (at + n)) is (passes size all n at (at + n) ls placed refl (omega (arith, less, dropped))))
+    next-here size all (at + n) line more (rw is at (passes size all n at (at + n) ls placed refl (omega (arith, ap length is, length-drop n ls))))
 
 -- no handle is left
 pub none-left : (size : ℕ) (all : List Stopped) (n at : ℕ) (ls : List (List ℕ)) → IsAt size all at ls → drop n ls ≡ [] → length all ≤ at + n
-none-left size all n at ls placed is =
-    let whole = number-all size all at ls placed in
-    let less = ap length is in
-    let dropped = length-drop n ls in
-    omega (arith, whole, less, dropped)
-
--- all handles are counted
-pub count-all : (size : ℕ) (had : List Stopped) (ls : List (List ℕ)) (whole : Result (List Stopped) QueueFault) (count : ℕ) → ls ≡ [] → after_lines size had ls ≡ whole → count ≡ length had → IsCount whole count
-count-all size had ls whole count none so_far is = subst (λ read. IsCount read count) (sym ((lines-walk size).ends had) ∙ ap (after_lines size had) (sym none) ∙ so_far) is
-
--- what is left of some lines after the first one, which was read
-first-off : {A : Type 0} (read : List ℕ → Option A) (ls : List (List ℕ)) (x : A) (more : List (List ℕ)) → ◌≡◌ {A = Option (A × List (List ℕ))} (Some (x, more)) (read_first read ls) → more ≡ drop 1 ls
-first-off read [] x more is = cc
-first-off read (line ∷ rest) x more is = after-first rest (read line) x more is
-
--- and after the second one
-pub second-off : {A B : Type 0} (one : List ℕ → Option A) (other : List ℕ → Option B) (ls second third : List (List ℕ)) (x : A) (y : B)
-    → ◌≡◌ {A = Option (A × List (List ℕ))} (Some (x, second)) (read_first one ls) → ◌≡◌ {A = Option (B × List (List ℕ))} (Some (y, third)) (read_first other second) → third ≡ drop 2 ls
-second-off one other ls second third x y is also = first-off other second y third also ∙ ap (drop 1) (first-off one ls x second is) ∙ drop-drop 1 1 ls
+none-left size all n at ls placed is = omega (arith, number-all size all at ls placed, ap length is, length-drop n ls)
 
 -- the handles that were counted
-pub counted-ok : (read : Result (List Stopped) QueueFault) (count : ℕ) → IsCount read count → IsOk read
-counted-ok (Ok handles) count is = refl
-counted-ok (Err fault) count is = absurd is
-
-pub counted-are : (read : Result (List Stopped) QueueFault) → IsOk read → read ≡ Ok (handles_or_none read)
-counted-are (Ok handles) is = refl
-counted-are (Err fault) is = cc
-
-pub counted-number : (read : Result (List Stopped) QueueFault) (count : ℕ) → IsCount read count → count ≡ length (handles_or_none read)
-counted-number (Ok handles) count is = is
-counted-number (Err fault) count is = absurd is
+pub counted-is : (read : Result (List Stopped) QueueFault) (count : ℕ) → IsCount read count → IsOk read × (read ≡ Ok (handles_or_none read)) × (count ≡ length (handles_or_none read))
+counted-is (Ok handles) count is = (refl, refl, is)
+counted-is (Err fault) count is = absurd is
 
 -- one line has one handle's words
 pub same-words : (read : Result WordMap Cause) (one other : WordMap) → read ≡ Ok one → read ≡ Ok other → one ≡ other

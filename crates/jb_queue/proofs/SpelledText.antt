@@ -1,8 +1,8 @@
 -- A queue text is read exactly where it spells a queue, and else has a first fault.
-use Rattle.std.proofs.Common.{subst, ◌↔◌, ◌≡◌, ◌∙◌, sym, ap, ap₂, ℕ, ◌^◌, ◌<◌, ◌≤◌, ◌&&◌, nat_le, Bool, true, false, if◌then◌else◌, List, [], ◌∷◌, ◌++◌, length, length-append, refl, arith, append_assoc, Option, Some, None, Result, Ok, Err, inl, inr, codes, decimal, option_and_then, MatchOption, MatchResult, bytes_eq, append-nil}
-use Rattle.std.specs.List.{AllZip, AllByRecursion}
-use Rattle.std.proofs.lemmas.Result.{MatchResult-at_ok, MatchResult-weaker}
-use Rattle.std.proofs.lemmas.Option.{option_and_then_some}
+use Rattle.std.proofs.Common.{subst, ◌↔◌, ◌≡◌, ◌∙◌, sym, ap, ℕ, ◌^◌, ◌<◌, ◌≤◌, ◌&&◌, nat_le, true, List, [], ◌∷◌, ◌++◌, length, length-append, refl, arith, append_assoc, Option, Some, None, Result, Ok, inl, inr, codes, decimal, option_and_then, MatchResult, bytes_eq, append-nil, Err}
+use Rattle.std.specs.List.{AllZip}
+use Rattle.std.proofs.lemmas.Result.{MatchResult-at_ok, MatchResult-weaker, MatchResult-at_err}
+use Rattle.std.proofs.lemmas.Option.{option_and_then_some, cond_some, some_pair_parts}
 use Rattle.std.proofs.lemmas.Bool.Decides.{nat_tests}
 use Rattle.std.proofs.lemmas.Slice.Eq.{bytes_eq-Decides}
 use Rattle.jb_block.specs.declared.size.BlockSize.{BlockSize}
@@ -14,20 +14,20 @@ use Rattle.jb_queue.specs.declared.fault.Cause.TheVariants.{BlockSizeLine, Limit
 use Rattle.jb_queue.specs.declared.fault.QueueFault.{QueueFault}
 use Rattle.jb_handle.specs.declared.stopped.Stopped.{Stopped}
 use Rattle.jb_text.specs.Parts.{◌>>=◌, before, onward, lines, spaced, read_first, behind_word, number_of, and_then}
-use Rattle.jb_queue.specs.Queue.{Queue, at_line, both_of, or_cause, where_true, format_behind, format_of, limit_in_line, size_of_bytes, width_behind, handle_of, after_lines, queue_of}
+use Rattle.jb_queue.specs.Queue.{Queue, at_line, both_of, or_cause, where_true, format_behind, format_of, limit_in_line, size_of_bytes, width_behind, after_lines, queue_of}
 use Rattle.jb_text.specs.Lines.{AreLines}
-use Rattle.jb_queue.specs.Grammar.{width_text, format_line, SpellsHandle, Spells}
+use Rattle.jb_queue.specs.Grammar.{width_text, format_line, SpellsOp, SpellsHandle, Spells}
 use Rattle.jb_handle.specs.Tickets.{TicketsFrom}
 use Rattle.jb_handle.specs.Word.{WordMap}
-use Rattle.jb_text.proofs.ReadSteps.{FirstFails, FirstGives, first-says, behind-read}
-use Rattle.jb_queue.specs.Faults.{HasNoFormat, HasNoLimit, HandleFault, FirstFaultOf}
-use Rattle.jb_queue.proofs.Walks.{each-map}
-use Rattle.jb_queue.proofs.FaultyLines.{lines-fault, handle-is, handle-from, texts-clear}
+use Rattle.jb_text.proofs.ReadSteps.{IsForm, first-by, known, then-says, behind-read, first-none, wrong-is}
+use Rattle.jb_queue.specs.Faults.{HandleFault, FirstFaultOf, HasNoFormat, FirstFault}
+use Rattle.jb_queue.proofs.Walks.{each-map, each-all}
+use Rattle.jb_queue.proofs.FaultyLines.{lines-fault, handle-is, handle-from, lines-wrong}
 use Rattle.jb_queue.proofs.Weights.{lines-walk, handles-are}
 use Rattle.jb_text.proofs.Grammar.{lines-are, are-lines, IsLine}
-use Rattle.jb_text.proofs.Joins.{Without, literal-without, without-append, before-put, onward-put, before-whole, onward-none, spaced-without, decimal-without}
+use Rattle.jb_text.proofs.Joins.{Without, Begins, literal-without, literal-put, without-append, parts-put, spaced-without, decimal-without}
 use Rattle.jb_text.proofs.Numerals.{number-is_decimal, decimal-is_number}
-use Rattle.jb_queue.proofs.FaultyOps.{feed-delimits}
+use Rattle.jb_queue.proofs.FaultyOps.{feed-delimits, op-clear}
 use Rattle.jb_text.proofs.Splits.{parted}
 
 -- the two first lines
@@ -41,20 +41,14 @@ digits-case digits size is = option_and_then_some size_of_bytes (number_of digit
 
 width-is : (text : List ℕ) (width : Width) → width_behind text ≡ Some width → text ≡ width_text width
 width-is [] width is = let same : Narrow ≡ width = cc in ap width_text same
-width-is (b ∷ bs) width is = from (bytes_eq (b ∷ bs) (codes " wide")) refl is
-  where
-    from : (test : Bool) → bytes_eq (b ∷ bs) (codes " wide") ≡ test → (if test then Some Wide else None) ≡ Some width → b ∷ bs ≡ width_text width
-    from false other gives = cc
-    from true holds gives =
-        let same : Wide ≡ width = cc in
-        (bytes_eq-Decides (b ∷ bs) (codes " wide")).0 holds ∙ ap width_text same
+width-is (b ∷ bs) width is =
+    let found = cond_some (bytes_eq (b ∷ bs) (codes " wide")) Wide width is in
+    (bytes_eq-Decides (b ∷ bs) (codes " wide")).0 found.0 ∙ ap width_text found.1
 
 both-is : (size : Option BlockSize) (width : Option Width) (format : BlockSize × Width) → both_of size width ≡ Some format → (size ≡ Some format.0) × (width ≡ Some format.1)
 both-is None width format is = cc
 both-is (Some size) None format is = cc
-both-is (Some size) (Some width) format is =
-    let same : ◌≡◌ {A = BlockSize × Width} (size, width) format = cc in
-    (ap (λ (f : BlockSize × Width). Some f.0) same, ap (λ (f : BlockSize × Width). Some f.1) same)
+both-is (Some size) (Some width) format is = let same = some_pair_parts size format.0 width format.1 is in (ap Some same.0, ap Some same.1)
 
 pub format-is : (line : List ℕ) (format : BlockSize × Width) → format_of line ≡ Some format → line ≡ format_line format.0 format.1
 format-is line format is =
@@ -77,14 +71,9 @@ size-back OneKib = rw (decimal-is_number 1024 (omega arith)) refl
 size-back TwoKib = rw (decimal-is_number 2048 (omega arith)) refl
 size-back FourKib = rw (decimal-is_number 4096 (omega arith)) refl
 
-parts-back : (size : BlockSize) (width : Width) → (before 32 (decimal (bytes_of size) ++ width_text width) ≡ decimal (bytes_of size)) × (onward 32 (decimal (bytes_of size) ++ width_text width) ≡ width_text width)
-parts-back size Narrow =
-    let clear = decimal-without 32 (bytes_of size) refl (size-fits size) in
-    let alone = append-nil (decimal (bytes_of size)) in
-    (ap (before 32) alone ∙ before-whole 32 (decimal (bytes_of size)) clear, ap (onward 32) alone ∙ onward-none 32 (decimal (bytes_of size)) clear)
-parts-back size Wide =
-    let clear = decimal-without 32 (bytes_of size) refl (size-fits size) in
-    (before-put 32 (decimal (bytes_of size)) (codes "wide") clear, onward-put 32 (decimal (bytes_of size)) (codes "wide") clear)
+width-begins : (width : Width) → Begins 32 (width_text width)
+width-begins Narrow = tt
+width-begins Wide = refl
 
 width-back : (width : Width) → width_behind (width_text width) ≡ Some width
 width-back Narrow = refl
@@ -92,9 +81,8 @@ width-back Wide = refl
 
 pub format-from : (size : BlockSize) (width : Width) → format_of (format_line size width) ≡ Some (size, width)
 format-from size width =
-    let parts = parts-back size width in
-    ap₂ (λ digits rest. both_of (option_and_then size_of_bytes (number_of digits)) (width_behind rest)) parts.0 parts.1
-    ∙ ap₂ both_of (size-back size) (width-back width)
+    let parts = parts-put 32 (decimal (bytes_of size)) (width_text width) (decimal-without 32 (bytes_of size) refl (size-fits size)) (width-begins width) in
+    rw (parts.0, parts.1, size-back size, width-back width) refl
 
 limit-case : (n : Option ℕ) (limit : ℕ) → and_then n (λ m. where_true (nat_le 3 m && nat_le m 2147483646) m) ≡ Some limit → (n ≡ Some limit) × (3 ≤ limit) × (limit ≤ 2147483646)
 limit-case None limit is = cc
@@ -110,6 +98,13 @@ pub limit-from : (limit : ℕ) → 3 ≤ limit → limit ≤ 2147483646 → limi
 limit-from limit least most =
     let holds : (nat_le 3 limit && nat_le limit 2147483646) ≡ true = grind (arith, nat_tests, least, most) in
     rw (decimal-is_number limit (omega arith), holds) refl
+
+-- the two first lines are read where they are shown
+pub format-form : IsForm format_of (λ format. format_line format.0 format.1) (λ format. Unit {0})
+format-form = record { is = λ line format is. (format-is line format is, tt); back = λ format fits. format-from format.0 format.1 }
+
+pub limit-form : IsForm limit_in_line (λ limit. codes "limit " ++ decimal limit) (λ limit. (3 ≤ limit) × (limit ≤ 2147483646))
+limit-form = record { is = λ line limit is. let found = limit-is line limit is in (found.0, (found.1, found.2)); back = λ limit fits. limit-from limit fits.0 fits.1 }
 
 -- what spells handles is read to them
 handles-from : (size : ℕ) (had : List Stopped) (left : List (List ℕ)) (handles : List Stopped) → AllZip (λ line handle. SpellsHandle size line handle.words) left handles → TicketsFrom (length had) handles → after_lines size had left ≡ Ok (had ++ handles)
@@ -143,22 +138,20 @@ pub record SpellsLines (all : List (List ℕ)) (queue : Queue) : Type 0 where
 
 handles-say : (all : List (List ℕ)) (format : BlockSize × Width) (limit : ℕ) (more : List (List ℕ)) → all ≡ format_line format.0 format.1 ∷ (codes "limit " ++ decimal limit) ∷ more → 3 ≤ limit → limit ≤ 2147483646
     → MatchResult (behind_limit format limit more) (SpellsLines all) (HandleFault all)
-handles-say all format limit more parts least most = by (after_lines (bytes_of format.0) [] more) refl
-  where
-    by : (handles : Result (List Stopped) QueueFault) → after_lines (bytes_of format.0) [] more ≡ handles
-        → MatchResult (handles >>= λ hs. Ok (record { size = format.0; limit = limit; width = format.1; handles = hs })) (SpellsLines all) (HandleFault all)
-    by (Ok handles) reads =
-        let are = handles-are (bytes_of format.0) [] handles more reads in
-        let spells = each-map (λ line handle. handle_of (bytes_of format.0) line ≡ Ok handle.words) (λ line handle. SpellsHandle (bytes_of format.0) line handle.words) (λ line handle. handle-is (bytes_of format.0) line handle.words) more are.handles are.each in
-        record {
-          more = more;
-          parts = parts;
-          least = least;
-          most = most;
-          each = subst (AllZip (λ line handle. SpellsHandle (bytes_of format.0) line handle.words) more) (sym are.whole) spells;
-          tickets = subst (TicketsFrom 0) (sym are.whole) are.tickets;
-        }
-    by (Err fault) fails = record {
+handles-say all format limit more parts least most =
+    let size = bytes_of format.0 in
+    then-says _ _ (after_lines size [] more) (λ handles. Ok (record { size = format.0; limit = limit; width = format.1; handles = handles })) (known (after_lines size [] more))
+    (λ handles reads.
+    let are = handles-are size [] handles more reads in
+    record {
+      more = more;
+      parts = parts;
+      least = least;
+      most = most;
+      each = rw are.whole (each-map _ _ (λ line handle. handle-is size line handle.words) more are.handles are.each);
+      tickets = rw are.whole are.tickets;
+    })
+    (λ fault fails. record {
       size = format.0;
       width = format.1;
       limit = limit;
@@ -166,35 +159,22 @@ handles-say all format limit more parts least most = by (after_lines (bytes_of f
       parts = parts;
       least = least;
       most = most;
-      wrong = lines-fault (bytes_of format.0) more fault fails;
-    }
-
-no-limit : (rest : List (List ℕ)) → FirstFails limit_in_line rest → HasNoLimit rest
-no-limit rest none limit more least most is =
-    let never : ◌≡◌ {A = Option ℕ} None (Some limit) = sym (none (codes "limit " ++ decimal limit) more is) ∙ limit-from limit least most in cc
+      wrong = lines-fault size more fault fails;
+    })
 
 limit-says : (all : List (List ℕ)) (format : BlockSize × Width) (rest : List (List ℕ)) → all ≡ format_line format.0 format.1 ∷ rest → MatchResult (behind_format format rest) (SpellsLines all) (FirstFaultOf all)
-limit-says all format rest parts = by (read_first limit_in_line rest) (first-says limit_in_line rest)
-  where
-    by : (got : Option (ℕ × List (List ℕ))) → MatchOption got (FirstFails limit_in_line rest) (FirstGives limit_in_line rest)
-        → MatchResult (at_line 2 (or_cause LimitLine got) >>= λ found. behind_limit format found.0 found.1) (SpellsLines all) (FirstFaultOf all)
-    by None none = inr (inl (refl, record { size = format.0; width = format.1; more = rest; parts = parts; none = no-limit rest none }))
-    by (Some got) gives =
-        let limit = limit-is gives.0 got.0 gives.2 in
-        let second = ap (λ ls. format_line format.0 format.1 ∷ ls) (gives.1 ∙ ap (λ line. line ∷ got.1) limit.0) in
-        MatchResult-weaker (behind_limit format got.0 got.1) (handles-say all format got.0 got.1 (parts ∙ second) limit.1 limit.2) (λ queue spells. spells) (λ fault wrong. inr (inr wrong))
-
-no-format : (all : List (List ℕ)) → FirstFails format_of all → HasNoFormat all
-no-format all none size width more is =
-    let never : ◌≡◌ {A = Option (BlockSize × Width)} None (Some (size, width)) = sym (none (format_line size width) more is) ∙ format-from size width in cc
+limit-says all format rest parts =
+    first-by limit-form (λ got. MatchResult (at_line 2 (or_cause LimitLine got) >>= λ found. behind_limit format found.0 found.1) (SpellsLines all) (FirstFaultOf all)) rest
+    (λ none. inr (inl (refl, record { size = format.0; width = format.1; more = rest; parts = parts; none = λ limit more least most is. none limit more is (least, most) })))
+    (λ limit more is fits.
+    let two = parts ∙ ap (λ ls. format_line format.0 format.1 ∷ ls) is in
+    MatchResult-weaker (behind_limit format limit more) (handles-say all format limit more two fits.0 fits.1) (λ queue spells. spells) (λ fault wrong. inr (inr wrong)))
 
 pub read-says : (all : List (List ℕ)) → MatchResult (read all) (SpellsLines all) (FirstFaultOf all)
-read-says all = by (read_first format_of all) (first-says format_of all)
-  where
-    by : (got : Option ((BlockSize × Width) × List (List ℕ))) → MatchOption got (FirstFails format_of all) (FirstGives format_of all)
-        → MatchResult (at_line 1 (or_cause BlockSizeLine got) >>= λ found. behind_format found.0 found.1) (SpellsLines all) (FirstFaultOf all)
-    by None none = inl (refl, no-format all none)
-    by (Some got) gives = limit-says all got.0 got.1 (gives.1 ∙ ap (λ line. line ∷ got.1) (format-is gives.0 got.0 gives.2))
+read-says all =
+    first-by format-form (λ got. MatchResult (at_line 1 (or_cause BlockSizeLine got) >>= λ found. behind_format found.0 found.1) (SpellsLines all) (FirstFaultOf all)) all
+    (λ none. inl (refl, λ size width more is. none (size, width) more is tt))
+    (λ format more is _. limit-says all format more is)
 
 pub queue-is : (text : List ℕ) (queue : Queue) → queue_of text ≡ Ok queue → Spells text queue
 queue-is text queue reads =
@@ -211,16 +191,8 @@ queue-is text queue reads =
 -- and back
 handle-line : (size : ℕ) (line : List ℕ) (words : WordMap) → SpellsHandle size line words → IsLine line
 handle-line size line words spells =
-    let clear = texts-clear size 10 feed-delimits spells.texts spells.ops spells.each in
-    subst IsLine (sym spells.spelled) (omega arith, without-append 10 (codes "h") (spaced spells.texts) (literal-without 10 (codes "h") refl) (spaced-without 10 spells.texts (λ same. cc) clear))
-
-handle-lines : (size : ℕ) (left : List (List ℕ)) (handles : List Stopped) → AllZip (λ line handle. SpellsHandle size line handle.words) left handles → AllByRecursion IsLine left
-handle-lines size [] [] each = tt
-handle-lines size (line ∷ more) (h ∷ hs) each = (handle-line size line h.words each.0, handle-lines size more hs each.1)
-handle-lines size left handles each = absurd each
-
-number-line : (word : List ℕ) (n : ℕ) → 0 < length word → Without 10 word → n < 2 ^ 64 → IsLine (word ++ decimal n)
-number-line word n some clear fits = (omega (arith, length-append word (decimal n)), without-append 10 word (decimal n) clear (decimal-without 10 n refl fits))
+    let clear = each-all (SpellsOp size) (Without 10) (op-clear size 10 feed-delimits) spells.texts spells.ops spells.each in
+    subst IsLine (sym spells.spelled) (omega arith, literal-put 10 (codes "h") (spaced spells.texts) refl (spaced-without 10 spells.texts (λ same. cc) clear))
 
 format-clear : (width : Width) → Without 10 (width_text width)
 format-clear Narrow = tt
@@ -234,11 +206,11 @@ queue-from text queue spells =
     let parts : lines text ≡ all = are-lines all text spells.spelled (
       (
         omega (arith, length-append (codes "bs ") (decimal (bytes_of queue.size) ++ width_text queue.width)),
-        without-append 10 (codes "bs ") (decimal (bytes_of queue.size) ++ width_text queue.width) (literal-without 10 (codes "bs ") refl) numbered,
+        literal-put 10 (codes "bs ") _ refl numbered,
       ),
       (
-        number-line (codes "limit ") queue.limit (omega arith) (literal-without 10 (codes "limit ") refl) (omega (arith, spells.most)),
-        handle-lines (bytes_of queue.size) spells.handle_lines queue.handles spells.each,
+        (omega arith, literal-put 10 (codes "limit ") _ refl (decimal-without 10 queue.limit refl (omega (arith, spells.most)))),
+        each-all _ IsLine (λ line handle. handle-line (bytes_of queue.size) line handle.words) spells.handle_lines queue.handles spells.each,
       ),
     ) in
     ap read parts
@@ -246,3 +218,30 @@ queue-from text queue spells =
 
 pub spelled : (text : List ℕ) (queue : Queue) → (queue_of text ≡ Ok queue) ↔ Spells text queue
 spelled text queue = (queue-is text queue, queue-from text queue)
+
+-- ---- and the first fault of a text is the one at which reading ends
+
+read-fault : (all : List (List ℕ)) (fault : QueueFault) → read all ≡ Err fault → FirstFaultOf all fault
+read-fault all fault is = MatchResult-at_err (SpellsLines all) (FirstFaultOf all) fault is (read-says all)
+
+-- and back
+format-wrong : (all : List (List ℕ)) → HasNoFormat all → read all ≡ Err (record { line = 1; cause = BlockSizeLine })
+format-wrong all none = wrong-is (read all) (record { line = 1; cause = BlockSizeLine }) (read-says all) (λ queue spells. none queue.size queue.width _ spells.parts) (λ fault no. elim no [
+  | inl here ↦ here.0
+  | inr (inl later) ↦ absurd (none later.1.size later.1.width later.1.more later.1.parts)
+  | inr (inr later) ↦ absurd (none later.size later.width _ later.parts)
+])
+
+read-wrong : (all : List (List ℕ)) (fault : QueueFault) → FirstFaultOf all fault → read all ≡ Err fault
+read-wrong all fault found = elim found [
+  | inl format ↦ format-wrong all format.1 ∙ ap Err (sym format.0)
+  | inr (inl limit) ↦
+      let at = limit.1 in
+      ap read at.parts ∙ rw (format-from at.size at.width, first-none limit-form at.more (λ limit more is fits. at.none limit more fits.0 fits.1 is)) (ap Err (sym limit.0))
+  | inr (inr at) ↦
+      ap read at.parts
+      ∙ rw (format-from at.size at.width, limit-from at.limit at.least at.most, lines-wrong (bytes_of at.size) at.more fault at.wrong) refl
+]
+
+pub first_faults : (text : List ℕ) (fault : QueueFault) → (queue_of text ≡ Err fault) ↔ FirstFault text fault
+first_faults text fault = (read-fault (lines text) fault, read-wrong (lines text) fault)

@@ -1,12 +1,18 @@
 -- A list that is read item by item, up to the first that cannot be read.
 use Rattle.std.proofs.Common.{◌≡◌, ◌⊎◌, ◌∙◌, sym, ap, List, [], ◌∷◌, ◌++◌, fold, refl, Result, Ok, Err, inl, inr, MatchResult}
-use Rattle.std.specs.List.{AllZip}
+use Rattle.std.specs.List.{AllZip, AllByRecursion}
 
 -- two lists whose items belong together also do so by what follows of each two
 pub each-map : {A B : Type 0} (R Q : A → B → Type 0) → ((x : A) (y : B) → R x y → Q x y) → (xs : List A) (ys : List B) → AllZip R xs ys → AllZip Q xs ys
 each-map R Q then [] [] each = tt
 each-map R Q then (x ∷ xs) (y ∷ ys) each = (then x y each.0, each-map R Q then xs ys each.1)
 each-map R Q then xs ys each = absurd each
+
+-- and each item of the first does so by itself
+pub each-all : {A B : Type 0} (R : A → B → Type 0) (P : A → Type 0) → ((x : A) (y : B) → R x y → P x) → (xs : List A) (ys : List B) → AllZip R xs ys → AllByRecursion P xs
+each-all R P then [] [] each = tt
+each-all R P then (x ∷ xs) (y ∷ ys) each = (then x y each.0, each-all R P then xs ys each.1)
+each-all R P then xs ys each = absurd each
 
 -- all items were read
 pub record ReadsAll {X Y E : Type 0} (read : X → Result Y E) (xs : List X) : Type 0 where
@@ -59,14 +65,11 @@ module _ {S X Y E F : Type 0} {read : X → Result Y E} {put : S → Y → S} {b
   walk-fails had (first ∷ earlier) (y ∷ ys) x later e each wrong = is.goes had first (earlier ++ x ∷ later) y each.0 ∙ walk-fails (put had y) earlier ys x later e each.1 wrong
   walk-fails had earlier ys x later e each wrong = absurd each
 
-  stopped : (had : S) (xs : List X) (at : StopsAt read xs) → walk had xs ≡ Err (blame (fold put had at.ys) at.fault)
-  stopped had xs at = ap (walk had) at.parts ∙ walk-fails had at.earlier at.ys at.item at.later at.fault at.each at.wrong
-
   -- a walk with a result read all items, and one with a fault stopped at one
   pub walk-says : (had : S) (xs : List X) → MatchResult (walk had xs) (λ now. (all : ReadsAll read xs) × (fold put had all.ys ≡ now)) (λ fault. (at : StopsAt read xs) × (blame (fold put had at.ys) at.fault ≡ fault))
   walk-says had xs = elim (either read xs) [
     | inl all ↦ rw (walk-goes had xs all.ys all.each) (all, refl)
-    | inr at ↦ rw (stopped had xs at) (at, refl)
+    | inr at ↦ rw (ap (walk had) at.parts ∙ walk-fails had at.earlier at.ys at.item at.later at.fault at.each at.wrong) (at, refl)
   ]
 
   -- no item was left

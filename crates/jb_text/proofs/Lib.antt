@@ -1,9 +1,7 @@
-pub mod CutReader
 pub mod Grammar
 pub mod Joins
 pub mod LineLeft
 pub mod Numerals
 pub mod PartByPart
-pub mod PutBytes
 pub mod ReadSteps
 pub mod Splits

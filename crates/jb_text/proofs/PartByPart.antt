@@ -1,5 +1,5 @@
--- Texts that are written part by part.
-use Rattle.std.proofs.Common.{◌≡◌, ◌+◌, ◌≤◌, ◌<◌, ℕ, List, [], ◌∷◌, ◌++◌, Option, Result, Ok, Err, min, ◌∙◌, ap, drop, get_or, length, map, subst, suc, sym, refl, arith, take}
+-- Texts that are written part by part, and each byte by byte.
+use Rattle.std.proofs.Common.{◌≡◌, ◌+◌, ◌≤◌, ◌<◌, ℕ, List, [], ◌∷◌, ◌++◌, Option, Result, Ok, Err, min, ◌∙◌, ap, drop, get_or, length, map, sym, refl, take, ◌-◌, arith, take-add, length-drop, take_all}
 use Rattle.std.proofs.Math.Seq.{take-append-add, take-length}
 use Rattle.std.proofs.Math.Nat.{min-le_right}
 use Rattle.std.proofs.lemmas.List.{drop_all, drop_more, take-append-le, take_min}
@@ -10,15 +10,11 @@ use Rattle.jb_text.specs.Puts.{Puts, PutsPart}
 
 -- the beginning of a text begins whatever the text begins
 pub part_first : (a b : Option (List ℕ)) (x y : List ℕ) → PutsPart a b x → PutsPart a b (x ++ y)
-part_first a b x y (n, part) =
-    let m = min n (length x) in
-    let short : m ≤ length x = min-le_right n (length x) in
-    (m, subst (Appends a b) (sym (take-append-le m x y short ∙ take_min n x)) part)
+part_first a b x y (n, part) = (min n (length x), rw (take-append-le (min n (length x)) x y (min-le_right n (length x)), take_min n x) part)
 
 -- a beginning after a whole text
 pub part_after : (a b c : Option (List ℕ)) (x y : List ℕ) → Appends a b x → PutsPart b c y → PutsPart a c (x ++ y)
-part_after a b c x y first (n, part) =
-    (length x + n, subst (Appends a c) (sym (take-append-add x y n)) (Appends-trans a b c x (take n y) first part))
+part_after a b c x y first (n, part) = (length x + n, rw (take-append-add x y n) (Appends-trans a b c x (take n y) first part))
 
 -- a text after another, which is written whole
 pub puts_after : {E : Type 0} → (a b c : Option (List ℕ)) (x y : List ℕ) (r : Result Unit E) → Appends a b x → Puts b c y r → Puts a c (x ++ y) r
@@ -27,7 +23,7 @@ puts_after a b c x y (Err fault) first more = part_after a b c x y first more
 
 -- what was to be written is written in part
 pub partly : {E : Type 0} → (a b : Option (List ℕ)) (x : List ℕ) (r : Result Unit E) → Puts a b x r → PutsPart a b x
-partly a b x (Ok done) whole = (length x, subst (Appends a b) (sym (take-length x)) whole)
+partly a b x (Ok done) whole = (length x, rw (take-length x) whole)
 partly a b x (Err fault) part = part
 
 -- the texts that are left, by the first of them
@@ -43,10 +39,24 @@ spelled_none text xs k past = sym (ap (λ rest. spelled (map text rest)) (drop_a
 -- a beginning of an empty text is empty
 pub none_first : (x y : List ℕ) → x ++ y ≡ [] → x ≡ []
 none_first [] y none = refl
-none_first (a ∷ x) y none =
-    let long : suc (length (x ++ y)) ≡ 0 = ap length none in
-    absurd (let never : ⊥ = omega (arith, long) in never)
+none_first (a ∷ x) y none = cc
 
 -- what is left of an empty text is empty
 pub none_after : (x y : List ℕ) → x ++ y ≡ [] → y ≡ []
-none_after x y none = subst (λ front. front ++ y ≡ []) (none_first x y none) none
+none_after [] y none = none
+none_after (a ∷ x) y none = cc
+
+-- ---- more bytes of a text after the first ones
+
+-- what is after the first m, read to the end
+pub rest_all : (text : List ℕ) (m : ℕ) → take (length text - m) (drop m text) ≡ drop m text
+rest_all text m = take_all (length text - m) (drop m text) (omega (arith, length-drop m text))
+
+-- n more bytes after the first m
+pub puts_more : (a b c : Option (List ℕ)) (text : List ℕ) (m n : ℕ) → Appends a b (take m text)
+    → Appends b c (take n (take (length text - m) (drop m text))) → Appends a c (take (m + n) text)
+puts_more a b c text m n first second = rw (take-add m n text) (Appends-trans a b c (take m text) (take n (drop m text)) first (rw (rest_all text m) at second))
+
+-- so many more bytes are still within the text
+pub within_more : (text : List ℕ) (m n : ℕ) → m ≤ length text → n ≤ length (take (length text - m) (drop m text)) → m + n ≤ length text
+within_more text m n within more = let rest = rw (rest_all text m) at more in omega (arith, length-drop m text, rest)

@@ -1,8 +1,5 @@
-use Rattle.std.proofs.Common.{◌≡◌, length, subst, ◌∙◌, arith}
-use Rattle.jb_cost.specs.declared.geometry.Geometry.{Geometry}
+use Rattle.std.proofs.Common.{◌≡◌, length, ◌∙◌, arith}
 use Rattle.jb_cost.specs.LastTouch.{owned_cost}
-use Rattle.jb_cost.specs.Search.{BestSoFar, AreBeyondLimit}
-use Rattle.jb_cost.specs.Starts.{BestStart}
 use Rattle.jb_cost.proofs.StretchSearch.{still-fit}
 use Rattle.jb_cost.proofs.BestStarts.{best-all}
 use Rattle.jb_cost.proofs.best_start.best_start.Goals as goal
@@ -15,9 +12,7 @@ loop-walk-preserved c =
       fit = still-fit _ _ c.loop-walk.shortcuts _ so_far.fit next.fit;
       walk = next.next.walk;
       geometry = next.next.geometry ∙ so_far.geometry;
-      best = λ ps fit.
-          let Goes = λ (g : Geometry). BestSoFar g c.args.owned.now c.args.limit ps c.loop-walk.walk → BestSoFar g c.args.owned.now c.args.limit ps c.in-Some.next in
-          subst Goes so_far.geometry (next.best ps (so_far.fit.prices ps fit)) (so_far.best ps fit);
+      best = λ ps fit. (rw so_far.geometry at (next.best ps (so_far.fit.prices ps fit))) (so_far.best ps fit);
     }
 
 pub returns-in-None-clause-fit : goal.returns-in-None-clause-fit
@@ -26,10 +21,10 @@ returns-in-None-clause-fit c = still-fit _ _ c.loop-walk.shortcuts _ c.loop-walk
 pub returns-in-None-clause-best : goal.returns-in-None-clause-best
 returns-in-None-clause-best c ps fit =
     let so_far = c.loop-walk.invariant in
-    let over = subst (λ (g : Geometry). AreBeyondLimit g c.args.owned.now c.args.limit c.loop-walk.walk.low) so_far.geometry c.in-None.ensures.over in
-    best-all (owned_cost c.args.geometry c.args.owned.now) c.args.limit ps c.loop-walk.walk.low (length c.args.owned.now) c.loop-walk.walk.best (so_far.best ps fit) over
+    best-all (owned_cost c.args.geometry c.args.owned.now) c.args.limit ps c.loop-walk.walk.low (length c.args.owned.now) c.loop-walk.walk.best (so_far.best ps fit)
+    (rw so_far.geometry at c.in-None.ensures.over)
 
 pub returns-after-loop-walk-clause-best : goal.returns-after-loop-walk-clause-best
 returns-after-loop-walk-clause-best c ps fit =
     let none : c.loop-walk.walk.low ≡ 0 = omega arith in
-    subst (λ low. BestStart (owned_cost c.args.geometry c.args.owned.now) c.args.limit ps low (length c.args.owned.now) c.loop-walk.walk.best) none (c.loop-walk.invariant.best ps fit)
+    rw none at (c.loop-walk.invariant.best ps fit)

@@ -3,7 +3,7 @@ use Rattle.jb_cost.specs.Cost.{blocks_of}
 use Rattle.jb_cost.specs.LastTouch.{owned_from, copies_of, frees_of}
 use Rattle.jb_cost.specs.Starts.{dearer_by}
 use Rattle.jb_cost.proofs.SpanSearch.{leap-best, leap-sums, span-room}
-use Rattle.jb_cost.proofs.StretchSearch.{idle-sums}
+use Rattle.jb_cost.proofs.StretchSearch.{goes-earlier, idle-sums}
 use Rattle.jb_cost.proofs.best_start.over_span.Goals as goal
 use Rattle.jb_cost.proofs.best_start.over_span.Goals.{After-span-span, in-Some-least, in-None}
 
@@ -17,9 +17,7 @@ sums c =
 
 -- with the span they are within the size
 room : (c : After-span-span) → (c.args.walk.tally.copies.entries + c.span-span.result.copies) + (c.args.walk.tally.frees.entries + c.span-span.result.frees) ≤ 2 ^ 62
-room c =
-    let so_far = sums c in
-    span-room c.args.walk.tally.geometry c.args.owned.now c.in-Some.end c.span-span.result c.span-span.ensures.span c.requires.few _ _ so_far.0 so_far.1
+room c = span-room c.span-span.ensures.span c.args.walk.tally (sums c) c.requires.few
 
 pub plus-tally-requires : goal.plus-tally-requires
 plus-tally-requires c = omega (arith, room (goal.at.plus-tally-requires c).After-span-span, c.owned.ensures.copies, c.owned.ensures.frees)
@@ -32,34 +30,16 @@ cost-requires-in-Some-least c = omega (arith, room (goal.at.cost-requires-in-Som
 
 pub returns-clause-next : goal.returns-clause-next
 returns-clause-next c =
-    let is = c.requires.walk.0 in
     let to = c.in-Some.ensures in
-    let walk = c.args.walk.tally in
     let span = c.span-span.ensures.span in
-    let so_far = sums (goal.at.returns-clause-next c).After-span-span in
-    let copied = c.plus-tally.ensures.copies ∙ ap (λ n. walk.copies.entries + n) c.owned.ensures.copies in
-    let freed = c.plus-tally.ensures.frees ∙ ap (λ n. walk.frees.entries + n) c.owned.ensures.frees in
-    let sums_now = leap-sums c.args.owned.now walk c.plus-tally.result c.in-Some.end c.span-span.result span so_far.0 so_far.1 c.plus-tally.ensures.geometry copied freed in
-    record {
-      walk = record {
-        copies = sums_now.0;
-        frees = sums_now.1;
-        within = omega (arith, span.back, to.inside.1, is.order.1);
-        order = (omega (arith, span.back), omega (arith, to.inside.1, is.order.1));
-        idle = span.idle;
-      };
-      earlier = omega (arith, span.back, to.end.1);
-      geometry = c.plus-tally.ensures.geometry;
-    }
+    let sums_now = leap-sums span c.args.walk.tally (sums (goal.at.returns-clause-next c).After-span-span) c.owned.result c.owned.ensures c.plus-tally.result c.plus-tally.ensures in
+    goes-earlier sums_now (omega (arith, span.back, to.end.1)) (omega (arith, span.back, to.inside.1, c.requires.walk.0.order.1)) span.idle c.plus-tally.ensures.geometry
 
 pub returns-clause-best : goal.returns-clause-best
 returns-clause-best c ps fit tried =
-    let os = c.args.owned.now in
-    let is = c.requires.walk.0 in
     let to = c.in-Some.ensures in
     let s = c.span-span.result in
     let walk = c.args.walk.tally in
-    let so_far = sums (goal.at.returns-clause-best c).After-span-span in
     let named : IsTrue c.names_as.result = search rules in
     let cost = blocks_of walk.geometry walk.copies.entries walk.frees.entries in
     let earlier : c.match-span.earlier ≡ dearer_by cost s.least = elim c.match-span.branch [
@@ -67,7 +47,7 @@ returns-clause-best c ps fit tried =
       | in-None w ↦ w.earlier-is ∙ ap (dearer_by cost) (sym w.in-None.is)
     ] in
     rw c.better.ensures
-    (leap-best os walk c.plus-tally.result c.in-Some.end s c.span-span.ensures.span so_far.0 so_far.1 c.plus-tally.ensures.geometry
-    (c.plus-tally.ensures.copies ∙ ap (λ n. walk.copies.entries + n) c.owned.ensures.copies) (c.plus-tally.ensures.frees ∙ ap (λ n. walk.frees.entries + n) c.owned.ensures.frees)
-    c.args.limit c.args.walk.low (length os) (omega (arith, c.span-span.ensures.span.back, to.end.1)) to.inside.0 (c.names_as.ensures.0 named)
-    (omega (arith, c.if-cost-from.false, c.from.ensures, c.cost.ensures)) (omega (arith, c.requires.few)) (omega (arith, to.inside.1, is.order.1)) ps c.args.walk.best c.match-span.earlier earlier (c.span-span.ensures.best ps fit) tried)
+    (leap-best c.span-span.ensures.span walk (sums (goal.at.returns-clause-best c).After-span-span) c.owned.result c.owned.ensures c.plus-tally.result c.plus-tally.ensures (c.names_as.ensures.0 named)
+    c.args.limit c.args.walk.low (length c.args.owned.now) (omega (arith, c.span-span.ensures.span.back, to.end.1)) to.inside.0
+    (omega (arith, c.if-cost-from.false, c.from.ensures, c.cost.ensures)) (omega (arith, c.requires.few)) (omega (arith, to.inside.1, c.requires.walk.0.order.1))
+    ps c.args.walk.best c.match-span.earlier earlier (c.span-span.ensures.best ps fit) tried)

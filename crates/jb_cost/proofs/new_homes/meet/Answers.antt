@@ -1,4 +1,4 @@
-use Rattle.std.proofs.Common.{◌≡◌, ◌<◌, ◌||◌, not, is_some, vec_len, vec_capacity, T, true, false, length, sym, ap, subst, ◌∙◌, arith, nat_cmp}
+use Rattle.std.proofs.Common.{◌≡◌, ◌<◌, ◌||◌, not, is_some, vec_len, vec_capacity, T, true, false, length, sym, ap, ◌∙◌, arith, nat_cmp}
 use Rattle.std.specs.BTreeSet.{contains}
 use Rattle.std.specs.FinMap as map
 use Rattle.std.proofs.lemmas.Bool.{not-true, not-false}
@@ -16,7 +16,7 @@ loop-home-init c = record {
 
 pub loop-home-preserved : goal.loop-home-preserved
 loop-home-preserved c =
-    let rising : T (map.is_sorted nat_cmp c.entries-home-items.result.now) = subst (λ es. T (map.is_sorted nat_cmp es)) (sym c.entries-home-items.ensures) (map.entries_sorted c.args.words.now) in
+    let rising : T (map.is_sorted nat_cmp c.entries-home-items.result.now) = rw c.entries-home-items.ensures (map.entries_sorted c.args.words.now) in
     let inside : c.loop-home.home-index < length c.entries-home-items.result.now = omega arith in
     let put = c.in_ok-insert.ensures.updates.0 in
     let added : c.in_ok-insert.field-0 ≡ not (contains nat_cmp c.loop-home.homes c.loop-home-item.result.0) = c.in_ok-insert.ensures.added in

@@ -5,7 +5,7 @@ use Rattle.std.proofs.lemmas.List.{get_or_read, get_or_push}
 use Rattle.std.proofs.Math.ListN.{get_or-append}
 use Rattle.jb_cost.specs.declared.owned.Touch.{Touch}
 use Rattle.jb_cost.specs.declared.owned.Owned.{Owned}
-use Rattle.jb_cost.specs.LastTouch.{IsIdle, owned_at, copies_of, frees_of, OwnsNoMore, AreOwners, later_touch}
+use Rattle.jb_cost.specs.LastTouch.{IsIdle, owned_at, copies_of, frees_of, OwnsNoMore, later_touch}
 use Rattle.jb_cost.proofs.MeetHomes.{one-kind, tied-is}
 use Rattle.jb_cost.proofs.SpanChanges.{owners-pushed, owners-more, owners-as, owner, keeps-all, keeps-after, keeps-more, spans-kept}
 use Rattle.jb_handle.proofs.RisingHomes.{find-whole}
@@ -22,7 +22,7 @@ loop-home-init c =
     record {
       at = omega arith;
       number = ap length pushed ∙ simp length-append (omega arith);
-      owners = subst (λ l. AreOwners l c.args.last.now) (sym pushed) (owners-pushed os c.args.last.now c.requires.owners c.none.result none);
+      owners = rw pushed (owners-pushed os c.args.last.now c.requires.owners c.none.result none);
       spans = keeps-after os os c.args.spans.now.items _ (keeps-all os _) c.requires.spans _ same;
       less = λ k below. subst (OwnsNoMore (owned_at os k)) (sym (same k below)) (le_refl _, le_refl _);
       follows = λ q. refl;
@@ -50,7 +50,7 @@ loop-home-preserved c =
     let freed = c.with.ensures.frees ∙ ap (λ (o : Owned). o.frees + cond t.copy 0 1) read in
     let same : (j : ℕ) → j < length os → owned_at (set mid t.handle c.with.result) j ≡ owned_at mid j = λ j below. get_or-set_other mid t.handle j c.with.result _ (λ at. omega (arith, at, below, so_far.at)) in
     let here : owned_at (set mid t.handle c.with.result) t.handle ≡ c.with.result = get_or-set_same mid t.handle c.with.result _ inside in
-    let rising : T (map.is_sorted nat_cmp c.entries-home-items.result.now) = subst (λ es. T (map.is_sorted nat_cmp es)) (sym c.entries-home-items.ensures) (map.entries_sorted c.args.words.now) in
+    let rising : T (map.is_sorted nat_cmp c.entries-home-items.result.now) = rw c.entries-home-items.ensures (map.entries_sorted c.args.words.now) in
     record {
       at = so_far.at;
       number = simp length-set (lost.number ∙ so_far.number);
@@ -65,7 +65,7 @@ loop-home-preserved c =
     }
 
 pub returns-in_err-push-clause-owners : goal.returns-in_err-push-clause-owners
-returns-in_err-push-clause-owners c = subst (λ l. AreOwners l c.args.last.now) (sym c.in_err-push.ensures.items) c.requires.owners
+returns-in_err-push-clause-owners c = rw c.in_err-push.ensures.items c.requires.owners
 
 pub returns-in_err-before-clause-owners : goal.returns-in_err-before-clause-owners
 returns-in_err-before-clause-owners c = owners-as c.loop-home.owned.items c.loop-home.last _ c.in_err-before.ensures.err c.loop-home.invariant.owners

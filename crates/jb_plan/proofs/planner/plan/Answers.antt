@@ -1,6 +1,6 @@
-use Rattle.std.proofs.Common.{◌≡◌, length, slice_index, None, sym, ◌∙◌, subst, arith}
+use Rattle.std.proofs.Common.{length, None, sym, ◌∙◌, arith}
 use Rattle.std.proofs.lemmas.List.{get_or_read}
-use Rattle.jb_cost.specs.Cut.{piece_cost, EachPiece}
+use Rattle.jb_cost.specs.Cut.{piece_cost}
 use Rattle.jb_plan.proofs.StepTable.{prices-steps, answers-cut, answers-none}
 use Rattle.jb_plan.proofs.planner.plan.Goals as goal
 use Rattle.jb_plan.proofs.planner.plan.Goals.{in-Some+in_ok-bounds-in-Some, in-None}
@@ -21,7 +21,7 @@ returns-clause-answer c =
     elim c.match-index.branch [
       | in-Some+in_ok-bounds-in-Some w ↦
           let bounds = w.in_ok-bounds-in-Some.bounds.items in
-          let back = subst (λ fs. EachPiece (λ i j. slice_index fs j ≡ i) bounds) w.deref.ensures.value w.in_ok-bounds-in-Some.ensures.steps in
+          let back = rw w.deref.ensures.value at w.in_ok-bounds-in-Some.ensures.steps in
           rw w.answer-is (answers-cut cost c.args.limit ps froms n w.in-Some.total bounds table.steps (sym read ∙ w.in-Some.is) w.in_ok-bounds-in-Some.ensures.cut back)
       | in-None w ↦ rw w.answer-is (answers-none cost c.args.limit ps froms n table.steps (sym read ∙ w.in-None.is))
     ]

@@ -2,13 +2,13 @@ use Rattle.std.proofs.Common.{◌≡◌, ◌+◌, None, [], ◌∷◌, ◌++◌,
 use Rattle.std.proofs.Math.ListN.{get_or-append}
 use Rattle.std.proofs.lemmas.List.{get_or_read}
 use Rattle.jb_cost.specs.Cut.{piece_cost}
+use Rattle.jb_cost.specs.LastTouches.{TellsQueue}
 use Rattle.jb_cost.proofs.TouchCosts.{tells-as, homes-few}
 use Rattle.jb_cost.proofs.PieceCosts.{piece-within}
 use Rattle.jb_plan.specs.Step.{most_of, price_of, from_of, step_from}
-use Rattle.jb_plan.proofs.BestStep.{best-step, step-room}
-use Rattle.jb_plan.proofs.StepTable.{table-start, table-more}
+use Rattle.jb_plan.proofs.StepTable.{table-start, table-more, best-step, step-room}
 use Rattle.jb_plan.proofs.price_table.table_of.Goals as goal
-use Rattle.jb_plan.proofs.price_table.table_of.Goals.{in-Some, in-None}
+use Rattle.jb_plan.proofs.price_table.table_of.Goals.{In_ok-add, in-Some, in-None}
 
 pub loop-last-init : goal.loop-last-init
 loop-last-init c = record {
@@ -17,25 +17,25 @@ loop-last-init c = record {
   tells = c.new-touches.ensures.tells c.args.handles.now c.in_ok-table.table.prices.items;
 }
 
+-- the touches tell the queue with one handle more
+told : (c : In_ok-add) → TellsQueue c.args.geometry c.args.handles.now (c.loop-last.last + 1) c.loop-last.table.prices.items c.add.new.self
+told c =
+    let ps = c.loop-last.table.prices.items in
+    c.in_ok-add.ensures.tells c.args.geometry c.args.handles.now c.loop-last.last ps c.loop-last.invariant.tells (omega arith) c.index-handles-last.is
+    (sym (get_or_read ps c.loop-last.last c.index.result.now (omega (arith, c.loop-last.invariant.table.number)) c.index.ensures None))
+
 pub best-requires-clause-few : goal.best-requires-clause-few
 best-requires-clause-few c =
-    let hs = c.args.handles.now in
-    let n = c.loop-last.last in
-    let ps = c.loop-last.table.prices.items in
-    let read = get_or_read ps n c.index.result.now (omega (arith, c.loop-last.invariant.table.number)) c.index.ensures None in
-    let tells = c.in_ok-add.ensures.tells c.args.geometry hs n ps c.loop-last.invariant.tells (omega arith) c.index-handles-last.is (sym read) in
-    homes-few c.args.geometry hs (n + 1) ps c.add.new.self c.in_ok-add.ensures.sound tells c.requires.size
+    homes-few c.args.geometry c.args.handles.now (c.loop-last.last + 1) _ c.add.new.self c.in_ok-add.ensures.sound (told (goal.at.best-requires-clause-few c).In_ok-add) c.requires.size
 
 pub overflow_add-price : goal.overflow_add-price
 overflow_add-price c =
     let hs = c.args.handles.now in
     let n = c.loop-last.last in
-    let ps = c.loop-last.table.prices.items in
     let table = c.loop-last.invariant.table in
-    let read = get_or_read ps n c.index.result.now (omega (arith, table.number)) c.index.ensures None in
-    let tells = c.in_ok-add.ensures.tells c.args.geometry hs n ps c.loop-last.invariant.tells (omega arith) c.index-handles-last.is (sym read) in
-    let best = (c.best.ensures.tells c.args.geometry hs (n + 1) ps tells).1 in
-    let room = step-room hs (λ i. piece_cost c.args.geometry hs i (n + 1)) c.args.limit ps (n + 1) c.in-Some.found c.requires.size (omega arith) table.within (omega (arith, table.number)) (rw c.in-Some.is at best) in
+    let best = (c.best.ensures.tells c.args.geometry hs (n + 1) _ (told (goal.at.overflow_add-price c).In_ok-add)).1 in
+    let room = step-room hs (λ i. piece_cost c.args.geometry hs i (n + 1)) c.args.limit _ (n + 1) c.in-Some.found c.requires.size (omega arith) table.within
+    (omega (arith, table.number)) (rw c.in-Some.is at best) in
     omega (arith, room)
 
 pub loop-last-preserved : goal.loop-last-preserved
@@ -45,15 +45,15 @@ loop-last-preserved c =
     let n = c.loop-last.last in
     let ps = c.loop-last.table.prices.items in
     let table = c.loop-last.invariant.table in
-    let read = get_or_read ps n c.index.result.now (omega (arith, table.number)) c.index.ensures None in
-    let tells = c.in_ok-add.ensures.tells g hs n ps c.loop-last.invariant.tells (omega arith) c.index-handles-last.is (sym read) in
-    let best = c.best.ensures.tells g hs (n + 1) ps tells in
+    let best = c.best.ensures.tells g hs (n + 1) ps (told (goal.at.loop-last-preserved c).In_ok-add) in
     let step = step_from c.best.result in
     let more = table-more (piece_cost g hs) c.args.limit (most_of hs) n ps c.loop-last.table.froms.items step table (best-step (piece_cost g hs) c.args.limit ps (n + 1) c.best.result best.1) (λ i before. piece-within g hs i (n + 1) before (omega arith)) in
-    let priced : c.match-best.price.0 ≡ price_of step = elim c.match-best.branch [ in-Some w ↦ ap (λ p. p.0) w.price-is ∙ sym (ap (λ b. price_of (step_from b)) w.in-Some.is) | in-None w ↦ ap (λ p. p.0) w.price-is ∙ sym (ap (λ b. price_of (step_from b)) w.in-None.is) ] in
-    let from : c.match-best.price.1 ≡ from_of step = elim c.match-best.branch [ in-Some w ↦ ap (λ p. p.1) w.price-is ∙ sym (ap (λ b. from_of (step_from b)) w.in-Some.is) | in-None w ↦ ap (λ p. p.1) w.price-is ∙ sym (ap (λ b. from_of (step_from b)) w.in-None.is) ] in
-    let prices : c.push.new.self.prices.items ≡ ps ++ (price_of step ∷ []) = c.in_ok-push.ensures.prices ∙ ap (λ p. ps ++ (p ∷ [])) priced in
-    let froms : c.push.new.self.froms.items ≡ c.loop-last.table.froms.items ++ (from_of step ∷ []) = c.in_ok-push.ensures.froms ∙ ap (λ f. c.loop-last.table.froms.items ++ (f ∷ [])) from in
+    let stepped : c.match-best.price ≡ (price_of step, from_of step) = elim c.match-best.branch [
+      | in-Some w ↦ w.price-is ∙ ap (λ b. (price_of (step_from b), from_of (step_from b))) (sym w.in-Some.is)
+      | in-None w ↦ w.price-is ∙ ap (λ b. (price_of (step_from b), from_of (step_from b))) (sym w.in-None.is)
+    ] in
+    let prices : c.push.new.self.prices.items ≡ ps ++ (price_of step ∷ []) = c.in_ok-push.ensures.prices ∙ ap (λ p. ps ++ (p.0 ∷ [])) stepped in
+    let froms : c.push.new.self.froms.items ≡ c.loop-last.table.froms.items ++ (from_of step ∷ []) = c.in_ok-push.ensures.froms ∙ ap (λ p. c.loop-last.table.froms.items ++ (p.1 ∷ [])) stepped in
     record {
       table = rw (prices, froms) more;
       sound = c.best.ensures.sound;

@@ -1,5 +1,4 @@
-use Rattle.std.proofs.Common.{◌+◌, ◌-◌, length, take, drop, slice_index, subst, arith}
-use Rattle.jb_cost.specs.Cut.{RisesTo}
+use Rattle.std.proofs.Common.{◌+◌, ◌-◌, length, take, drop, slice_index, arith}
 use Rattle.jb_cost.proofs.Cuts.{rises-le}
 use Rattle.std.proofs.lemmas.List.{drop_more}
 use Rattle.jb_block.proofs.Refusals.{on-refusal}
@@ -11,7 +10,7 @@ piece_blocks-requires-clause-to_in c =
     let items = take (length c.args.bounds.now - 1) (drop 1 c.args.bounds.now) in
     let i = c.loop-to.to-index in
     let to = slice_index items i in
-    let rises = subst (RisesTo n c.loop-to.from) (drop_more items i 0 c.loop-to-test.true) c.loop-to.invariant.rises in
+    let rises = rw (drop_more items i 0 c.loop-to-test.true) at c.loop-to.invariant.rises in
     rises-le n to (drop (i + 1) items) rises.1
 
 pub returns-in_err-cost-clause-grows : goal.returns-in_err-cost-clause-grows
@@ -20,5 +19,5 @@ returns-in_err-cost-clause-grows c =
     let items = take (length c.args.bounds.now - 1) (drop 1 c.args.bounds.now) in
     let i = c.loop-to.to-index in
     let to = slice_index items i in
-    let rises = subst (RisesTo n c.loop-to.from) (drop_more items i 0 c.loop-to-test.true) c.loop-to.invariant.rises in
+    let rises = rw (drop_more items i 0 c.loop-to-test.true) at c.loop-to.invariant.rises in
     on-refusal c.from_residual.result (omega (arith, rises.0, rises-le n to (drop (i + 1) items) rises.1))

@@ -1,7 +1,6 @@
-use Rattle.std.proofs.Common.{◌≡◌, ◌+◌, Bool, true, false, None, length, refl, sym, subst, ◌∙◌, arith}
+use Rattle.std.proofs.Common.{◌≡◌, ◌+◌, Bool, true, false, None, length, refl, sym, ◌∙◌, arith}
 use Rattle.jb_cost.specs.Cut.{piece_cost}
 use Rattle.jb_cost.proofs.TouchCosts.{homes-few}
-use Rattle.jb_price.specs.FirstUndercut.{FirstAmong}
 use Rattle.jb_price.proofs.UndercutSteps.{first-start, first-more, none-cheaper}
 use Rattle.jb_price.proofs.check_prices.first_undercut.Goals as goal
 use Rattle.jb_price.proofs.check_prices.first_undercut.Goals.{then-undercuts+in_ok-found, else-undercuts}
@@ -43,6 +42,5 @@ loop-last-preserved c =
 
 pub returns-clause-first : goal.returns-clause-first
 returns-clause-first c =
-    let hs = c.args.handles.now in
-    let whole : c.loop-last.last ≡ length hs = omega arith in
-    subst (λ end. FirstAmong (piece_cost c.args.geometry hs) c.args.limit (length hs) c.args.prices.now end c.loop-last.first) whole c.loop-last.invariant.looked
+    let whole : c.loop-last.last ≡ length c.args.handles.now = omega arith in
+    rw whole at c.loop-last.invariant.looked

@@ -1,8 +1,7 @@
-use Rattle.std.proofs.Common.{◌≡◌, ◌-◌, Bool, true, false, length, slice_range, subst, refl, arith}
+use Rattle.std.proofs.Common.{◌≡◌, ◌-◌, Bool, true, false, length, slice_range, refl, arith}
 use Rattle.jb_cost.specs.Cut.{piece_cost}
 use Rattle.jb_cost.proofs.PieceCosts.{piece-dearer}
-use Rattle.jb_cost.proofs.FootprintWalk.{room-left, stepped-left}
-use Rattle.jb_price.specs.FirstUndercut.{LeastTo}
+use Rattle.jb_cost.proofs.Footprints.{walk-room, stepped-left}
 use Rattle.jb_price.proofs.UndercutSteps.{least-cheaper, least-kept, least-all}
 use Rattle.jb_price.proofs.check_prices.least_undercut.Goals as goal
 use Rattle.jb_price.proofs.check_prices.least_undercut.Goals.{else-loop-from-test, then-loop-from-test+in_ok-cost+then-cost-from}
@@ -10,7 +9,7 @@ use Rattle.jb_price.proofs.check_prices.least_undercut.Goals.{else-loop-from-tes
 pub add_left-requires : goal.add_left-requires
 add_left-requires c =
     record {
-      room = room-left c.args.geometry c.args.handles.now c.index-handles-from.result c.loop-from.from c.args.end c.loop-from-test.true c.loop-from.auto.from c.requires.end_in c.index-handles-from.is c.loop-from.footprint c.requires.size c.loop-from.invariant.covers;
+      room = walk-room c.args.geometry c.args.handles.now c.index-handles-from.result c.loop-from.from c.args.end c.loop-from-test.true c.loop-from.auto.from c.requires.end_in c.index-handles-from.is c.loop-from.footprint c.requires.size c.loop-from.invariant.covers;
     }
 
 pub loop-from-preserved-then-is_cheaper : goal.loop-from-preserved-then-is_cheaper
@@ -45,7 +44,7 @@ returns c =
     elim c.loop-from-test.branch [
       | else-loop-from-test w ↦
           let none : k ≡ 0 = omega arith in
-          subst (λ n. LeastTo (piece_cost g hs) c.args.limit (length hs) c.args.prices.now n c.args.end c.loop-from.least) none c.loop-from.invariant.looked
+          rw none at c.loop-from.invariant.looked
       | then-loop-from-test+in_ok-cost+then-cost-from w ↦
           let h = w.index-handles-from.result in
           let added = w.in_ok-cost.ensures.ok g (slice_range hs k c.args.end) c.loop-from.invariant.covers in

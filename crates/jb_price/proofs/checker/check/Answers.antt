@@ -1,9 +1,8 @@
-use Rattle.std.proofs.Common.{◌≡◌, length, None, sym, ◌∙◌, subst, arith}
+use Rattle.std.proofs.Common.{◌≡◌, length, None, sym, ◌∙◌, arith}
 use Rattle.std.proofs.lemmas.List.{get_or_read}
 use Rattle.jb_cost.specs.Cut.{Hold, piece_cost, price}
 use Rattle.jb_price.specs.declared.verdict.Verdict.TheVariants.{Accepted}
-use Rattle.jb_price.specs.FirstUndercut.{FirstAmong}
-use Rattle.jb_price.specs.Verdict.{AnswerSays, PricesHold, Says, IsRight}
+use Rattle.jb_price.specs.Verdict.{AnswerSays, PricesHold, IsRight}
 use Rattle.jb_price.proofs.Verdicts.{hold, prices-hold, says-answer, right-accepted, where-ok}
 use Rattle.jb_price.proofs.checker.check.Goals as goal
 
@@ -14,7 +13,7 @@ no_undercut c =
     let n = length c.args.handles.now in
     let ps = c.args.cert.now.prices.items in
     let read : c.index.result.now ≡ price ps 0 = get_or_read ps 0 c.index.result.now (omega (arith, c.requires.number)) c.index.ensures None in
-    prices-hold cost c.args.limit n ps c.in_ok-from.field-0 (subst (λ list. FirstAmong cost c.args.limit n list n c.in_ok-from.field-0) c.deref.ensures.value c.in_ok-from.ensures.first) c.in-None.is (sym read ∙ cc)
+    prices-hold cost c.args.limit n ps c.in_ok-from.field-0 (rw c.deref.ensures.value at c.in_ok-from.ensures.first) c.in-None.is (sym read ∙ cc)
 
 pub returns-in-None-clause-accepted : goal.returns-in-None-clause-accepted
 returns-in-None-clause-accepted c =
@@ -23,7 +22,7 @@ returns-in-None-clause-accepted c =
     let ps = c.args.cert.now.prices.items in
     let answer = c.args.cert.now.answer in
     where-ok c.check_answer.result (AnswerSays cost c.args.limit n ps answer) (λ verdict. verdict ≡ Accepted → IsRight cost c.args.limit n answer)
-    (λ verdict says accepted. right-accepted cost c.args.limit n ps answer (subst (Says cost c.args.limit n ps answer) accepted (says-answer cost c.args.limit n ps answer (no_undercut c) verdict says)))
+    (λ verdict says accepted. right-accepted cost c.args.limit n ps answer (rw accepted at (says-answer cost c.args.limit n ps answer (no_undercut c) verdict says)))
     c.check_answer.ensures.verdict
 
 pub returns-in-None-clause-hold : goal.returns-in-None-clause-hold

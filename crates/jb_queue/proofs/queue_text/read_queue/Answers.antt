@@ -2,15 +2,13 @@ use Rattle.std.proofs.Common.{◌≡◌, sym, Err, rules}
 use Rattle.jb_block.specs.Size.{bytes_of}
 use Rattle.jb_text.specs.Parts.{lines}
 use Rattle.jb_queue.specs.Queue.{format_of, limit_in_line}
-use Rattle.jb_queue.proofs.Weights.{first-total, queue-weight}
+use Rattle.jb_queue.proofs.Weights.{two-parts, queue-weight}
 use Rattle.jb_queue.proofs.queue_text.read_queue.Goals as goal
 
 pub returns-clause-within : goal.returns-clause-within
 returns-clause-within c =
-    queue-weight (bytes_of c.in-Some.bs) c.in_ok-handles.handles.items c.args.text.now (lines c.in-Some.text.now) (lines c.in-Some-first_limit.text.now)
-    (first-total format_of (lines c.args.text.now) (c.in-Some.bs, c.in-Some.width) _ c.in-Some.ensures)
-    (first-total limit_in_line (lines c.in-Some.text.now) c.in-Some-first_limit.limit _ c.in-Some-first_limit.ensures)
-    c.in_ok-handles.ensures.ok
+    let parts = two-parts format_of limit_in_line (lines c.args.text.now) _ _ (c.in-Some.bs, c.in-Some.width) c.in-Some-first_limit.limit c.in-Some.ensures c.in-Some-first_limit.ensures in
+    queue-weight (bytes_of c.in-Some.bs) c.in_ok-handles.handles.items c.args.text.now parts.0 parts.1 _ parts.2 c.in_ok-handles.ensures.ok
 
 pub returns-in_err-handles-clause-memory : goal.returns-in_err-handles-clause-memory
 returns-in_err-handles-clause-memory c =

@@ -1,4 +1,4 @@
-use Rattle.std.proofs.Common.{◌≡◌, ◌≤◌, ◌++◌, ◌∙◌, append-nil, arith, length, map, refl, subst, sym}
+use Rattle.std.proofs.Common.{ap, ◌≡◌, ◌++◌, ◌∙◌, append-nil, arith, map, refl, sym}
 use Rattle.jb_text.specs.TextParts.{spelled}
 use Rattle.jb_text.proofs.PartByPart.{spelled_none}
 use Rattle.jb_text.proofs.parts.gathered.Goals as goal
@@ -8,5 +8,5 @@ returns-clause-fits c =
     let text = c.loop-part.text.items in
     let none = spelled_none (λ part. part.now) c.args.parts.now c.loop-part.part-index (omega (arith, c.loop-part-test.false)) in
     let whole : text ≡ spelled (map (λ part. part.now) c.args.parts.now) =
-    sym (append-nil text) ∙ subst (λ rest. text ++ rest ≡ spelled (map (λ part. part.now) c.args.parts.now)) (sym none) c.loop-part.invariant.0 in
-    ((λ _. subst (λ all. length all ≤ 4096) whole c.loop-part.invariant.1), (λ _. refl))
+    sym (append-nil text) ∙ ap (λ rest. text ++ rest) none ∙ c.loop-part.invariant.0 in
+    ((λ _. rw whole at c.loop-part.invariant.1), (λ _. refl))

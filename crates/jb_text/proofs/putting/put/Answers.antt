@@ -1,4 +1,4 @@
-use Rattle.jb_text.proofs.PutBytes.{puts_more, within_more}
+use Rattle.jb_text.proofs.PartByPart.{puts_more, within_more}
 use Rattle.jb_text.proofs.putting.put.Goals as goal
 
 pub loop-done-preserved : goal.loop-done-preserved

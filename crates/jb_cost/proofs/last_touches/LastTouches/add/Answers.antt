@@ -1,8 +1,8 @@
-use Rattle.std.proofs.Common.{◌≡◌, ◌+◌, ◌∷◌, ◌++◌, [], length, sym, ap, subst, ◌∙◌, arith, nat_cmp}
+use Rattle.std.proofs.Common.{◌≡◌, ◌+◌, ◌∷◌, ◌++◌, [], length, ap, ◌∙◌, arith, nat_cmp}
 use Rattle.std.specs.BTreeMap.{get}
 use Rattle.std.specs.FinMap as map
 use Rattle.jb_cost.specs.LastTouch.{later_touch}
-use Rattle.jb_cost.specs.Starts.{AreLeast, priced_of}
+use Rattle.jb_cost.specs.Starts.{priced_of}
 use Rattle.jb_cost.proofs.TouchCosts.{follows-more, leasts-more}
 use Rattle.jb_cost.proofs.SpanChanges.{fit-more, bests-kept}
 use Rattle.jb_cost.proofs.last_touches.LastTouches.add.Goals as goal
@@ -40,9 +40,7 @@ returns-clause-tells c g hs n ps tells within is start =
           tells.follows;
       prices = record {
         leasts =
-            let had = subst (AreLeast ps before) tells.number tells.prices.leasts in
-            let more = leasts-more ps before n c.args.start (omega (arith, sound.shortcuts.number, tells.number)) had start in
-            subst (AreLeast ps next.stretches.items) (sym number) (subst (λ ss. AreLeast ps ss (n + 1)) (sym items) more);
+            rw (number, items) (leasts-more ps before n c.args.start (omega (arith, sound.shortcuts.number, tells.number)) (rw tells.number at tells.prices.leasts) start);
         bests = λ k s known. bests-kept _ _ _ c.take_over.new.spans.items taken.spans sound.shortcuts.spans (omega (arith, taken.number)) ps tells.prices.bests k s (c.in_ok-push.ensures.spans k s known);
       };
     }

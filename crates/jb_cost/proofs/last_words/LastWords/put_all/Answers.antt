@@ -1,4 +1,4 @@
-use Rattle.std.proofs.Common.{◌<◌, T, Some, length, sym, ap, subst, ◌∙◌, arith, nat_cmp}
+use Rattle.std.proofs.Common.{◌<◌, T, Some, length, sym, ap, ◌∙◌, arith, nat_cmp}
 use Rattle.std.specs.FinMap as map
 use Rattle.jb_handle.specs.Words.{is_copied, is_freed}
 use Rattle.jb_cost.proofs.HandleWords.{next-is}
@@ -11,7 +11,7 @@ use Rattle.jb_cost.proofs.last_words.LastWords.put_all.Goals as goal
 
 pub loop-home-preserved : goal.loop-home-preserved
 loop-home-preserved c =
-    let rising : T (map.is_sorted nat_cmp c.entries-home-items.result.now) = subst (λ es. T (map.is_sorted nat_cmp es)) (sym c.entries-home-items.ensures) (map.entries_sorted c.args.words.now) in
+    let rising : T (map.is_sorted nat_cmp c.entries-home-items.result.now) = rw c.entries-home-items.ensures (map.entries_sorted c.args.words.now) in
     let inside : c.loop-home.home-index < length c.entries-home-items.result.now = omega arith in
     record {
       copies = λ q. c.in_ok-put.ensures.copies q ∙ next-is _ rising _ _ c.loop-home-item.is inside q _ _ is_copied _ (sym (copied-is_of (Some c.loop-home-item.result.1))) (c.loop-home.invariant.copies q);

@@ -16,9 +16,9 @@ loop-low-preserved c =
     record {
       fit = still-fit _ _ c.loop-low.self _ so_far.fit stretch.ensures.fit;
       counted = rw (c.better-least.ensures, c.of.ensures)
-          (counted-more c.args.owned.now c.args.end c.loop-low.low _ _ _ so_far.counted c.requires.inside.0 c.requires.inside.1 c.loop-low-test.true stretch.result.from _ _ c.plus-sum.ensures.copies c.plus-sum.ensures.frees stretch.ensures.back stretch.ensures.idle stretch.result.least);
+          (counted-more so_far.counted c.requires.inside c.loop-low-test.true c.plus-sum.result c.plus-sum.ensures stretch.result.from stretch.ensures.back stretch.ensures.idle stretch.result.least);
       best = λ ps fit.
           rw (c.better-least.ensures, c.of.ensures)
-          (counted-best c.args.owned.now c.args.end c.loop-low.low _ _ _ so_far.counted c.requires.inside.0 c.requires.inside.1 c.loop-low-test.true stretch.result.from _ _ c.plus-sum.ensures.copies c.plus-sum.ensures.frees stretch.ensures.back stretch.ensures.idle
+          (counted-best so_far.counted c.requires.inside c.loop-low-test.true c.plus-sum.result c.plus-sum.ensures stretch.result.from stretch.ensures.back stretch.ensures.idle
           (omega (arith, c.requires.few)) ps stretch.result.least (stretch.ensures.least ps (so_far.fit.prices ps fit)) (so_far.best ps fit));
     }

@@ -7,7 +7,7 @@ use Rattle.jb_cost.proofs.shortcuts.Shortcuts.counted.Given as goal
 abbrev pub invariant-loop-low : goal.invariant-loop-low
 invariant-loop-low l = record {
   fit : StillFit l.owned l.initial.self l.self;
-  counted : Counted l.owned l.end l.low l.sum.copies l.sum.frees l.least;
+  counted : Counted l.owned l.end l.low l.sum l.least;
   best : (ps : List (Option ℕ)) → FitPrices ps l.owned l.initial.self → BestStart (copies_until l.owned l.end) (2 ^ 62) ps l.low l.end l.least;
 }
 
