@@ -109,7 +109,7 @@ module _ {D : Type 0} (G : Disks D) (first : ℕ) (hex : Bool) where
     stopped : (homes : Option ℕ) (n : ℕ) (out_next : Option (List ℕ)) (end : Result ℕ CommandFault) (blocks : List (List ℕ)) → CatFaults end (G.faults old) (G.faults next)
         → (G.honest next → ArePeeked (G.size old) (G.count old) (G.newest old) first blocks)
         → TellsHomes (λ stop. G.honest next → IsUnpeeked (G.size old) (G.count old) (G.newest old) (home_at first (length blocks)) stop) homes hex n
-            (length blocks) (blocks_text hex 0 blocks) out_old out_next end
+        (length blocks) (blocks_text hex 0 blocks) out_old out_next end
         → CatsOn G homes first n hex old next out_old out_next end
     stopped homes n out_next end blocks counted peeked told =
         record { blocks = blocks; kept = kept-next (CatFaults end) counted; same = same-next; idle = idle-next; peeked = peeked; told = told }
@@ -165,7 +165,7 @@ module _ {D : Type 0} (G : Disks D) (first : ℕ) (hex : Bool) where
     cats-refused homes n stop counted more told =
         let faults = peek-counted homes stop (G.faults old) (G.faults now) (G.faults next) state.kept.counted counted in
         let unpeeked = λ (held : G.honest next).
-            subst (λ k. IsUnpeeked (G.size old) (G.count old) (G.newest old) (home_at first k) stop) (sym state.done) (as-before (λ s c b. IsUnpeeked s c b (home_at first i) stop) told held) in
+        subst (λ k. IsUnpeeked (G.size old) (G.count old) (G.newest old) (home_at first k) stop) (sym state.done) (as-before (λ s c b. IsUnpeeked s c b (home_at first i) stop) told held) in
         stopped homes n out_now (Err (peek_fault homes stop)) state.blocks faults peeked-still (inr (inr (stop, refl, let done = state.done in omega (arith, more, done), unpeeked, state.text)))
 
 -- ---- no block is asked for

@@ -95,9 +95,11 @@ goes-earlier sums earlier order idle geometry = record {
 
 -- the sums of a search with what the handle before it owns
 module _ {os : List Owned} {w : StartSearch} (walk : IsWalk os w × (0 < w.low)) (sum : GroupSize)
-    (plus : record { geometry : sum.geometry ≡ w.tally.geometry;
+    (plus : record {
+      geometry : sum.geometry ≡ w.tally.geometry;
       copies : sum.copies.entries ≡ w.tally.copies.entries + (owned_at os (w.low - 1)).copies;
-      frees : sum.frees.entries ≡ w.tally.frees.entries + (owned_at os (w.low - 1)).frees }) where
+      frees : sum.frees.entries ≡ w.tally.frees.entries + (owned_at os (w.low - 1)).frees;
+    }) where
   sums-here : (sum.copies.entries ≡ owned_from copies_of os (w.low - 1)) × (sum.frees.entries ≡ owned_from frees_of os (w.low - 1))
   sums-here = let one = owned-one os w.low walk.1 walk.0.within in (omega (arith, plus.copies, walk.0.copies, one.0), omega (arith, plus.frees, walk.0.frees, one.1))
 

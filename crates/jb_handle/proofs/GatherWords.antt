@@ -74,11 +74,14 @@ none-each (h ∷ hs) (suc i) d q inside none = none-each hs i d q (omega arith) 
 -- handles of which one has words leave some
 pub some-words : (hs : List Stopped) (i : ℕ) (h : Stopped) → h ≡ get_or hs i h → i < length hs → 0 < map.len h.words → 0 < map.len (words_of hs)
 some-words hs i h here inside some =
-    grind (arith, λ (none : map.len (words_of hs) ≡ 0).
-    let nothing : words_of hs ≡ map.empty = map.empty_of_len (words_of hs) none in
-    let lacks : (q : ℕ) → word hs q ≡ None = λ q. sym (get-words_of hs q) ∙ ap (λ m. map.get m q) nothing ∙ map.get-empty nat_cmp q in
-    let own : (q : ℕ) → map.get h.words q ≡ None = λ q. ap (λ (g : Stopped). map.get g.words q) here ∙ none-each hs i h q inside (lacks q) in
-    ap map.len (map.same_map nat_cmp_total map.nat_cmp-IsAntisymmetric h.words map.empty (λ q. own q ∙ sym (map.get-empty nat_cmp q))) ∙ map.len-empty nat_cmp Word)
+    grind (
+      arith,
+      λ (none : map.len (words_of hs) ≡ 0).
+          let nothing : words_of hs ≡ map.empty = map.empty_of_len (words_of hs) none in
+          let lacks : (q : ℕ) → word hs q ≡ None = λ q. sym (get-words_of hs q) ∙ ap (λ m. map.get m q) nothing ∙ map.get-empty nat_cmp q in
+          let own : (q : ℕ) → map.get h.words q ≡ None = λ q. ap (λ (g : Stopped). map.get g.words q) here ∙ none-each hs i h q inside (lacks q) in
+          ap map.len (map.same_map nat_cmp_total map.nat_cmp-IsAntisymmetric h.words map.empty (λ q. own q ∙ sym (map.get-empty nat_cmp q))) ∙ map.len-empty nat_cmp Word,
+    )
 
 -- ---- some of the words of a handle
 

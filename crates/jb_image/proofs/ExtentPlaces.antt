@@ -87,8 +87,15 @@ module _ (extents : Extents) (journal size blocks place b : ℕ) (apart : AreApa
   given-set x bytes within =
       let long = length-spread extents journal size blocks in
       ext_get_or [] (given (set x b bytes)) (set (given x) place bytes) (long (set x b bytes) ∙ sym (long x) ∙ sym (length-set (given x) place bytes))
-      (λ p below. grind (arith, given-here x, given-here (set x b bytes), get_or-set_same x b bytes [] within, get_or-set_same (given x) place bytes [] (omega (arith, long x, inside)),
-      given-elsewhere x (set x b bytes) (λ q other. get_or-set_other x b q bytes [] other) p, get_or-set_other (given x) place p bytes []))
+      (λ p below. grind (
+        arith,
+        given-here x,
+        given-here (set x b bytes),
+        get_or-set_same x b bytes [] within,
+        get_or-set_same (given x) place bytes [] (omega (arith, long x, inside)),
+        given-elsewhere x (set x b bytes) (λ q other. get_or-set_other x b q bytes [] other) p,
+        get_or-set_other (given x) place p bytes [],
+      ))
 
   -- so is a torn one
   pub given-torn : (x x' : Image) (bytes : List ℕ) → Torn b bytes x x' → Torn place bytes (given x) (given x')

@@ -159,7 +159,7 @@ no-op size text is = record {
   zeros = λ home fits same. ok-err (sym (zeros-from size home fits) ∙ ap (op_of size) (sym same) ∙ is);
   bytes = λ home digits fits same.
       let read = then-says (λ _. Unit {0}) (λ cause. cause ≡ DataWord) (decoded_block size (decode_of digits)) (λ bytes. Ok (home, Copy bytes)) (block-says size (decode_of digits))
-          (λ bytes has. tt) (λ cause no. no.0) in
+      (λ bytes has. tt) (λ cause no. no.0) in
       let fails = sym (write-from size home (61 ∷ digits) fits refl) ∙ ap (op_of size) (sym same) ∙ is in
       let never : OpWord ≡ DataWord = MatchResult-at_err (λ _. Unit {0}) (λ cause. cause ≡ DataWord) OpWord fails read in
       cc;
