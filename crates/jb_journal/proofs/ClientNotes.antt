@@ -1,5 +1,5 @@
 -- What a client knows of its journal, from what the desk shows it.
-use Rattle.std.proofs.Common.{◌≡◌, ℕ, ◌≤◌, List, ◌++◌, All, map, option_map, Result, Ok, Err, OnOk, sym, ap, subst, ◌∙◌, arith, append_assoc}
+use Rattle.std.proofs.Common.{suc, ◌≡◌, ℕ, ◌≤◌, List, ◌++◌, All, map, option_map, Result, Ok, Err, OnOk, sym, ap, subst, ◌∙◌, arith, append_assoc}
 use Rattle.std.proofs.lemmas.List.{map-append}
 use Rattle.std.proofs.lemmas.List.Elements.{All-map, All-weaker}
 use Rattle.std.proofs.lemmas.Option.{slice_get-map}
@@ -16,6 +16,7 @@ use Rattle.jb_deck.specs.Deck.{OpenDeck}
 use Rattle.jb_deck.specs.Done.{past_after}
 use Rattle.jb_deck.specs.declared.done.Entry.{Entry}
 use Rattle.jb_deck.specs.declared.read.ReadHomeFault.{ReadHomeFault}
+use Rattle.jb_book.proofs.MarksLast.{first-lower}
 use Rattle.jb_book.specs.CallsToBook.{IsInHistory}
 use Rattle.jb_book.specs.Marks.{SeesMore, Shows, ShowsAfter}
 use Rattle.jb_book.specs.Origin.{Begun}
@@ -116,10 +117,7 @@ module _ {D : Type 0} (G : Ghosts D) (b : Begun) (given : List Stopped) where
       let past = within.1 in
       record {
         earlier = last.earlier known held;
-        leaves = λ c left. (
-            let f = last.leaves known held c left in
-            let from = f.from in
-            record { many = f.many; from = omega (arith, to, past, from); to = f.to; next = f.next; number = f.number; recovered = f.recovered });
+        leaves = λ c left. first-lower b given (suc ticket) (committed_by n.note) c (omega (arith, to, past)) (last.leaves known held c left);
       }
 
   -- a disk that is honest was so at all marks that last
