@@ -3,3 +3,4 @@ pub mod App
 pub mod Command
 pub mod Faults
 pub mod PlainCommand
+pub mod Rows

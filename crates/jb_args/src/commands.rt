@@ -1,165 +1,104 @@
 ghost use Rattle.std.specs.Prelude.{◌≡◌, IfOk, false};
-ghost use Rattle.clap.specs.Words.{app_of};
+ghost use Rattle.clap.specs.Words.{App, app_of, new_app, with_subcommand};
 ghost use Rattle.clap.specs.declared.builder.command.Command.TheViews.{out-Command as fields_of};
-ghost use Rattle.jb_args.specs.App.{cat_app, check_app, dump_app, format_app};
-ghost use Rattle.jb_args.specs.App.{jb_app, jb_top, load_app, recover_app};
+ghost use Rattle.jb_args.specs.App.{jb_app, jb_top};
+ghost use Rattle.jb_args.specs.Rows.{app_named, with_commands as with_apps, with_words as with_rules};
 
-mod options;
-mod parts;
+mod command_name;
+mod table;
 mod texts;
+mod word;
 
 use clap::Command;
-use options::{
-    count_option, extents_option, flag, journal_option, number_option, number_or, number_word,
-    required_number, uuid_option,
-};
-use parts::{also, bare, over, over_image, over_queue, required_word, with};
+use command_name::{COMMANDS, CommandName, row_of};
 use std::alloc::{AllocError, Global};
+use word::{Word, arg_of};
 
-/// Puts together a command step by step, of one part after the other. The calls stand in one another: each
-/// command that a name held between them would make the proof longer.
-macro_rules! in_turn {
-    ($step:ident, $made:expr $(,)?) => { $made };
-    ($step:ident, $made:expr, $next:expr $(, $more:expr)* $(,)?) => {
-        in_turn!($step, $step($made, $next) $(, $more)*)
-    };
+/// A command, with its words and options.
+#[derive(Clone, Copy)]
+pub(crate) struct CommandRow<'a> {
+    /// Its name.
+    name: &'a str,
+    /// What the help of `jb` says of it.
+    about: &'a str,
+    /// What stands at the end of its long help.
+    more: &'a str,
+    /// What it takes, in the order of the help.
+    words: &'a [Word<'a>],
 }
 
-/// `jb check`.
-fn check<'a>(alloc: Global) -> Result<Command<'a>, AllocError>
-    ensures app { IfOk result (λ c. app_of c ≡ check_app) }
+/// The command with these words, one after the other.
+fn with_words<'a>(
+    alloc: Global,
+    command: Command<'a>,
+    words: &[Word<'a>],
+) -> Result<Command<'a>, AllocError>
+    requires { (fields_of command).has_globals ≡ false }
+    ensures app { IfOk result (λ c. app_of c ≡ with_rules (app_of command.entry) words.now) }
     ensures own { IfOk result (λ c. (fields_of c).has_globals ≡ false) }
 {
-    let about = "Checks a certificate of the queue, whoever made it";
-    let queue = over(alloc, "check", about, texts::CHECK, "FILE", "A queue text");
-    let help = "A certificate, as jb plan prints it";
-    with(queue, required_word(alloc, "CERT", help))
+    let mut made = command;
+    for word in words {
+        made = made.arg(arg_of(alloc, word))?;
+    }
+    Ok(made)
 }
 
-/// `jb dump`.
-fn dump<'a>(alloc: Global) -> Result<Command<'a>, AllocError>
-    ensures app { IfOk result (λ c. app_of c ≡ dump_app) }
-    ensures own { IfOk result (λ c. (fields_of c).has_globals ≡ false) }
+/// A command without words.
+fn bare<'a>(alloc: Global, name: &'a str, about: &'a str, more: &'a str) -> Command<'a>
+    ensures app { app_of result ≡ new_app name.entry.now }
+    ensures own { (fields_of result).has_globals ≡ false }
 {
-    let about = "Prints the committed transactions of a journal, block by block";
-    let help = "A file with the whole journal at its front, or - for standard input";
-    in_turn!(
-        with,
-        over(alloc, "dump", about, texts::DUMP, "FILE", help),
-        number_option(
-            alloc,
-            "home",
-            "N",
-            "Only the lines that speak of home block N"
-        ),
-        number_option(alloc, "last", "N", "Of the transactions only the last N"),
-        flag(alloc, "super", "Only the lines of the superblock"),
-        flag(
-            alloc,
-            "summary",
-            "The journal at a glance, in place of its lines"
-        ),
-    )
+    Command::new(alloc, name).about(about).after_long_help(more)
 }
 
-/// `jb cat`.
-fn cat<'a>(alloc: Global) -> Result<Command<'a>, AllocError>
-    ensures app { IfOk result (λ c. app_of c ≡ cat_app) }
+/// The command of this name, with its words.
+fn command_of<'a>(alloc: Global, name: CommandName) -> Result<Command<'a>, AllocError>
+    ensures app { IfOk result (λ c. app_of c ≡ app_named name) }
     ensures own { IfOk result (λ c. (fields_of c).has_globals ≡ false) }
 {
-    let about = "Writes home blocks of an image as recovery would leave them";
-    in_turn!(
-        with,
-        over_image(alloc, "cat", about, texts::CAT),
-        number_word(alloc, "HOME", "The number of the first home block"),
-        count_option(alloc, "How many home blocks"),
-        flag(
-            alloc,
-            "hex",
-            "Writes lines of hexadecimal digits, as xxd does"
-        ),
-        journal_option(alloc),
-        extents_option(alloc),
-    )
+    let row = row_of(name);
+    let command = bare(alloc, row.name, row.about, row.more);
+    with_words(alloc, command, row.words)
 }
 
-/// `jb recover`.
-fn recover<'a>(alloc: Global) -> Result<Command<'a>, AllocError>
-    ensures app { IfOk result (λ c. app_of c ≡ recover_app) }
+// What an error leaves over is dropped by a call: at the end of a scope each field is a step of its own to prove.
+
+/// `jb` with one more command, where that could be made.
+fn also<'a>(
+    jb: Command<'a>,
+    command: Result<Command<'a>, AllocError>,
+) -> Result<Command<'a>, AllocError>
+    requires jb { (fields_of jb).has_globals ≡ false }
+    requires command { IfOk command (λ c. (fields_of c).has_globals ≡ false) }
+    ensures app { (more : App) → IfOk command.entry (λ c. app_of c ≡ more)
+        → IfOk result (λ c. app_of c ≡ with_subcommand (app_of jb.entry) more.top) }
     ensures own { IfOk result (λ c. (fields_of c).has_globals ≡ false) }
 {
-    let about = "Writes home what an image's journal has committed, and empties its log";
-    let help = "Recovers though the journal seems not to be the file system's own";
-    in_turn!(
-        with,
-        over_image(alloc, "recover", about, texts::RECOVER),
-        extents_option(alloc),
-        journal_option(alloc),
-        flag(alloc, "force", help),
-        flag(
-            alloc,
-            "dry-run",
-            "Says what would be done, and writes nothing"
-        ),
-        flag(
-            alloc,
-            "list",
-            "With --dry-run: lists the home blocks that would be written"
-        ),
-    )
+    match command {
+        Ok(command) => jb.subcommand(command),
+        Err(error) => {
+            drop(jb);
+            Err(error)
+        }
+    }
 }
 
-/// `jb format`.
-fn format<'a>(alloc: Global) -> Result<Command<'a>, AllocError>
-    ensures app { IfOk result (λ c. app_of c ≡ format_app) }
+/// `jb` with these commands, one after the other.
+fn with_commands<'a>(
+    alloc: Global,
+    jb: Command<'a>,
+    names: &[CommandName],
+) -> Result<Command<'a>, AllocError>
+    requires { (fields_of jb).has_globals ≡ false }
+    ensures app { IfOk result (λ c. app_of c ≡ with_apps (app_of jb.entry) names.now) }
     ensures own { IfOk result (λ c. (fields_of c).has_globals ≡ false) }
 {
-    let about = "Makes an image: a new journal, and home blocks of zeros after it";
-    let help = "The file to make; an existing file is not overwritten";
-    let most = "The most log blocks of a transaction; 0 for a quarter of the log";
-    in_turn!(
-        with,
-        over(alloc, "format", about, texts::FORMAT, "IMAGE", help),
-        required_number(alloc, "bs", "Bytes of a block: 1024, 2048 or 4096"),
-        required_number(
-            alloc,
-            "journal",
-            "Blocks of the journal, its superblock counted"
-        ),
-        required_number(alloc, "homes", "Home blocks after the journal"),
-        number_or(alloc, "max", "N", "0", most),
-        uuid_option(alloc),
-        flag(alloc, "wide", "Block numbers of 64 bits"),
-    )
-}
-
-/// `jb load`.
-fn load<'a>(alloc: Global) -> Result<Command<'a>, AllocError>
-    ensures app { IfOk result (λ c. app_of c ≡ load_app) }
-    ensures own { IfOk result (λ c. (fields_of c).has_globals ≡ false) }
-{
-    let about = "Commits the handles of a queue text to an image, run by threads";
-    let stamp = "The time of the commit blocks, in seconds since 1970";
-    in_turn!(
-        with,
-        over_image(alloc, "load", about, texts::LOAD),
-        required_word(alloc, "FILE", "A queue text of the image's block size"),
-        journal_option(alloc),
-        number_or(
-            alloc,
-            "threads",
-            "N",
-            "1",
-            "How many threads run the handles, 1 to 64"
-        ),
-        flag(
-            alloc,
-            "hold",
-            "Commits once all handles have run, as one batch"
-        ),
-        number_or(alloc, "stamp", "SEC", "0", stamp),
-        flag(alloc, "checkpoint", "Writes home what is committed, too"),
-    )
+    let mut made = jb;
+    for name in names {
+        made = also(made, command_of(alloc, *name))?;
+    }
+    Ok(made)
 }
 
 /// `jb` without its commands.
@@ -179,22 +118,5 @@ pub fn jb_command<'a>(alloc: Global) -> Result<Command<'a>, AllocError>
     ensures app { IfOk result (λ c. app_of c ≡ jb_app) }
     ensures own { IfOk result (λ c. (fields_of c).has_globals ≡ false) }
 {
-    let cost = "Prints the log blocks that the queue takes as one group";
-    let plan = "Prints a least cut of the queue into groups, with its prices";
-    let renumber = "Restarts the transaction numbers of a clean journal at 1";
-    let widen = "Gives a clean journal block numbers of 64 bits";
-    in_turn!(
-        also,
-        jb_alone(alloc),
-        over_queue(alloc, "cost", cost, texts::COST),
-        over_queue(alloc, "plan", plan, texts::PLAN),
-        check(alloc),
-        dump(alloc),
-        cat(alloc),
-        format(alloc),
-        load(alloc),
-        recover(alloc),
-        over_image(alloc, "renumber", renumber, texts::RENUMBER),
-        over_image(alloc, "widen", widen, texts::WIDEN),
-    )
+    with_commands(alloc, jb_alone(alloc)?, &COMMANDS)
 }

@@ -1,0 +1,254 @@
+//! The commands, each with its words and options in the order of the help.
+
+use super::word::{Kind, Word};
+use super::{CommandRow, texts};
+
+/// The file of a command over one image.
+const IMAGE: Word = Word {
+    name: "IMAGE",
+    kind: Kind::Word,
+    help: "A file or block device with a journal at its front, and the home blocks after it",
+};
+
+/// The file of a command over one queue text.
+const FILE: Word = Word {
+    name: "FILE",
+    kind: Kind::Word,
+    help: "A queue text, or - for standard input",
+};
+
+/// The option for the file with the journal.
+const JOURNAL: Word = Word {
+    name: "journal",
+    kind: Kind::Text("FILE"),
+    help: "The file with the journal; IMAGE has the home blocks alone then",
+};
+
+/// The option for where the journal stands within the image.
+const EXTENTS: Word = Word {
+    name: "extents",
+    kind: Kind::Text("LIST"),
+    help: "Where the journal stands within IMAGE, as debugfs lists its blocks",
+};
+
+/// What `--uuid` is where it is not given.
+const NO_UUID: &str = "00000000000000000000000000000000";
+
+/// `jb cost`.
+pub(super) static COST: CommandRow = CommandRow {
+    name: "cost",
+    about: "Prints the log blocks that the queue takes as one group",
+    more: texts::COST,
+    words: &[FILE],
+};
+
+/// `jb plan`.
+pub(super) static PLAN: CommandRow = CommandRow {
+    name: "plan",
+    about: "Prints a least cut of the queue into groups, with its prices",
+    more: texts::PLAN,
+    words: &[FILE],
+};
+
+/// `jb check`.
+pub(super) static CHECK: CommandRow = CommandRow {
+    name: "check",
+    about: "Checks a certificate of the queue, whoever made it",
+    more: texts::CHECK,
+    words: &[
+        Word {
+            name: "FILE",
+            kind: Kind::Word,
+            help: "A queue text",
+        },
+        Word {
+            name: "CERT",
+            kind: Kind::Word,
+            help: "A certificate, as jb plan prints it",
+        },
+    ],
+};
+
+/// `jb dump`.
+pub(super) static DUMP: CommandRow = CommandRow {
+    name: "dump",
+    about: "Prints the committed transactions of a journal, block by block",
+    more: texts::DUMP,
+    words: &[
+        Word {
+            name: "FILE",
+            kind: Kind::Word,
+            help: "A file with the whole journal at its front, or - for standard input",
+        },
+        Word {
+            name: "home",
+            kind: Kind::Number,
+            help: "Only the lines that speak of home block N",
+        },
+        Word {
+            name: "last",
+            kind: Kind::Number,
+            help: "Of the transactions only the last N",
+        },
+        Word {
+            name: "super",
+            kind: Kind::Flag,
+            help: "Only the lines of the superblock",
+        },
+        Word {
+            name: "summary",
+            kind: Kind::Flag,
+            help: "The journal at a glance, in place of its lines",
+        },
+    ],
+};
+
+/// `jb cat`.
+pub(super) static CAT: CommandRow = CommandRow {
+    name: "cat",
+    about: "Writes home blocks of an image as recovery would leave them",
+    more: texts::CAT,
+    words: &[
+        IMAGE,
+        Word {
+            name: "HOME",
+            kind: Kind::NumberWord,
+            help: "The number of the first home block",
+        },
+        Word {
+            name: "n",
+            kind: Kind::Count,
+            help: "How many home blocks",
+        },
+        Word {
+            name: "hex",
+            kind: Kind::Flag,
+            help: "Writes lines of hexadecimal digits, as xxd does",
+        },
+        JOURNAL,
+        EXTENTS,
+    ],
+};
+
+/// `jb format`.
+pub(super) static FORMAT: CommandRow = CommandRow {
+    name: "format",
+    about: "Makes an image: a new journal, and home blocks of zeros after it",
+    more: texts::FORMAT,
+    words: &[
+        Word {
+            name: "IMAGE",
+            kind: Kind::Word,
+            help: "The file to make; an existing file is not overwritten",
+        },
+        Word {
+            name: "bs",
+            kind: Kind::RequiredNumber,
+            help: "Bytes of a block: 1024, 2048 or 4096",
+        },
+        Word {
+            name: "journal",
+            kind: Kind::RequiredNumber,
+            help: "Blocks of the journal, its superblock counted",
+        },
+        Word {
+            name: "homes",
+            kind: Kind::RequiredNumber,
+            help: "Home blocks after the journal",
+        },
+        Word {
+            name: "max",
+            kind: Kind::NumberOr("N", "0"),
+            help: "The most log blocks of a transaction; 0 for a quarter of the log",
+        },
+        Word {
+            name: "uuid",
+            kind: Kind::TextOr("HEX", NO_UUID),
+            help: "The journal's UUID, as 32 hexadecimal digits",
+        },
+        Word {
+            name: "wide",
+            kind: Kind::Flag,
+            help: "Block numbers of 64 bits",
+        },
+    ],
+};
+
+/// `jb load`.
+pub(super) static LOAD: CommandRow = CommandRow {
+    name: "load",
+    about: "Commits the handles of a queue text to an image, run by threads",
+    more: texts::LOAD,
+    words: &[
+        IMAGE,
+        Word {
+            name: "FILE",
+            kind: Kind::Word,
+            help: "A queue text of the image's block size",
+        },
+        JOURNAL,
+        Word {
+            name: "threads",
+            kind: Kind::NumberOr("N", "1"),
+            help: "How many threads run the handles, 1 to 64",
+        },
+        Word {
+            name: "hold",
+            kind: Kind::Flag,
+            help: "Commits once all handles have run, as one batch",
+        },
+        Word {
+            name: "stamp",
+            kind: Kind::NumberOr("SEC", "0"),
+            help: "The time of the commit blocks, in seconds since 1970",
+        },
+        Word {
+            name: "checkpoint",
+            kind: Kind::Flag,
+            help: "Writes home what is committed, too",
+        },
+    ],
+};
+
+/// `jb recover`.
+pub(super) static RECOVER: CommandRow = CommandRow {
+    name: "recover",
+    about: "Writes home what an image's journal has committed, and empties its log",
+    more: texts::RECOVER,
+    words: &[
+        IMAGE,
+        EXTENTS,
+        JOURNAL,
+        Word {
+            name: "force",
+            kind: Kind::Flag,
+            help: "Recovers though the journal seems not to be the file system's own",
+        },
+        Word {
+            name: "dry-run",
+            kind: Kind::Flag,
+            help: "Says what would be done, and writes nothing",
+        },
+        Word {
+            name: "list",
+            kind: Kind::Flag,
+            help: "With --dry-run: lists the home blocks that would be written",
+        },
+    ],
+};
+
+/// `jb renumber`.
+pub(super) static RENUMBER: CommandRow = CommandRow {
+    name: "renumber",
+    about: "Restarts the transaction numbers of a clean journal at 1",
+    more: texts::RENUMBER,
+    words: &[IMAGE],
+};
+
+/// `jb widen`.
+pub(super) static WIDEN: CommandRow = CommandRow {
+    name: "widen",
+    about: "Gives a clean journal block numbers of 64 bits",
+    more: texts::WIDEN,
+    words: &[IMAGE],
+};
