@@ -32,13 +32,13 @@ abbrev pub rule_of_word : Word → Rule
 rule_of_word word = rule_of_kind word.name.now word.kind
 
 -- a command with these words of the table, one after the other
-abbrev pub with_words : App → List Word → App
-with_words command [] = command
-with_words command (word ∷ words) = with_words (with_rule command (rule_of_word word)) words
+abbrev pub with_row_words : App → List Word → App
+with_row_words command [] = command
+with_row_words command (word ∷ words) = with_row_words (with_rule command (rule_of_word word)) words
 
 -- a row as a command
 abbrev pub app_of_row : CommandRow → App
-app_of_row row = with_words (new_app row.name.now) row.words.now
+app_of_row row = with_row_words (new_app row.name.now) row.words.now
 
 -- the command of this name
 abbrev pub app_named : CommandName → App

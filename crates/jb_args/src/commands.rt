@@ -2,7 +2,7 @@ ghost use Rattle.std.specs.Prelude.{◌≡◌, IfOk, false};
 ghost use Rattle.clap.specs.Words.{App, app_of, new_app, with_subcommand};
 ghost use Rattle.clap.specs.declared.builder.command.Command.TheViews.{out-Command as fields_of};
 ghost use Rattle.jb_args.specs.App.{jb_app, jb_top};
-ghost use Rattle.jb_args.specs.Rows.{app_named, with_commands as with_apps, with_words as with_rules};
+ghost use Rattle.jb_args.specs.Rows.{app_named, with_commands as with_apps, with_row_words as with_rules};
 
 mod command_name;
 mod table;
