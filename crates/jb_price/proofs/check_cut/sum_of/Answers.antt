@@ -1,4 +1,4 @@
-use Rattle.std.proofs.Common.{◌+◌, ◌-◌, length, take, drop, slice_index, arith}
+use Rattle.std.proofs.Common.{◌+◌, ◌-◌, ◌≤◌, inl, length, take, drop, slice_index, arith}
 use Rattle.jb_cost.proofs.Cuts.{rises-le}
 use Rattle.std.proofs.lemmas.List.{drop_more}
 use Rattle.jb_block.proofs.Refusals.{on-refusal}
@@ -21,3 +21,20 @@ returns-in_err-cost-clause-grows c =
     let to = slice_index items i in
     let rises = rw (drop_more items i 0 c.loop-to-test.true) at c.loop-to.invariant.rises in
     on-refusal c.from_residual.result (omega (arith, rises.0, rises-le n to (drop (i + 1) items) rises.1))
+
+pub loop-to-preserved : goal.loop-to-preserved
+loop-to-preserved c =
+    let items = take (length c.args.bounds.now - 1) (drop 1 c.args.bounds.now) in
+    let i = c.loop-to.to-index in
+    let left = drop_more items i 0 c.loop-to-test.true in
+    let inv = c.loop-to.invariant in
+    let price = c.in_ok-cost.ensures in
+    let within : c.in_ok-cost.cost ≤ c.args.limit = omega (arith, c.if-cost-from.false, c.from.ensures) in
+    let fits = rw price at within in
+    record {
+      rises = (rw left at inv.rises).1;
+      small = omega (arith, inv.small, within, c.ranges.limit, c.from-sum.ensures);
+      over = λ a b rest. inv.over a b (rw left (inl (fits, rest)));
+      fits = λ rest. inv.fits (rw left (fits, rest));
+      sums = omega (arith, rw left at inv.sums, price, c.from-sum.ensures);
+    }
