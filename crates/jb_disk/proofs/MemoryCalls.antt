@@ -1,17 +1,17 @@
 -- The buffers of a disk in memory hold the blocks of its newest content, and how its life goes on by its calls.
-use Rattle.std.proofs.Common.{◌≡◌, ◌<◌, ℕ, List, [], ◌∷◌, length, get_or, set, sym, ◌∙◌, ap, subst, arith, Vec, Global, vec_len, inl, inr, ⊎_elim}
-use Rattle.std.proofs.lemmas.List.{length-map, get_or-map, map-set}
+use Rattle.std.proofs.Common.{◌≡◌, ◌<◌, ℕ, List, [], ◌∷◌, length, get_or, replicate, set, sym, ◌∙◌, ap, subst, arith, Vec, Global, vec_len, inl, inr, ⊎_elim}
+use Rattle.std.proofs.lemmas.List.{length-map, length-replicate, get_or-map, get_or-replicate, map-set}
 use Rattle.jb_block.specs.Size.{bytes_of}
 use Rattle.jb_disk.specs.Image.{Image, block, HasShape, Same, Torn}
 use Rattle.jb_disk.specs.Calls.{image_of, steps_of}
-use Rattle.jb_disk.specs.History.{History, Wrote, IsHistorySound, newest_of, Synced, replay, MayLeave, LeftSince}
+use Rattle.jb_disk.specs.History.{History, HistoryStep, Wrote, IsHistorySound, newest_of, Synced, replay, MayLeave, LeftSince}
 use Rattle.jb_disk.specs.Lives.{replay_shape, newest_stays}
 use Rattle.jb_disk.specs.Memory.{history_of, IsHistoryKept}
 use Rattle.jb_disk.specs.declared.memory.MemoryDisk.TheInside.{Inside}
 use Rattle.jb_disk.specs.declared.memory.Call.{Call}
 use Rattle.std.specs.Vec.{with_item}
 use Rattle.jb_disk.specs.Time.{Goes}
-use Rattle.jb_disk.specs.Writes.{torn_same}
+use Rattle.jb_disk.specs.Writes.{torn_same, torn_whole}
 
 -- as many buffers as blocks
 pub buffers_count : (count size : ℕ) (c : Image) (buffers : List (Vec ℕ Global)) → HasShape count size c → image_of buffers ≡ c → length buffers ≡ count
@@ -22,6 +22,16 @@ pub buffer_at : (count size : ℕ) (c : Image) (buffers : List (Vec ℕ Global))
 buffer_at count size c buffers place b shape is inside here =
     let within : place < length buffers = omega (arith, buffers_count count size c buffers shape is, inside) in
     ap (λ v. v.items) here ∙ sym (get_or-map (λ v. v.items) buffers place b [] within) ∙ ap (λ image. block image place) is
+
+-- so many buffers of zeros
+pub zeros_count : (blocks size : ℕ) (buffers : List (Vec ℕ Global)) → image_of buffers ≡ replicate blocks (replicate size 0) → length buffers ≡ blocks
+zeros_count blocks size buffers are = sym (length-map buffers (λ b. b.items)) ∙ ap length are ∙ length-replicate blocks (replicate size 0)
+
+pub zeros_shape : (blocks size : ℕ) (buffers : List (Vec ℕ Global)) → image_of buffers ≡ replicate blocks (replicate size 0) → HasShape (length buffers) size (image_of buffers)
+zeros_shape blocks size buffers are = rw (zeros_count blocks size buffers are, are) (record {
+  blocks = length-replicate blocks (replicate size 0);
+  bytes = λ place inside. ap length (get_or-replicate blocks place (replicate size 0) [] inside) ∙ length-replicate size 0;
+})
 
 -- the newest content has the disk's shape
 newest_shape : (h : History) → IsHistorySound h → HasShape h.count (bytes_of h.size) (newest_of h)
@@ -60,6 +70,22 @@ pub goes_synced : (old new : History) → IsHistorySound old → new.first ≡ o
     Goes (λ h. MayLeave h.first h.steps) (λ h. length h.steps) (λ h. LeftSince h.first h.steps) Same old new
 goes_synced old new sound first steps = rw (first, steps) (record {
   crash = λ c now. (replay old.first old.steps, newest_stays old.count (bytes_of old.size) old.first old.steps sound.shape sound.whole, now);
+  later = omega arith;
+  nothing_else = λ t c earlier left. ⊎_elim (λ now. inr now.1) inl left;
+  keeps = λ t c earlier left. inr left;
+})
+
+-- a write that is made
+pub torn_written : {first : Image} {steps : List HistoryStep} (old : History) (place : ℕ) (bytes : List ℕ) → IsHistorySound old → place < old.count →
+    length bytes ≡ bytes_of old.size → first ≡ old.first → steps ≡ Wrote place bytes ∷ old.steps → Torn place bytes (newest_of old) (replay first steps)
+torn_written old place bytes sound inside whole same_first more =
+    let shape = newest_shape old sound in
+    rw (same_first, more) (torn_whole (newest_of old) place bytes (omega (arith, shape.blocks, inside)) (whole ∙ sym (shape.bytes place inside)))
+
+pub goes_written : (old new : History) (place : ℕ) (bytes : List ℕ) → new.first ≡ old.first → new.steps ≡ Wrote place bytes ∷ old.steps →
+    Goes (λ h. MayLeave h.first h.steps) (λ h. length h.steps) (λ h. LeftSince h.first h.steps) (Torn place bytes) old new
+goes_written old new place bytes first steps = rw (first, steps) (record {
+  crash = λ c now. now;
   later = omega arith;
   nothing_else = λ t c earlier left. ⊎_elim (λ now. inr now.1) inl left;
   keeps = λ t c earlier left. inr left;

@@ -7,6 +7,7 @@ use borrow.Rule.Slice.PartMut.{put_mid}
 use Rattle.jb_disk.specs.OneCall.{AllMade, AreMade, Called, Reads}
 use Rattle.jb_disk.specs.Image.{Image, block, Same}
 use Rattle.jb_disk.specs.Faults.{CountsNone}
+use Rattle.jb_disk.specs.Kept.{Untouched}
 use Rattle.jb_disk.specs.KeptOn.{KeptOn}
 use Rattle.jb_disk.specs.Runs.{part, IsRunOn, ReadsRun}
 use Rattle.jb_disk.specs.Time.{Goes}
@@ -83,6 +84,16 @@ pub record ReadSoFar {D : Type 0} (G : Ghosts D) (place k : ℕ) (old now : D) (
   pub goes : G.honest now → Goes G.may_leave G.moment G.left_since Same old now
   pub untried : k ≡ 0 → now ≡ old
   pub passed : 0 < k → IsTrue (G.fails_next old) → ⊥
+
+-- where the first call had to fail, the one that failed was the first
+pub refused-first : {D : Type 0} (G : Ghosts D) (k : ℕ) (old now new : D) → (k ≡ 0 → now ≡ old) → (0 < k → IsTrue (G.fails_next old) → ⊥)
+    → (IsTrue (G.fails_next now) → Untouched G.newest G.may_leave G.moment now new) → IsTrue (G.fails_next old) → Untouched G.newest G.may_leave G.moment old new
+refused-first G k old now new untried passed spent burnt = ⊎_elim
+    (λ more. absurd (passed more burnt))
+    (λ none.
+    let same : now ≡ old = untried (omega (arith, none)) in
+    subst (λ d. Untouched G.newest G.may_leave G.moment d new) same (spent (subst (λ d. IsTrue (G.fails_next d)) (sym same) burnt)))
+    (cases_lt 0 k)
 
 -- a call that succeeded was not one that had to fail
 pub not_spent : {D : Type 0} (G : Ghosts D) (k : ℕ) (old now : D) (result : Result Unit Fault) → (k ≡ 0 → now ≡ old) → (0 < k → IsTrue (G.fails_next old) → ⊥)

@@ -1,10 +1,32 @@
 use Rattle.std.proofs.Common.{◌≡◌, ◌<◌, ◌≤◌, ◌*◌, ◌+◌, length, refl, ◌∙◌, sym, ap, subst, rules, arith, IsOk}
-use Rattle.jb_disk.specs.OneCall.{Reads}
+use Rattle.std.proofs.lemmas.Result.{IfOk-from_err}
+use Rattle.jb_disk.specs.OneCall.{AllMade, Reads}
 use Rattle.jb_disk.specs.Image.{block}
 use Rattle.jb_disk.proofs.KeptOverCalls.{kept_ok}
-use Rattle.jb_disk.proofs.RunReads.{made-more, not_spent, reads-more}
+use Rattle.jb_disk.proofs.RunReads.{made-more, not_spent, reads-more, refused-first}
 use Rattle.jb_disk.proofs.CallSteps.{goes-on}
 use Rattle.jb_disk.proofs.disk.Disk.read_run.Goals as goal
+
+pub returns-in_err-read-clause-spent : goal.returns-in_err-read-clause-spent
+returns-in_err-read-clause-spent g c = λ burnt. (
+  c.from_residual.ensures.0,
+  refused-first g.Self.Disk c.loop-k.k c.args.self.now c.loop-k.self c.read.new.self
+      c.loop-k.invariant.untried c.loop-k.invariant.passed (λ is. (c.read.ensures.spent is).1) burnt,
+)
+
+pub returns-in_err-read-clause-found : goal.returns-in_err-read-clause-found
+returns-in_err-read-clause-found g c = λ honest. IfOk-from_err c.from_residual.result _ c.from_residual.ensures.0
+
+pub returns-in_err-read-clause-goes : goal.returns-in_err-read-clause-goes
+returns-in_err-read-clause-goes g c = λ honest.
+    let was = c.read.ensures.kept.was_honest honest in
+    let so = c.loop-k.invariant in
+    goes-on _ _ _ _ _ _ _ (λ t d earlier left. g.met.Self.Disk.counts_now c.args.self.now t d (so.kept.was_honest was) earlier left) (so.goes was) (c.read.ensures.goes honest)
+
+pub returns-clause-own : goal.returns-clause-own
+returns-clause-own g c = λ _.
+    subst (λ n. AllMade g.Self.Disk.own (λ j. Reads (c.args.place + j)) n c.args.self.now c.loop-k.self)
+    (let all : c.loop-k.k ≡ c.args.blocks = omega arith in all) c.loop-k.invariant.made
 
 pub loop-k-preserved : goal.loop-k-preserved
 loop-k-preserved g c =

@@ -3,7 +3,7 @@ use Rattle.jb_disk.specs.OneCall.{Writes}
 use Rattle.jb_disk.specs.Runs.{part, TornRun}
 use Rattle.jb_disk.specs.Steps.{Steps}
 use Rattle.jb_disk.proofs.KeptOverCalls.{kept_ok}
-use Rattle.jb_disk.proofs.RunReads.{made-more, not_spent}
+use Rattle.jb_disk.proofs.RunReads.{made-more, not_spent, refused-first}
 use Rattle.jb_disk.proofs.RunWrites.{part-slice, torn_run-next, wrote_run-more, steps-run}
 use Rattle.jb_disk.proofs.disk.Disk.write_run.Given.{Over}
 use Rattle.jb_disk.proofs.disk.Disk.write_run.Goals.{After-write}
@@ -28,6 +28,13 @@ steps g c n few honest =
     let was = c.write.ensures.kept.was_honest honest in
     steps-run _ _ _ _ c.loop-k.k n c.args.place c.args.bytes.now _ _ _ few (λ d left. g.met.Self.Disk.only_now c.loop-k.self d was left)
     (c.loop-k.invariant.steps was) (rw (slice g c) at c.write.ensures.goes honest)
+
+pub returns-in_err-write-clause-spent : goal.returns-in_err-write-clause-spent
+returns-in_err-write-clause-spent g c = λ burnt. (
+  c.from_residual.ensures.0,
+  refused-first g.Self.Disk c.loop-k.k c.args.self.now c.loop-k.self c.write.new.self
+      c.loop-k.invariant.untried c.loop-k.invariant.passed (λ is. (c.write.ensures.spent is).1) burnt,
+)
 
 pub returns-in_err-write-clause-torn : goal.returns-in_err-write-clause-torn
 returns-in_err-write-clause-torn g c = torn g (goal.at.returns-in_err-write-clause-torn g c).After-write c.args.blocks c.loop-k-test.true

@@ -1,4 +1,4 @@
-use Rattle.std.proofs.Common.{length, arith, sym, ◌∙◌, ap}
+use Rattle.std.proofs.Common.{length, arith, rules, sym, ◌∙◌, ap}
 use Rattle.jb_disk.proofs.MemoryCalls.{kept_count, kept_size, kept_buffer}
 use Rattle.jb_disk.proofs.memory.MemoryDiskDisk.read.Goals as goal
 
@@ -15,3 +15,18 @@ pub returns-clause-found : goal.returns-clause-found
 returns-clause-found c = λ sound.
     c.copy_from_slice.ensures.after ∙ c.deref.ensures.value
     ∙ kept_buffer c.self.invariant c.self.view_is c.args.place c.index.result.now c.requires.place c.index.ensures
+
+pub returns-clause-kept : goal.returns-clause-kept
+returns-clause-kept c = search rules
+
+pub returns-clause-spent : goal.returns-clause-spent
+returns-clause-spent c = search rules
+
+pub returns-clause-own : goal.returns-clause-own
+returns-clause-own c = search rules
+
+pub returns-clause-newest : goal.returns-clause-newest
+returns-clause-newest c = search rules
+
+pub returns-clause-goes : goal.returns-clause-goes
+returns-clause-goes c = search rules
