@@ -136,7 +136,7 @@ impl Changes {
     {
         match op {
             Op::Write(home, payload) => self.take(home, Word::Copy(payload)),
-            Op::Revoke(home) => self.take(home, Word::Free),
+            Op::Revoke(home) => self.revoke(home),
         }
     }
 
