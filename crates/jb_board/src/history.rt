@@ -1,4 +1,4 @@
-ghost use Rattle.std.specs.Prelude.{◌≡◌, ℕ, [], ◌∷◌, ◌++◌, length, All};
+ghost use Rattle.std.specs.Prelude.{◌≡◌, ℕ, List, [], ◌∷◌, ◌++◌, length, All};
 ghost use Rattle.std.specs.List.{sum_by};
 ghost use Rattle.jb_board.specs.View.{writer};
 
@@ -72,6 +72,8 @@ impl<E, L: Place> Model for History<E, L> {
 
 impl<E, L: Place> History<E, L> {
     ghost use Rattle.jb_board.specs.HistoryRule.{with_last, with_places, IsFirstPart, StandsIn};
+    ghost use Rattle.jb_board.specs.HistorySteps.{Sees};
+    ghost use Rattle.jb_board.specs.View.{only_mine, only_seen, saw, told_by, without_mine};
 
     /// A token for which no entry was made.
     pub fn enter(&self) -> OwnEntries<E, L>
@@ -89,10 +91,11 @@ impl<E, L: Place> History<E, L> {
         ensures whole { appender.new ≡ with_last appender.old entry.now }
         ensures made { made.new ≡ made.old ++ (length appender.old, entry.now) ∷ [] }
     {
-        let shared = &self.table.shared;
-        shared.compare_exchange_with::<Add>(&mut appender.seat, 0, 0, 0, entry);
-        let one = shared.split_seat::<Entries>(&mut appender.seat);
-        shared.join_seat::<Tell>(&mut made.seat, one);
+        self.table
+            .shared
+            .compare_exchange_with::<Add>(&mut appender.seat, 0, 0, 0, entry);
+        let one = self.take_entries(&mut appender.seat);
+        self.tell(&mut made.seat, one);
     }
 
     /// The history as it is.
@@ -100,10 +103,7 @@ impl<E, L: Place> History<E, L> {
         ensures sight { result ≡ appender.old }
         ensures kept { appender.new ≡ appender.old }
     {
-        let seat = self
-            .table
-            .shared
-            .split_seat::<ShareSeen>(&mut appender.seat);
+        let seat = self.share(&mut appender.seat);
         Prefix {
             seat,
             place: PhantomData,
@@ -115,7 +115,7 @@ impl<E, L: Place> History<E, L> {
         ensures sight { result ≡ sight.old }
         ensures kept { sight.new ≡ sight.old }
     {
-        let seat = self.table.shared.split_seat::<ShareSeen>(&mut sight.seat);
+        let seat = self.share(&mut sight.seat);
         Prefix {
             seat,
             place: PhantomData,
@@ -128,10 +128,9 @@ impl<E, L: Place> History<E, L> {
         ensures other { IsFirstPart other.old sight.new }
         ensures kept { other.new ≡ other.old }
     {
-        let shared = &self.table.shared;
-        let seat = shared.split_seat::<ShareSeen>(&mut other.seat);
-        shared.join_seat::<Tell>(&mut sight.seat, seat);
-        shared.load::<Observe>(&mut sight.seat, 0);
+        let seat = self.share(&mut other.seat);
+        self.tell(&mut sight.seat, seat);
+        self.observe(&mut sight.seat);
     }
 
     /// The whole history begins with what was seen.
@@ -140,9 +139,8 @@ impl<E, L: Place> History<E, L> {
         ensures sight { IsFirstPart sight appender.old }
     {
         let Prefix { seat, place: _ } = sight;
-        let shared = &self.table.shared;
-        shared.join_seat::<Tell>(&mut appender.seat, seat);
-        shared.load::<Observe>(&mut appender.seat, 0);
+        self.tell(&mut appender.seat, seat);
+        self.observe(&mut appender.seat);
     }
 
     /// One token has the entries of two.
@@ -150,7 +148,7 @@ impl<E, L: Place> History<E, L> {
         ensures { made.new ≡ made.old ++ other }
     {
         let OwnEntries { seat, place: _ } = other;
-        self.table.shared.join_seat::<Tell>(&mut made.seat, seat);
+        self.tell(&mut made.seat, seat);
     }
 
     /// The history has each entry of the token at its place. Where there are as many, the token has each of the
@@ -162,10 +160,46 @@ impl<E, L: Place> History<E, L> {
             → (h : ℕ × E → ℕ) → sum_by h made ≡ sum_by h (with_places 0 appender.old) }
     {
         let OwnEntries { seat, place: _ } = made;
-        let shared = &self.table.shared;
-        shared.join_seat::<Tell>(&mut appender.seat, seat);
-        shared.load::<Observe>(&mut appender.seat, 0);
+        self.tell(&mut appender.seat, seat);
+        self.observe(&mut appender.seat);
         // for the proof alone: what was joined is split off again, so that the token is as it was
-        let _entries = shared.split_seat::<Entries>(&mut appender.seat);
+        let _entries = self.take_entries(&mut appender.seat);
+    }
+
+    /// One more seat, which has seen what this one has.
+    fn share(&self, seat: &mut Seat<E, View<E>>) -> Seat<E, View<E>>
+        requires { seat.old.table_id ≡ L.history }
+        ensures kept { (seat.new.table_id ≡ L.history) × (seat.new.me ≡ seat.old.me) }
+        ensures seen { (result.table_id ≡ L.history) × (result.me ≡ (only_seen seat.old.me.0, [])) }
+    {
+        self.table.shared.split_seat::<ShareSeen>(seat)
+    }
+
+    /// One more seat, which has the entries that were made for this one.
+    fn take_entries(&self, seat: &mut Seat<E, View<E>>) -> Seat<E, View<E>>
+        requires { seat.old.table_id ≡ L.history }
+        ensures left { (seat.new.table_id ≡ L.history) × (seat.new.me ≡ (without_mine seat.old.me.0, seat.old.me.1)) }
+        ensures mine { (result.table_id ≡ L.history) × (result.me ≡ (only_mine seat.old.me.0, [])) }
+    {
+        self.table.shared.split_seat::<Entries>(seat)
+    }
+
+    /// The seat is told what another has seen, and gets its entries.
+    fn tell(&self, seat: &mut Seat<E, View<E>>, other: Seat<E, View<E>>)
+        requires here { seat.old.table_id ≡ L.history }
+        requires other { (other.table_id ≡ L.history) × (other.me.1 ≡ []) }
+        ensures here { seat.new.table_id ≡ L.history }
+        ensures told { seat.new.me ≡ (told_by seat.old.me.0 other.me.0, seat.old.me.1) }
+    {
+        self.table.shared.join_seat::<Tell>(seat, other);
+    }
+
+    /// The seat sees the history as it is.
+    fn observe(&self, seat: &mut Seat<E, View<E>>)
+        requires { seat.old.table_id ≡ L.history }
+        ensures here { seat.new.table_id ≡ L.history }
+        ensures saw { (log : List E) × Sees seat.old.me.0 log × (seat.new.me ≡ (saw log seat.old.me.0, seat.old.me.1)) }
+    {
+        self.table.shared.load::<Observe>(seat, 0);
     }
 }

@@ -65,7 +65,7 @@ impl Model for Changes {
 impl Changes {
     ghost use Rattle.jb_handle.specs.HeldChanges.{Held, held, touched_count, IsKept, len_in, put_at, after};
     ghost use Rattle.jb_handle.specs.HeldChanges.{home_of, refusal};
-    ghost use Rattle.jb_handle.specs.HeldChanges.{refusal_at};
+    ghost use Rattle.jb_handle.specs.HeldChanges.{refusal_at, is_spent};
     ghost use Rattle.jb_handle.specs.Word.{is_copy};
     ghost use Rattle.jb_handle.specs.declared.op.Op.TheVariants.{Write, Revoke};
     ghost use Rattle.jb_handle.specs.declared.changes.TouchFault.TheVariants.{Memory as OutOfMemory};
@@ -135,10 +135,7 @@ impl Changes {
             × (map.contains_key self.old.words (home_of op) ≡ false)) }
     {
         match op {
-            Op::Write(home, payload) => {
-                self.admit(home, Some(payload.len()))?;
-                self.keep(home, Word::Copy(payload))
-            }
+            Op::Write(home, payload) => self.take(home, Word::Copy(payload)),
             Op::Revoke(home) => self.revoke(home),
         }
     }
@@ -178,8 +175,7 @@ impl Changes {
         ensures memory { IfErr result (λ fault. fault ≡ OutOfMemory → (refusal self.old (Revoke home) ≡ None)
             × (map.contains_key self.old.words home ≡ false)) }
     {
-        self.admit(home, None)?;
-        self.keep(home, Word::Free)
+        self.take(home, Word::Free)
     }
 
     /// Puts a copy of a word on the home block: what [`Changes::write`] does with the bytes of a copy, and
@@ -204,6 +200,20 @@ impl Changes {
         self.keep(home, word)
     }
 
+    /// Takes a word as it is on the home block.
+    fn take(&mut self, home: u64, word: Word) -> Result<(), TouchFault>
+        ensures ok { OnOk result (self.new ≡ put_at self.old home word) }
+        ensures granted { OnOk result (refusal_at self.old home (len_in word) ≡ None) }
+        ensures err { OnErr result (self.new ≡ self.old) }
+        ensures refused { IfErr result (λ fault. (fault ≡ OutOfMemory)
+            ⊎ (refusal_at self.old home (len_in word) ≡ Some fault)) }
+        ensures memory { IfErr result (λ fault. fault ≡ OutOfMemory → (refusal_at self.old home (len_in word) ≡ None)
+            × (map.contains_key self.old.words home ≡ false)) }
+    {
+        self.admit(home, word.len())?;
+        self.keep(home, word)
+    }
+
     /// The first reason against a change of this home block, by a write of so many bytes or a revoke.
     fn admit(&self, home: u64, len: Option<usize>) -> Result<(), TouchFault>
         ensures ok { OnOk result (refusal_at self.now home len ≡ None) }
@@ -211,7 +221,7 @@ impl Changes {
         ensures reason { IfErr result (λ fault. fault ≢ OutOfMemory) }
         ensures kept { IsKept self.now }
     {
-        if self.words.get(home).is_none() && self.touched() >= self.credits {
+        if self.is_spent(home) {
             return Err(TouchFault::NoCredit(self.credits));
         }
         if home >= self.shape.homes {
@@ -221,6 +231,13 @@ impl Changes {
             Some(len) if len != self.shape.bs.bytes() as usize => Err(TouchFault::Length),
             _ => Ok(()),
         }
+    }
+
+    /// Whether the home block is new, and all credits are used.
+    fn is_spent(&self, home: u64) -> bool
+        ensures { result ≡ is_spent self.now home }
+    {
+        self.words.get(home).is_none() && self.touched() >= self.credits
     }
 
     /// Keeps a word on a home block for which it was admitted.

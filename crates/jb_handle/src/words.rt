@@ -113,13 +113,7 @@ impl Words {
         ensures new { OnErr result (map.get self.old home ≡ None) }
     {
         word.holds_bytes(); // for the proof alone: words hold bytes
-        match place_of(&self.entries, home) {
-            Ok(at) => {
-                self.entries[at] = (home, word);
-                Ok(())
-            }
-            Err(at) => Ok(self.entries.insert(at, (home, word))?),
-        }
+        put_entry(&mut self.entries, home, word)
     }
 
     /// Whether each word fits a shape.
@@ -132,6 +126,22 @@ impl Words {
             }
         }
         true
+    }
+}
+
+/// Puts an entry in its place among entries with rising homes, over the one of its home, if any.
+fn put_entry(entries: &mut Vec<(u64, Word)>, home: u64, word: Word) -> Result<(), Memory>
+    requires rising { T (map.is_sorted nat_cmp entries.old.items) }
+    ensures ok { OnOk result (map.put nat_cmp home word entries.old.items ≡ entries.new.items) }
+    ensures err { OnErr result (entries.new.items ≡ entries.old.items) }
+    ensures new { OnErr result (map.find nat_cmp home entries.old.items ≡ None) }
+{
+    match place_of(entries, home) {
+        Ok(at) => {
+            entries[at] = (home, word);
+            Ok(())
+        }
+        Err(at) => Ok(entries.insert(at, (home, word))?),
     }
 }
 

@@ -1,18 +1,17 @@
-use Rattle.std.proofs.Common.{sym, ap, ◌∙◌, arith}
-use Rattle.jb_board.proofs.HistoryKeeps.{joins, looks, splits_sights}
+use Rattle.std.proofs.Common.{sym, ap}
 use Rattle.jb_board.proofs.history.History.learn.Goals as goal
 
-pub split_seat-seat-requires : goal.split_seat-seat-requires
-split_seat-seat-requires g c = (c.other.invariant.0 ∙ sym c.self.invariant.0, omega (arith, c.self.invariant.1), splits_sights _ _)
+pub tell-requires-clause-other : goal.tell-requires-clause-other
+tell-requires-clause-other g c = (c.share-seat.ensures.seen.0, ap (λ m. m.1) c.share-seat.ensures.seen.1)
 
-pub join_seat-requires : goal.join_seat-requires
-join_seat-requires g c = (
-  c.sight.invariant.0 ∙ sym c.self.invariant.0,
-  c.split_seat-seat.ensures.3 ∙ (c.other.invariant.0 ∙ sym c.self.invariant.0),
-  ap (λ m. m.1) c.split_seat-seat.ensures.4,
-  omega (arith, c.self.invariant.1),
-  joins _ _ _ _,
-)
+-- what was seen before begins what is seen now
+pub returns-clause-own : goal.returns-clause-own
+returns-clause-own g c =
+    let saw = c.observe.ensures.saw in
+    rw (sym c.sight.view_is, ap (λ m. m.0.seen) saw.2, sym (ap (λ m. m.0.seen) c.tell.ensures.told)) saw.1.seen
 
-pub load-requires : goal.load-requires
-load-requires g c = (c.join_seat.ensures.0 ∙ (c.sight.invariant.0 ∙ sym c.self.invariant.0), omega (arith, c.self.invariant.1), looks _ _ _)
+-- and what the other has seen
+pub returns-clause-other : goal.returns-clause-other
+returns-clause-other g c =
+    let saw = c.observe.ensures.saw in
+    rw (sym c.other.view_is, ap (λ m. m.0.seen) saw.2, sym (ap (λ m. m.0.seen) c.share-seat.ensures.seen.1), sym (ap (λ m. m.0.told) c.tell.ensures.told)) saw.1.told
