@@ -76,7 +76,7 @@ fn is_loop_over<R: Files<File = File> + AllocGlobal>(
     is_backed_by_one(rt, &device, &part, metadata)
 }
 
-/// The name of the file in which the system says what a loop device is over; `folder` leads there from the device's own.
+/// The name of the file that says what a loop device is over; `folder` leads there from the folder of the device.
 fn backing_file<R: AllocGlobal>(
     rt: &R,
     major: u64,
