@@ -1,5 +1,5 @@
 -- What a call of two disks keeps and counts, by what the calls of each of them do.
-use Rattle.std.proofs.Common.{◌≡◌, ◌+◌, ◌-◌, ◌≤◌, ℕ, Result, Ok, Err, IsErr, refl, sym, ◌∙◌, ap, arith}
+use Rattle.std.proofs.Common.{false, IsTrue, ◌≡◌, ◌+◌, ◌-◌, ◌*◌, ◌<◌, ◌^◌, ◌≤◌, ℕ, Result, Ok, Err, IsErr, refl, sym, ◌∙◌, ap, arith}
 use Rattle.std.proofs.lemmas.Bool.Decides.{nat_tests}
 use Rattle.jb_disk.specs.Faults.{counted, CountsFault, CountsNone, MoreFaults}
 use Rattle.jb_disk.specs.Kept.{Kept}
@@ -81,3 +81,12 @@ run-front count all number run within = record { some = run.some; within = rw nu
 -- or in the second
 pub run-back : (size count other more : ℕ) {place blocks bytes n : ℕ} → n ≡ count → IsRunOn size (joined_count size count other more) place blocks bytes → n ≤ place → IsRunOn other more (place - n) blocks bytes
 run-back size count other more number run past = grind (arith, nat_tests, run.some, run.within, run.range, run.long)
+
+-- what begins in the first and ends in the second: its blocks in the first
+pub run-begun : {size count place bytes n : ℕ} → n ≡ count → n < 2 ^ 64 → place < n → bytes ≡ size * (n - place) → IsRunOn size count place (n - place) bytes
+run-begun number few before long = record { some = omega (arith, before); within = omega (arith, number, before); range = omega (arith, few, before); long = long }
+
+-- ---- what is said of a disk that refuses its next call, or whose runs are calls
+
+pub never : {P : Type 0} → IsTrue false → P
+never told = absurd (let h : ⊥ = cc in h)

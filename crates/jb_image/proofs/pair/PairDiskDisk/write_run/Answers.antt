@@ -5,7 +5,7 @@ use Rattle.jb_disk.specs.Runs.{TornRun}
 use Rattle.jb_disk.proofs.RunWrites.{torn_run-same}
 use Rattle.jb_image.proofs.JoinedImages.{Halves, in-front, in-back, torn_blocks, torn-both, written_blocks, wrote-both}
 use Rattle.jb_image.proofs.PairCalls.{steps-front, steps-back, steps-both}
-use Rattle.jb_image.proofs.PairKept.{fails-front, keeps-front, keeps-back, keeps-then, run-front, run-back}
+use Rattle.jb_image.proofs.PairKept.{never, run-begun, fails-front, keeps-front, keeps-back, keeps-then, run-front, run-back}
 use Rattle.jb_image.proofs.pair.PairDiskDisk.write_run.Given.{Over}
 use Rattle.jb_image.proofs.pair.PairDiskDisk.write_run.Goals as goal
 use Rattle.jb_image.proofs.pair.PairDiskDisk.write_run.Goals.{After-blocks-front, After-split_at}
@@ -147,3 +147,31 @@ returns-in_err-write_run-clause-kept g c =
 pub returns-clause-kept : goal.returns-clause-kept
 returns-clause-kept g c =
     keeps-then g.A.Disk g.B.Disk c.args.self.now c.write_run-2.new.self c.write_run-3.new.self c.note-2.new.self c.write_run-3.result c.in_ok-write_run.ensures.kept c.write_run-3.ensures.kept
+
+pub returns-then-place-blocks-clause-spent : goal.returns-then-place-blocks-clause-spent
+returns-then-place-blocks-clause-spent g c = never
+
+pub returns-then-place-blocks-clause-own : goal.returns-then-place-blocks-clause-own
+returns-then-place-blocks-clause-own g c = never
+
+pub returns-then-front-place-clause-spent : goal.returns-then-front-place-clause-spent
+returns-then-front-place-clause-spent g c = never
+
+pub returns-then-front-place-clause-own : goal.returns-then-front-place-clause-own
+returns-then-front-place-clause-own g c = never
+
+pub returns-in_err-write_run-clause-spent : goal.returns-in_err-write_run-clause-spent
+returns-in_err-write_run-clause-spent g c = never
+
+pub returns-in_err-write_run-clause-own : goal.returns-in_err-write_run-clause-own
+returns-in_err-write_run-clause-own g c = never
+
+pub returns-clause-spent : goal.returns-clause-spent
+returns-clause-spent g c = never
+
+pub returns-clause-own : goal.returns-clause-own
+returns-clause-own g c = never
+
+pub write_run-requires-2 : goal.write_run-requires-2
+write_run-requires-2 g c =
+    record { run = run-begun c.blocks-front.ensures c.blocks-front.type_inv c.if-front-place.false (parts g (goal.at.write_run-requires-2 g c).After-split_at).long }
