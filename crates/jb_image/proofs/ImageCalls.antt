@@ -1,16 +1,20 @@
 -- A call of an image that is two disks, or one in extents of which the journal stands, is one of these.
 use Rattle.std.proofs.Common.{◌≡◌, ℕ, length}
+use Rattle.jb_disk.specs.Faults.{counted}
 use Rattle.jb_disk.specs.Image.{Image}
+use Rattle.jb_disk.specs.Kept.{Kept}
+use Rattle.jb_disk.specs.KeptOn.{KeptOn}
 use Rattle.jb_disk.specs.Steps.{Steps}
 use Rattle.jb_disk.specs.Time.{Goes}
 use Rattle.jb_disk.specs.declared.disk.Disk.{Ghosts}
-use Rattle.jb_image.specs.Disks.{whole_disk}
-use Rattle.jb_image.specs.ExtentImage.{WithinLeaves, WithinLeft}
+use Rattle.jb_image.proofs.PairKept.{PairKept}
+use Rattle.jb_image.specs.Disks.{journal_blocks, refused_calls, spread_count, whole_disk}
+use Rattle.jb_image.specs.ExtentImage.{IsHonestWithin, WithinLeaves, WithinLeft}
 use Rattle.jb_image.specs.declared.extents_disk.ExtentsDisk.{ExtentsDisk}
 use Rattle.jb_image.specs.declared.image.ImageDisk.{ImageDisk}
-use Rattle.jb_image.specs.declared.image.ImageDisk.TheVariants.{Two, Within}
+use Rattle.jb_image.specs.declared.image.ImageDisk.TheVariants.{One, Two, Within}
 use Rattle.jb_image.specs.declared.pair.PairDisk.{PairDisk}
-use Rattle.jb_image.specs.Images.{image_moment, image_size, ImageLeaves, ImageLeft}
+use Rattle.jb_image.specs.Images.{image_count, image_faults, image_moment, image_size, ImageLeaves, ImageLeft, IsHonestImage}
 use Rattle.jb_image.specs.Pair.{front_disk, past_states, PairLeaves, PairLeftSince}
 
 module _ {D E : Type 0} (G : Ghosts D) (H : Ghosts E) {step : Image → Image → Type 0} {old : ImageDisk D E} where
@@ -31,3 +35,21 @@ module _ {D E : Type 0} (G : Ghosts D) (H : Ghosts E) (step : ℕ → Image → 
   pub steps-within : (d e : ExtentsDisk D) → old ≡ Within d → Steps (WithinLeaves G) (λ d. G.moment (whole_disk d)) (WithinLeft G) (step (G.size (whole_disk d))) d e
       → Steps (ImageLeaves G H) (image_moment G H) (ImageLeft G H) (step (image_size G H old)) old (Within e)
   steps-within d e is run = rw is (record { now = record { each = run.now.each }; leaves = record { later = run.leaves.later; each = run.leaves.each; before = run.leaves.before } })
+
+-- what a call of a disk in extents of which the journal stands keeps and counts
+abbrev WithinKept : {D : Type 0} → Ghosts D → (ℕ → ℕ → Type 0) → ExtentsDisk D → ExtentsDisk D → Type 0
+WithinKept G = Kept (λ d. G.size (whole_disk d)) (λ d. spread_count (journal_blocks d) (G.count (whole_disk d))) (λ d. counted (G.faults (whole_disk d)) (refused_calls d)) (IsHonestWithin G)
+
+-- and what a call of an image does
+module _ {D E : Type 0} (G : Ghosts D) (H : Ghosts E) (counts : ℕ → ℕ → Type 0) where
+  abbrev pub ImageKept : ImageDisk D E → ImageDisk D E → Type 0
+  ImageKept = Kept (image_size G H) (image_count G H) (image_faults G H) (IsHonestImage G H) counts
+
+  pub keeps-one : {old : ImageDisk D E} {d e : D} → old ≡ One d → KeptOn G counts d e → ImageKept old (One e)
+  keeps-one is kept = rw is (record { same_size = kept.same_size; same_count = kept.same_count; was_honest = kept.was_honest; counted = kept.counted })
+
+  pub keeps-two : {old : ImageDisk D E} {p q : PairDisk E D} → old ≡ Two p → PairKept H G counts p q → ImageKept old (Two q)
+  keeps-two is kept = rw is (record { same_size = kept.same_size; same_count = kept.same_count; was_honest = kept.was_honest; counted = kept.counted })
+
+  pub keeps-within : {old : ImageDisk D E} {d e : ExtentsDisk D} → old ≡ Within d → WithinKept G counts d e → ImageKept old (Within e)
+  keeps-within is kept = rw is (record { same_size = kept.same_size; same_count = kept.same_count; was_honest = kept.was_honest; counted = kept.counted })

@@ -3,5 +3,6 @@ mod ImageCalls
 mod JoinedImages
 pub mod OpenedFile
 mod PairCalls
+mod PairKept
 pub mod TakenWords
 pub mod WordBytes

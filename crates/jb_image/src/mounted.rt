@@ -60,10 +60,40 @@ fn is_mount_of<R: Files<File = File> + AllocGlobal>(
     if major != LOOP && major != PARTITION {
         return Ok(false);
     }
-    let device = format!(in rt.alloc(); "/sys/dev/block/{major}:{minor}/loop/backing_file")?;
+    is_loop_over(rt, major, minor, metadata)
+}
+
+/// Whether the loop device of these numbers, or the one that it is a partition of, is over this file.
+fn is_loop_over<R: Files<File = File> + AllocGlobal>(
+    rt: &R,
+    major: u64,
+    minor: u64,
+    metadata: &Metadata,
+) -> Result<bool, ImageFault> {
+    let device = backing_file(rt, major, minor, "")?;
     // a partition of a loop device is in that one's folder
-    let part = format!(in rt.alloc(); "/sys/dev/block/{major}:{minor}/../loop/backing_file")?;
-    Ok(is_backed(rt, &device, metadata)? || is_backed(rt, &part, metadata)?)
+    let part = backing_file(rt, major, minor, "../")?;
+    is_backed_by_one(rt, &device, &part, metadata)
+}
+
+/// The name of the file that says what a loop device is over; `folder` leads there from the folder of the device.
+fn backing_file<R: AllocGlobal>(
+    rt: &R,
+    major: u64,
+    minor: u64,
+    folder: &str,
+) -> Result<String, ImageFault> {
+    Ok(format!(in rt.alloc(); "/sys/dev/block/{major}:{minor}/{folder}loop/backing_file")?)
+}
+
+/// Whether one of two names that the system has written is one of this file.
+fn is_backed_by_one<R: Files<File = File> + AllocGlobal>(
+    rt: &R,
+    device: &str,
+    part: &str,
+    metadata: &Metadata,
+) -> Result<bool, ImageFault> {
+    Ok(is_backed(rt, device, metadata)? || is_backed(rt, part, metadata)?)
 }
 
 /// Whether the name that the system has written here, with an LF after it, is one of this file.
@@ -75,7 +105,12 @@ fn is_backed<R: Files<File = File> + AllocGlobal>(
     let Some(text) = given(fs::read(rt, said))? else {
         return Ok(false);
     };
-    let Ok(text) = str::from_utf8(text.as_slice()) else {
+    is_written(rt, text.as_slice(), metadata)
+}
+
+/// Whether the name in this text, with an LF after it, is one of this file.
+fn is_written<R: Files>(rt: &R, text: &[u8], metadata: &Metadata) -> Result<bool, ImageFault> {
+    let Ok(text) = str::from_utf8(text) else {
         return Ok(false);
     };
     let name = text.strip_suffix('\n').unwrap_or(text);

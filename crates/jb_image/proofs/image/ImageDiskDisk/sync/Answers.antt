@@ -1,4 +1,5 @@
-use Rattle.jb_image.proofs.ImageCalls.{goes-two, goes-within}
+use Rattle.jb_disk.specs.Faults.{CountsFault}
+use Rattle.jb_image.proofs.ImageCalls.{keeps-one, keeps-two, keeps-within, goes-two, goes-within}
 use Rattle.jb_image.proofs.image.ImageDiskDisk.sync.Goals as goal
 
 pub returns-in-Two-clause-goes : goal.returns-in-Two-clause-goes
@@ -12,3 +13,12 @@ returns-in-Two-clause-durable g c honest = rw c.in-Two.is (c.sync-in-Two.ensures
 
 pub returns-in-Within-clause-durable : goal.returns-in-Within-clause-durable
 returns-in-Within-clause-durable g c honest = rw c.in-Within.is (c.sync-in-Within.ensures.durable honest)
+
+pub returns-in-One-clause-kept : goal.returns-in-One-clause-kept
+returns-in-One-clause-kept g c = keeps-one g.D.Disk g.E.Disk (CountsFault c.sync.result) c.in-One.is c.sync.ensures.kept
+
+pub returns-in-Two-clause-kept : goal.returns-in-Two-clause-kept
+returns-in-Two-clause-kept g c = keeps-two g.D.Disk g.E.Disk (CountsFault c.sync-in-Two.result) c.in-Two.is c.sync-in-Two.ensures.kept
+
+pub returns-in-Within-clause-kept : goal.returns-in-Within-clause-kept
+returns-in-Within-clause-kept g c = keeps-within g.D.Disk g.E.Disk (CountsFault c.sync-in-Within.result) c.in-Within.is c.sync-in-Within.ensures.kept

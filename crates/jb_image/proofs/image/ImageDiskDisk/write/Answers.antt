@@ -1,4 +1,5 @@
-use Rattle.jb_image.proofs.ImageCalls.{goes-two, goes-within}
+use Rattle.jb_disk.specs.Faults.{CountsFault}
+use Rattle.jb_image.proofs.ImageCalls.{keeps-one, keeps-two, keeps-within, goes-two, goes-within}
 use Rattle.jb_image.proofs.image.ImageDiskDisk.write.Goals as goal
 
 pub returns-in-Two-clause-goes : goal.returns-in-Two-clause-goes
@@ -6,3 +7,12 @@ returns-in-Two-clause-goes g c honest = goes-two g.D.Disk g.E.Disk c.in-Two.is (
 
 pub returns-in-Within-clause-goes : goal.returns-in-Within-clause-goes
 returns-in-Within-clause-goes g c honest = goes-within g.D.Disk g.E.Disk c.in-Within.is (c.write-in-Within.ensures.goes honest)
+
+pub returns-in-One-clause-kept : goal.returns-in-One-clause-kept
+returns-in-One-clause-kept g c = keeps-one g.D.Disk g.E.Disk (CountsFault c.write.result) c.in-One.is c.write.ensures.kept
+
+pub returns-in-Two-clause-kept : goal.returns-in-Two-clause-kept
+returns-in-Two-clause-kept g c = keeps-two g.D.Disk g.E.Disk (CountsFault c.write-in-Two.result) c.in-Two.is c.write-in-Two.ensures.kept
+
+pub returns-in-Within-clause-kept : goal.returns-in-Within-clause-kept
+returns-in-Within-clause-kept g c = keeps-within g.D.Disk g.E.Disk (CountsFault c.write-in-Within.result) c.in-Within.is c.write-in-Within.ensures.kept

@@ -1,7 +1,8 @@
-use Rattle.std.proofs.Common.{◌+◌, ◌-◌, ◌*◌, ◌++◌, refl, sym, ◌∙◌, ap, arith}
+use Rattle.std.proofs.Common.{◌-◌, ◌*◌, ◌++◌, refl, sym, ◌∙◌, ap, arith}
 use Rattle.std.proofs.lemmas.Result.{on_ok_weaker}
 use Rattle.jb_image.proofs.JoinedImages.{Halves, reads-both}
 use Rattle.jb_image.proofs.PairCalls.{reads-front, reads-back, goes-both}
+use Rattle.jb_image.proofs.PairKept.{fails-front, keeps-front, keeps-back, keeps-then, run-front, run-back}
 use Rattle.jb_image.proofs.pair.PairDiskDisk.read_run.Goals as goal
 
 pub returns-then-place-blocks-clause-goes : goal.returns-then-place-blocks-clause-goes
@@ -41,3 +42,27 @@ returns-clause-goes g c honest =
     let second = c.read_run-3.ensures in
     goes-both g.A.Disk g.B.Disk g.met.A.Disk.only_now g.met.B.Disk.only_now g.met.A.Disk.has_shape g.met.B.Disk.has_shape c.args.self.now c.read_run-2.new.self c.read_run-3.new.self
     c.note.new.self c.note-2.new.self c.note.ensures c.note-2.ensures first.kept second.kept honest first.goes second.goes
+
+pub read_run-requires : goal.read_run-requires
+read_run-requires g c = record { run = run-front (g.A.Disk.count c.args.self.now.front) _ c.blocks-front.ensures c.requires.run c.if-place-blocks.true }
+
+pub read_run-requires-then-front-place : goal.read_run-requires-then-front-place
+read_run-requires-then-front-place g c =
+    let p = c.args.self.now in
+    record { run = run-back (g.A.Disk.size p.front) (g.A.Disk.count p.front) (g.B.Disk.size p.back) (g.B.Disk.count p.back) c.blocks-front.ensures c.requires.run c.if-front-place.true }
+
+pub returns-then-place-blocks-clause-kept : goal.returns-then-place-blocks-clause-kept
+returns-then-place-blocks-clause-kept g c = keeps-front g.A.Disk g.B.Disk c.read_run.result c.args.self.now c.read_run.new.self c.note.new.self c.read_run.ensures.kept
+
+pub returns-then-front-place-clause-kept : goal.returns-then-front-place-clause-kept
+returns-then-front-place-clause-kept g c =
+    let run = c.read_run-then-front-place in
+    keeps-back g.A.Disk g.B.Disk run.result c.args.self.now run.new.self c.note.new.self run.ensures.kept
+
+pub returns-in_err-read_run-clause-kept : goal.returns-in_err-read_run-clause-kept
+returns-in_err-read_run-clause-kept g c =
+    fails-front g.A.Disk g.B.Disk c.from_residual.result c.args.self.now c.read_run-2.new.self c.note.new.self c.from_residual.ensures.0 c.in_err-read_run.ensures.kept
+
+pub returns-clause-kept : goal.returns-clause-kept
+returns-clause-kept g c =
+    keeps-then g.A.Disk g.B.Disk c.args.self.now c.read_run-2.new.self c.read_run-3.new.self c.note-2.new.self c.read_run-3.result c.in_ok-read_run.ensures.kept c.read_run-3.ensures.kept

@@ -4,6 +4,7 @@ use Rattle.std.proofs.lemmas.Result.{on_ok_weaker}
 use Rattle.jb_disk.specs.Image.{Torn}
 use Rattle.jb_image.proofs.JoinedImages.{in-front, in-back, torn_block}
 use Rattle.jb_image.proofs.PairCalls.{goes-front, goes-back}
+use Rattle.jb_image.proofs.PairKept.{keeps-front, keeps-back}
 use Rattle.jb_image.proofs.pair.PairDiskDisk.write.Goals as goal
 
 pub returns-then-place-front-clause-written : goal.returns-then-place-front-clause-written
@@ -58,3 +59,9 @@ returns-clause-goes g c honest =
     (λ x y y' left torn. in-back 1 (torn_block bytes) place c.args.place x y y'
     (omega (arith, c.if-place-front.false, c.blocks-front.ensures, (g.met.A.Disk.has_shape p.front x honest.first left).blocks)) torn)
     (c.write-2.ensures.goes honest.second)
+
+pub returns-then-place-front-clause-kept : goal.returns-then-place-front-clause-kept
+returns-then-place-front-clause-kept g c = keeps-front g.A.Disk g.B.Disk c.write.result c.args.self.now c.write.new.self c.note.new.self c.write.ensures.kept
+
+pub returns-clause-kept : goal.returns-clause-kept
+returns-clause-kept g c = keeps-back g.A.Disk g.B.Disk c.write-2.result c.args.self.now c.write-2.new.self c.note.new.self c.write-2.ensures.kept

@@ -5,6 +5,7 @@ use Rattle.jb_disk.specs.Runs.{TornRun}
 use Rattle.jb_disk.proofs.RunWrites.{torn_run-same}
 use Rattle.jb_image.proofs.JoinedImages.{Halves, in-front, in-back, torn_blocks, torn-both, written_blocks, wrote-both}
 use Rattle.jb_image.proofs.PairCalls.{steps-front, steps-back, steps-both}
+use Rattle.jb_image.proofs.PairKept.{never, run-begun, fails-front, keeps-front, keeps-back, keeps-then, run-front, run-back}
 use Rattle.jb_image.proofs.pair.PairDiskDisk.write_run.Given.{Over}
 use Rattle.jb_image.proofs.pair.PairDiskDisk.write_run.Goals as goal
 use Rattle.jb_image.proofs.pair.PairDiskDisk.write_run.Goals.{After-blocks-front, After-split_at}
@@ -122,3 +123,55 @@ returns-clause-steps g c honest =
     c.note.new.self c.note-2.new.self c.note.ensures c.note-2.ensures begun.kept ended.kept honest (parts g (goal.at.returns-clause-steps g c).After-split_at) c.args.place
     (omega (arith, c.blocks-front.ensures, c.if-front-place.false)) (begun.steps honest.first)
     (rw (sym ended.kept.same_size ∙ sym honest.same_size ∙ begun.kept.same_size) at (ended.steps honest.second))
+
+pub write_run-requires : goal.write_run-requires
+write_run-requires g c = record { run = run-front (g.A.Disk.count c.args.self.now.front) _ c.blocks-front.ensures c.requires.run c.if-place-blocks.true }
+
+pub write_run-requires-then-front-place : goal.write_run-requires-then-front-place
+write_run-requires-then-front-place g c =
+    let p = c.args.self.now in
+    record { run = run-back (g.A.Disk.size p.front) (g.A.Disk.count p.front) (g.B.Disk.size p.back) (g.B.Disk.count p.back) c.blocks-front.ensures c.requires.run c.if-front-place.true }
+
+pub returns-then-place-blocks-clause-kept : goal.returns-then-place-blocks-clause-kept
+returns-then-place-blocks-clause-kept g c = keeps-front g.A.Disk g.B.Disk c.write_run.result c.args.self.now c.write_run.new.self c.note.new.self c.write_run.ensures.kept
+
+pub returns-then-front-place-clause-kept : goal.returns-then-front-place-clause-kept
+returns-then-front-place-clause-kept g c =
+    let run = c.write_run-then-front-place in
+    keeps-back g.A.Disk g.B.Disk run.result c.args.self.now run.new.self c.note.new.self run.ensures.kept
+
+pub returns-in_err-write_run-clause-kept : goal.returns-in_err-write_run-clause-kept
+returns-in_err-write_run-clause-kept g c =
+    fails-front g.A.Disk g.B.Disk c.from_residual.result c.args.self.now c.write_run-2.new.self c.note.new.self c.from_residual.ensures.0 c.in_err-write_run.ensures.kept
+
+pub returns-clause-kept : goal.returns-clause-kept
+returns-clause-kept g c =
+    keeps-then g.A.Disk g.B.Disk c.args.self.now c.write_run-2.new.self c.write_run-3.new.self c.note-2.new.self c.write_run-3.result c.in_ok-write_run.ensures.kept c.write_run-3.ensures.kept
+
+pub returns-then-place-blocks-clause-spent : goal.returns-then-place-blocks-clause-spent
+returns-then-place-blocks-clause-spent g c = never
+
+pub returns-then-place-blocks-clause-own : goal.returns-then-place-blocks-clause-own
+returns-then-place-blocks-clause-own g c = never
+
+pub returns-then-front-place-clause-spent : goal.returns-then-front-place-clause-spent
+returns-then-front-place-clause-spent g c = never
+
+pub returns-then-front-place-clause-own : goal.returns-then-front-place-clause-own
+returns-then-front-place-clause-own g c = never
+
+pub returns-in_err-write_run-clause-spent : goal.returns-in_err-write_run-clause-spent
+returns-in_err-write_run-clause-spent g c = never
+
+pub returns-in_err-write_run-clause-own : goal.returns-in_err-write_run-clause-own
+returns-in_err-write_run-clause-own g c = never
+
+pub returns-clause-spent : goal.returns-clause-spent
+returns-clause-spent g c = never
+
+pub returns-clause-own : goal.returns-clause-own
+returns-clause-own g c = never
+
+pub write_run-requires-2 : goal.write_run-requires-2
+write_run-requires-2 g c =
+    record { run = run-begun c.blocks-front.ensures c.blocks-front.type_inv c.if-front-place.false (parts g (goal.at.write_run-requires-2 g c).After-split_at).long }
