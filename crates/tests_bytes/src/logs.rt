@@ -88,16 +88,18 @@ fn answers(found: &Result<Seen, ScanFault>, wanted: &Found) -> bool {
     }
 }
 
-/// What a log of blocks that begin with these bytes is found to hold, where it is read at once.
-fn found_at_once(
+/// Whether just this is found in a log of blocks that begin with these bytes, where it is read at once.
+fn is_read(
     test: &impl Test,
     alloc: Global,
     blocks: &[&[u8]],
     number: u32,
     width: Width,
-) -> Result<Seen, ScanFault> {
+    wanted: &Found,
+) -> bool {
     let log = log_of(test, alloc, blocks);
-    read_transactions(alloc, &log, BlockSize::OneKib, number, width)
+    let found = read_transactions(alloc, &log, BlockSize::OneKib, number, width);
+    answers(&found, wanted)
 }
 
 /// Whether just this is found in a log, which is read at once and block by block. Of a bad count the reader of blocks
@@ -110,8 +112,8 @@ fn finds(
     width: Width,
     wanted: &Found,
 ) -> bool {
-    let found = found_at_once(test, alloc, blocks, number, width);
-    answers(&found, wanted) && steps_to(test, alloc, blocks, number, width, wanted)
+    is_read(test, alloc, blocks, number, width, wanted)
+        && steps_to(test, alloc, blocks, number, width, wanted)
 }
 
 /// Whether the reader of blocks finds this.
