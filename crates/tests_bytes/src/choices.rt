@@ -2,50 +2,52 @@
 
 use crate::checks::By;
 use crate::dumped::{SESSION, SESSION_TEXT};
-use crate::journals::{CLEAN_TEXT, WRAPPED, WRAPPED_TEXT, by_hand, journal_of};
-use jb_dump::{DumpFault, DumpFilter, dump_chosen};
+use crate::journals::{
+    CLEAN_TEXT, WRAPPED, WRAPPED_TEXT, by_hand, check_told, journal_of, told_of,
+};
+use jb_dump::{DumpFault, DumpFilter};
 use jb_super::SuperFault;
 use std::alloc::Global;
-use tests_support::{Must, Test, check_at, check_in};
+use tests_support::{Must, Test, check_in};
 
 /// The home block and the number of last transactions that are asked for, and whether the superblock alone; and the
 /// lines of a text that this takes.
-type Taken = (Option<u64>, Option<u64>, bool, &'static [usize]);
+struct Taken(Option<u64>, Option<u64>, bool, &'static [usize]);
 
 /// Choices of lines of SESSION's text: 0 and 1 are the superblock's, and line N + 1 is that of the block at place N.
 static OF_SESSION: [Taken; 16] = [
-    (Some(3001), None, false, &[2, 3, 6]),
-    (Some(3002), None, false, &[2, 4, 6, 8, 9]),
-    (Some(3003), None, false, &[8, 10, 15]),
-    (Some(3006), None, false, &[15]),
-    (Some(3000), None, false, &[]),
-    (None, Some(0), false, &[0, 1, 17]),
-    (None, Some(1), false, &[0, 1, 12, 13, 14, 15, 16, 17]),
-    (
+    Taken(Some(3001), None, false, &[2, 3, 6]),
+    Taken(Some(3002), None, false, &[2, 4, 6, 8, 9]),
+    Taken(Some(3003), None, false, &[8, 10, 15]),
+    Taken(Some(3006), None, false, &[15]),
+    Taken(Some(3000), None, false, &[]),
+    Taken(None, Some(0), false, &[0, 1, 17]),
+    Taken(None, Some(1), false, &[0, 1, 12, 13, 14, 15, 16, 17]),
+    Taken(
         None,
         Some(2),
         false,
         &[0, 1, 8, 9, 10, 11, 12, 13, 14, 15, 16, 17],
     ),
-    (None, Some(4), false, &EVERY_LINE),
-    (None, Some(u64::MAX), false, &EVERY_LINE),
-    (None, None, false, &EVERY_LINE),
-    (Some(3002), Some(2), false, &[8, 9]),
-    (Some(3002), Some(1), false, &[]),
-    (None, None, true, &[0, 1]),
-    (None, Some(3), true, &[0, 1]),
-    (Some(3002), None, true, &[]),
+    Taken(None, Some(4), false, &EVERY_LINE),
+    Taken(None, Some(u64::MAX), false, &EVERY_LINE),
+    Taken(None, None, false, &EVERY_LINE),
+    Taken(Some(3002), Some(2), false, &[8, 9]),
+    Taken(Some(3002), Some(1), false, &[]),
+    Taken(None, None, true, &[0, 1]),
+    Taken(None, Some(3), true, &[0, 1]),
+    Taken(Some(3002), None, true, &[]),
 ];
 
 /// Choices of lines of a clean journal's text.
 static OF_CLEAN: [Taken; 3] = [
-    (None, Some(0), false, &[0, 1, 2]),
-    (Some(0), None, false, &[]),
-    (None, None, true, &[0, 1]),
+    Taken(None, Some(0), false, &[0, 1, 2]),
+    Taken(Some(0), None, false, &[]),
+    Taken(None, None, true, &[0, 1]),
 ];
 
 /// The last transaction of a log that wraps, which is its only one.
-static OF_WRAPPED: [Taken; 1] = [(None, Some(1), false, &[0, 1, 2, 3, 4, 5, 6, 7, 8])];
+static OF_WRAPPED: [Taken; 1] = [Taken(None, Some(1), false, &[0, 1, 2, 3, 4, 5, 6, 7, 8])];
 
 /// Words that leave a journal without a text, and why.
 static REFUSED: [(&str, DumpFault); 2] = [
@@ -70,18 +72,42 @@ fn lines_of(test: &impl Test, alloc: Global, text: &str, numbers: &[usize]) -> V
     taken
 }
 
-/// What a dump of the lines that are asked for answers, and what it writes.
-fn told(alloc: Global, journal: &[u8], taken: &Taken) -> (Result<(), DumpFault>, Vec<u8>) {
-    let (home, last, superblock, _) = *taken;
-    let choice = DumpFilter {
-        home,
-        last,
-        superblock,
+/// Whether these bytes are those lines of a text.
+fn is_lines(
+    test: &impl Test,
+    alloc: Global,
+    written: &[u8],
+    text: &str,
+    numbers: &[usize],
+) -> bool {
+    let lines = lines_of(test, alloc, text, numbers);
+    *written == *lines.as_slice()
+}
+
+/// The choice of a row.
+fn choice_of(taken: &Taken) -> DumpFilter {
+    DumpFilter {
+        home: taken.0,
+        last: taken.1,
+        superblock: taken.2,
         summary: false,
-    };
-    let (mut rest, mut text) = (journal, Vec::new(alloc));
-    let answer = dump_chosen(alloc, &mut rest, &mut text, choice);
-    (answer, text)
+    }
+}
+
+/// Checks that a choice takes its lines of a journal's text.
+fn check_lines(
+    test: &impl Test,
+    alloc: Global,
+    journal: &[u8],
+    text: &str,
+    taken: &Taken,
+    name: &'static str,
+    row: u64,
+) {
+    let (answer, written) = told_of(alloc, journal, choice_of(taken));
+    check_in(test, answer.is_ok(), name, "what is answered in row", row);
+    let is_wanted = is_lines(test, alloc, &written, text, taken.3);
+    check_in(test, is_wanted, name, "what is written in row", row)
 }
 
 /// Checks that each choice takes its lines of a journal's text.
@@ -89,39 +115,72 @@ fn check_taken(
     test: &impl Test,
     alloc: Global,
     journal: &[u8],
-    text: &'static str,
+    text: &str,
     choices: &[Taken],
     name: &'static str,
 ) {
     for (row, taken) in (0..).zip(choices) {
-        let (answer, written) = told(alloc, journal, taken);
-        check_in(test, answer.is_ok(), name, "what is answered in row", row);
-        let wanted = lines_of(test, alloc, text, taken.3);
-        let is_wanted = written.as_slice() == wanted.as_slice();
-        check_in(test, is_wanted, name, "what is written in row", row)
+        check_lines(test, alloc, journal, text, taken, name, row)
     }
 }
 
-/// Checks that each choice answers the fault of a journal without a text, and writes nothing.
+/// Checks that a choice answers the fault of a journal without a text, and writes nothing.
+fn check_fault(
+    test: &impl Test,
+    alloc: Global,
+    journal: &[u8],
+    fault: DumpFault,
+    choice: DumpFilter,
+    row: u64,
+) {
+    let (answer, written) = told_of(alloc, journal, choice);
+    check_told(test, answer, &written, Err(fault), row)
+}
+
+/// The same of each choice.
+fn check_faults(test: &impl Test, alloc: Global, journal: &[u8], fault: DumpFault) {
+    for (row, taken) in (0..).zip(&OF_SESSION) {
+        check_fault(test, alloc, journal, fault, choice_of(taken), row)
+    }
+}
+
+/// The same of the journal that is made by hand with these words.
 fn check_refused(test: &impl Test, alloc: Global, words: &str, fault: DumpFault) {
     let journal = by_hand(test, alloc, words);
-    for (row, taken) in (0..).zip(&OF_SESSION) {
-        let (answer, written) = told(alloc, &journal, taken);
-        check_at(test, answer == Err(fault), "the fault of row", row);
-        check_at(test, written.is_empty(), "what a fault writes in row", row)
-    }
+    check_faults(test, alloc, &journal, fault)
 }
 
-fn check_choices(test: &impl Test, alloc: Global) {
-    let session = journal_of(test, alloc, 0x10_0000, SESSION);
-    check_taken(test, alloc, &session, SESSION_TEXT, &OF_SESSION, "session");
-    let clean = by_hand(test, alloc, "10:21 1 2 0");
-    check_taken(test, alloc, &clean, CLEAN_TEXT, &OF_CLEAN, "clean");
-    let wraps = by_hand(test, alloc, WRAPPED);
-    check_taken(test, alloc, &wraps, WRAPPED_TEXT, &OF_WRAPPED, "wraps");
+/// The same of each journal that is refused.
+fn check_all_refused(test: &impl Test, alloc: Global) {
     for (words, fault) in &REFUSED {
         check_refused(test, alloc, words, *fault)
     }
+}
+
+/// Checks the choices of lines of the journal that is made by hand with these words.
+fn check_by_hand(
+    test: &impl Test,
+    alloc: Global,
+    words: &str,
+    text: &str,
+    choices: &[Taken],
+    name: &'static str,
+) {
+    let journal = by_hand(test, alloc, words);
+    check_taken(test, alloc, &journal, text, choices, name)
+}
+
+/// Checks the choices of lines of SESSION.
+fn check_session(test: &impl Test, alloc: Global) {
+    let session = journal_of(test, alloc, 0x10_0000, SESSION);
+    check_taken(test, alloc, &session, SESSION_TEXT, &OF_SESSION, "session")
+}
+
+fn check_choices(test: &impl Test, alloc: Global) {
+    check_session(test, alloc);
+    check_by_hand(test, alloc, "10:21 1 2 0", CLEAN_TEXT, &OF_CLEAN, "clean");
+    check_by_hand(test, alloc, WRAPPED, WRAPPED_TEXT, &OF_WRAPPED, "wraps");
+    check_all_refused(test, alloc)
 }
 
 #[test]

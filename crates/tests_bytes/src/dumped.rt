@@ -140,17 +140,25 @@ end transactions=4 expected=5
 ";
 
 /// How many bytes each has, what is in it, and its text.
-static JOURNALS: [(usize, &str, &str); 4] = [
-    (0x10_0000, REVOKED, REVOKED_TEXT),
-    (0x10_0000, SESSION, SESSION_TEXT),
-    (0x40_0000, LARGE_BLOCKS, LARGE_BLOCKS_TEXT),
-    (0x10_0000, WIDE, WIDE_TEXT),
+struct Journal(usize, &'static str, &'static str);
+
+static JOURNALS: [Journal; 4] = [
+    Journal(0x10_0000, REVOKED, REVOKED_TEXT),
+    Journal(0x10_0000, SESSION, SESSION_TEXT),
+    Journal(0x40_0000, LARGE_BLOCKS, LARGE_BLOCKS_TEXT),
+    Journal(0x10_0000, WIDE, WIDE_TEXT),
 ];
 
+/// Checks the text of a journal.
+fn check_journal(test: &impl Test, alloc: Global, of: &Journal, row: u64) {
+    let Journal(len, words, wanted) = of;
+    let journal = journal_of(test, alloc, *len, words);
+    check_dump(test, alloc, &journal, Ok(*wanted), row)
+}
+
 fn check_journals(test: &impl Test, alloc: Global) {
-    for (row, (len, words, wanted)) in (0..).zip(&JOURNALS) {
-        let journal = journal_of(test, alloc, *len, words);
-        check_dump(test, alloc, &journal, Ok(*wanted), row)
+    for (row, of) in (0..).zip(&JOURNALS) {
+        check_journal(test, alloc, of, row)
     }
 }
 

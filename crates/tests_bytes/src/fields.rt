@@ -29,16 +29,17 @@ static SIZES: [(u32, Option<u32>); 5] = [
     (8192, None),
 ];
 
+/// Whether a block has this header.
+fn has(block: &[u8], kind: Kind, number: u32) -> bool {
+    header_of(block) == Some(Header { kind, number })
+}
+
 /// Checks what is read of the front of a revoke block.
-fn check_read(test: &impl Test) {
-    let header = Header {
-        kind: Kind::Revoke,
-        number: 2,
-    };
-    check(test, header_of(&REVOKE) == Some(header), "the header");
-    check(test, get16(&REVOKE, 2) == 0x3998, "two bytes");
-    check(test, get32(&REVOKE, 12) == 20, "four bytes");
-    check(test, get64(&REVOKE, 12) == 0x14_0000_0007, "eight bytes")
+fn check_read(test: &impl Test, block: &[u8; 20]) {
+    check(test, has(block, Kind::Revoke, 2), "the header");
+    check(test, get16(block, 2) == 0x3998, "two bytes");
+    check(test, get32(block, 12) == 20, "four bytes");
+    check(test, get64(block, 12) == 0x14_0000_0007, "eight bytes")
 }
 
 /// Checks the same that is written.
@@ -65,20 +66,22 @@ fn check_headless(test: &impl Test) {
     check(test, number.is_none(), "a turned magic")
 }
 
-/// Checks the header of each kind of block, of which the number is 7.
+/// Checks the header of a kind of block, of which the number is 7.
+fn check_kind(test: &impl Test, kind: Kind, number: u8) {
+    let at = u64::from(number);
+    let mut block = [0xEE; 12];
+    put_header(&mut block, kind, 7);
+    let wanted = [0xc0, 0x3b, 0x39, 0x98, 0, 0, 0, number, 0, 0, 0, 7];
+    check_at(test, block == wanted, "what is written of type", at);
+    check_at(test, has(&block, kind, 7), "what is read of type", at);
+    let is_read = begins_with_magic(&block) == Some(7);
+    check_at(test, is_read, "the number that is read of type", at)
+}
+
+/// Checks the header of each kind of block.
 fn check_kinds(test: &impl Test) {
     for (kind, number) in &KINDS {
-        let at = u64::from(*number);
-        let mut block = [0xEE; 12];
-        put_header(&mut block, *kind, 7);
-        let wanted = [0xc0, 0x3b, 0x39, 0x98, 0, 0, 0, *number, 0, 0, 0, 7];
-        check_at(test, block == wanted, "what is written of type", at);
-        let header = Header {
-            kind: *kind,
-            number: 7,
-        };
-        let is_read = header_of(&block) == Some(header) && begins_with_magic(&block) == Some(7);
-        check_at(test, is_read, "what is read of type", at)
+        check_kind(test, *kind, *number)
     }
 }
 
@@ -93,7 +96,7 @@ fn check_sizes(test: &impl Test) {
 fn check_each(test: &impl Test) {
     check_kinds(test);
     check_sizes(test);
-    check_read(test);
+    check_read(test, &REVOKE);
     check_written(test);
     check_headless(test)
 }

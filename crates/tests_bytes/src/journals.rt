@@ -1,7 +1,7 @@
 //! The texts of journals made by hand.
 
 use crate::checks::By;
-use jb_dump::{DumpFault, dump};
+use jb_dump::{DumpFault, DumpFilter, dump, dump_chosen};
 use jb_super::SuperFault;
 use std::alloc::Global;
 use tests_support::{Must, Test, check_at, put_text};
@@ -59,16 +59,29 @@ pub fn told(alloc: Global, journal: &[u8]) -> (Result<(), DumpFault>, Vec<u8>) {
     (answer, text)
 }
 
+/// What a dump by this choice answers, and what it writes.
+pub fn told_of(
+    alloc: Global,
+    journal: &[u8],
+    choice: DumpFilter,
+) -> (Result<(), DumpFault>, Vec<u8>) {
+    let (mut rest, mut text) = (journal, Vec::new(alloc));
+    let answer = dump_chosen(alloc, &mut rest, &mut text, choice);
+    (answer, text)
+}
+
 /// The text of a journal, or why it has none.
 pub type Dumped = Result<&'static str, DumpFault>;
 
-/// The words that are put into the journal made by hand, and what its dump answers.
-static CASES: [(&str, Dumped); 8] = [
-    ("", Ok(REVOKE_AND_COPY_TEXT)),
-    (WRAPPED, Ok(WRAPPED_TEXT)),
-    ("1800:c03b3998 2 3 0", Ok(REVOKE_AND_COPY_TEXT)),
-    ("10:21 1 2 0", Ok(CLEAN_TEXT)),
-    (
+/// The words that are put into the journal made by hand, and what is answered of it.
+pub struct Case(pub &'static str, pub Dumped);
+
+static CASES: [Case; 8] = [
+    Case("", Ok(REVOKE_AND_COPY_TEXT)),
+    Case(WRAPPED, Ok(WRAPPED_TEXT)),
+    Case("1800:c03b3998 2 3 0", Ok(REVOKE_AND_COPY_TEXT)),
+    Case("10:21 1 2 0", Ok(CLEAN_TEXT)),
+    Case(
         "20:0 0 3 0
 400:c03b3998 5 2 24 0 7 1 7 1 8 0 0
 810:1 1 10203 4050607 8090a0b c0d0e0f 6 a ffffffff 0 0 0
@@ -76,15 +89,15 @@ static CASES: [(&str, Dumped); 8] = [
 1400:c03b3998 2 2 0",
         Ok(WIDE_TEXT),
     ),
-    (
+    Case(
         "20:0 0 12 0",
         Err(DumpFault::Super(SuperFault::Feature(2, 16))),
     ),
-    (
+    Case(
         "10:7fffffff 1 2 1",
         Err(DumpFault::Super(SuperFault::Geometry)),
     ),
-    ("400:c03b3998 5 2 401", Err(DumpFault::BadRevoke(1))),
+    Case("400:c03b3998 5 2 401", Err(DumpFault::BadRevoke(1))),
 ];
 
 /// A log that begins at place 30 and ends at place 3.
@@ -131,21 +144,39 @@ uuid 000102030405060708090a0b0c0d0e0f
 clean next=3
 ";
 
-/// Checks what a dump of these bytes answers and writes.
-pub fn check_dump(test: &impl Test, alloc: Global, journal: &[u8], wanted: Dumped, row: u64) {
-    let (answer, text) = told(alloc, journal);
+/// Checks that this was answered and written.
+pub fn check_told(
+    test: &impl Test,
+    answer: Result<(), DumpFault>,
+    text: &[u8],
+    wanted: Dumped,
+    row: u64,
+) {
     let (result, written) = match wanted {
         Ok(text) => (Ok(()), text),
         Err(fault) => (Err(fault), ""),
     };
     check_at(test, answer == result, "what a dump answers in row", row);
-    let is_text = text.as_slice() == written.as_bytes();
+    let is_text = *text == *written.as_bytes();
     check_at(test, is_text, "what a dump writes in row", row)
 }
 
+/// Checks what a dump of these bytes answers and writes.
+pub fn check_dump(test: &impl Test, alloc: Global, journal: &[u8], wanted: Dumped, row: u64) {
+    let (answer, text) = told(alloc, journal);
+    check_told(test, answer, &text, wanted, row)
+}
+
+/// Checks what a dump of a journal that is made by hand answers and writes.
+fn check_case(test: &impl Test, alloc: Global, case: &Case, row: u64) {
+    let Case(words, wanted) = case;
+    let journal = by_hand(test, alloc, words);
+    check_dump(test, alloc, &journal, *wanted, row)
+}
+
 fn check_cases(test: &impl Test, alloc: Global) {
-    for (row, (words, wanted)) in (0..).zip(&CASES) {
-        check_dump(test, alloc, &by_hand(test, alloc, words), *wanted, row)
+    for (row, case) in (0..).zip(&CASES) {
+        check_case(test, alloc, case, row)
     }
 }
 

@@ -17,6 +17,8 @@ mod groups;
 #[cfg(test)]
 mod journals;
 #[cfg(test)]
+mod log_rows;
+#[cfg(test)]
 mod logs;
 #[cfg(test)]
 mod readers;

@@ -34,15 +34,17 @@ const USED_1025: [u8; 20] = [
 const HOMES: [u64; 3] = [333, 340, 341];
 
 /// A block, the width of its block numbers, and its homes.
-static READ: [(&[u8], Width, Result<&[u64], RevokeFault>); 8] = [
-    (&REVOKE, Width::Narrow, Ok(&[7])),
-    (&ONE_WIDE, Width::Wide, Ok(&[4_294_967_301])),
-    (&NARROW_OF_E2FSPROGS, Width::Narrow, Ok(&HOMES)),
-    (&WIDE_REVOKE, Width::Wide, Ok(&HOMES)),
-    (&USED_15, Width::Narrow, Ok(&[])),
-    (&USED_22, Width::Narrow, Ok(&[7])),
-    (&USED_22, Width::Wide, Ok(&[])),
-    (&USED_1025, Width::Narrow, Err(RevokeFault::BadCount(1025))),
+struct Read(&'static [u8], Width, Result<&'static [u64], RevokeFault>);
+
+static READ: [Read; 8] = [
+    Read(&REVOKE, Width::Narrow, Ok(&[7])),
+    Read(&ONE_WIDE, Width::Wide, Ok(&[4_294_967_301])),
+    Read(&NARROW_OF_E2FSPROGS, Width::Narrow, Ok(&HOMES)),
+    Read(&WIDE_REVOKE, Width::Wide, Ok(&HOMES)),
+    Read(&USED_15, Width::Narrow, Ok(&[])),
+    Read(&USED_22, Width::Narrow, Ok(&[7])),
+    Read(&USED_22, Width::Wide, Ok(&[])),
+    Read(&USED_1025, Width::Narrow, Err(RevokeFault::BadCount(1025))),
 ];
 
 /// Whether just these homes are read of a block, or just this is answered.
@@ -70,8 +72,8 @@ fn check_written(test: &impl Test) {
 
 /// Checks the homes of each row.
 fn check_read(test: &impl Test, alloc: Global) {
-    for (row, (block, width, wanted)) in (0..).zip(&READ) {
-        let is_read = reads(alloc, &block_of(block), *width, *wanted);
+    for (row, of) in (0..).zip(&READ) {
+        let is_read = reads(alloc, &block_of(of.0), of.1, of.2);
         check_at(test, is_read, "the homes of row", row)
     }
 }

@@ -1,7 +1,7 @@
 //! Logs that are read a block at a time.
 
 use jb_block::{Items, Width};
-use jb_group::Seen;
+use jb_group::{Seen, Transaction};
 use jb_scan::{Reader, Taken};
 use std::alloc::Global;
 use tests_support::{Must, Test, block_of};
@@ -17,14 +17,29 @@ pub fn found_stepwise(
     let mut reader = Reader::new(alloc, number, width);
     let mut transactions = Items::new(alloc);
     for bytes in blocks {
-        match reader.take(&block_of(bytes)).must(test, "memory") {
-            Taken::Ends => break,
-            Taken::Goes => {}
-            Taken::Commits(transaction) => transactions.push(transaction).must(test, "memory"),
+        if !steps(test, &mut reader, &mut transactions, bytes) {
+            break;
         }
     }
     Seen {
         transactions,
         expected: reader.number(),
+    }
+}
+
+/// Whether a reader goes on after the next block, of which it may commit a transaction.
+fn steps(
+    test: &impl Test,
+    reader: &mut Reader,
+    transactions: &mut Items<Transaction>,
+    bytes: &[u8],
+) -> bool {
+    match reader.take(&block_of(bytes)).must(test, "memory") {
+        Taken::Ends => false,
+        Taken::Goes => true,
+        Taken::Commits(transaction) => {
+            transactions.push(transaction).must(test, "memory");
+            true
+        }
     }
 }

@@ -2,8 +2,8 @@
 
 use crate::checks::By;
 use crate::dumped::SESSION;
-use crate::journals::{WRAPPED, by_hand, journal_of};
-use jb_dump::{DumpFault, DumpFilter, dump_chosen};
+use crate::journals::{Case, WRAPPED, by_hand, check_told, journal_of, told_of};
+use jb_dump::{DumpFault, DumpFilter};
 use jb_super::SuperFault;
 use std::alloc::Global;
 use tests_support::{Must, Test, check, check_at, put_text};
@@ -72,78 +72,76 @@ revokes total=4
 ";
 
 /// The words of seconds of the first and of the last commit of SESSION, and the last line.
-static DATES: [(&str, &str); 4] = [
-    (
+struct Dates(&'static str, &'static str);
+
+static DATES: [Dates; 4] = [
+    Dates(
         "10000:0",
         "commits first=7710958887649673216 last=7710958887649673216\n",
     ),
-    (
+    Dates(
         "1030:0 499602d2\n3c30:0 f4865700",
         "commits first=2009-02-13T23:31:30Z last=2100-01-01T00:00:00Z\n",
     ),
-    (
+    Dates(
         "1030:0 38bb10c0\n3c30:0 38bc622f",
         "commits first=2000-02-29T00:20:16Z last=2000-03-01T00:19:59Z\n",
     ),
-    (
+    Dates(
         "1030:3a fff2d3e0\n3c30:3a fff2d3e1",
         "commits first=9999-12-30T22:00:00Z last=253402207201\n",
     ),
 ];
 
 /// Words of a journal made by hand, and the journal at a glance, or why it is refused.
-static BY_HAND: [(&str, Result<&str, DumpFault>); 6] = [
-    ("10:21 1 2 0", Ok(CLEAN)),
-    ("10:21 1 9 1", Ok(EMPTY)),
-    (WRAPPED, Ok(WRAPS)),
-    (ELEVEN, Ok(TEN_OF_ELEVEN)),
-    ("400:c03b3998 5 2 401", Err(DumpFault::BadRevoke(1))),
-    (
+static BY_HAND: [Case; 6] = [
+    Case("10:21 1 2 0", Ok(CLEAN)),
+    Case("10:21 1 9 1", Ok(EMPTY)),
+    Case(WRAPPED, Ok(WRAPS)),
+    Case(ELEVEN, Ok(TEN_OF_ELEVEN)),
+    Case("400:c03b3998 5 2 401", Err(DumpFault::BadRevoke(1))),
+    Case(
         "10:7fffffff 1 2 1",
         Err(DumpFault::Super(SuperFault::Geometry)),
     ),
 ];
 
-/// What is answered for a journal at a glance, and what is written.
-fn glanced(alloc: Global, journal: &[u8], choice: DumpFilter) -> (Result<(), DumpFault>, Vec<u8>) {
-    let (mut rest, mut text) = (journal, Vec::new(alloc));
-    let answer = dump_chosen(alloc, &mut rest, &mut text, choice);
-    (answer, text)
+/// Checks a journal at a glance that is made by hand.
+fn check_glance(test: &impl Test, alloc: Global, case: &Case, row: u64) {
+    let Case(words, wanted) = case;
+    let journal = by_hand(test, alloc, words);
+    let (answer, written) = told_of(alloc, &journal, GLANCE);
+    check_told(test, answer, &written, *wanted, row)
 }
 
 /// Checks journals made by hand.
 fn check_by_hand(test: &impl Test, alloc: Global) {
-    for (row, (words, wanted)) in (0..).zip(&BY_HAND) {
-        let journal = by_hand(test, alloc, words);
-        let (answer, written) = glanced(alloc, &journal, GLANCE);
-        let (result, text) = match wanted {
-            Ok(text) => (Ok(()), *text),
-            Err(fault) => (Err(*fault), ""),
-        };
-        check_at(test, answer == result, "what is answered in row", row);
-        check_at(
-            test,
-            written.as_slice() == text.as_bytes(),
-            "what is written in row",
-            row,
-        );
+    for (row, case) in (0..).zip(&BY_HAND) {
+        check_glance(test, alloc, case, row)
     }
+}
+
+/// SESSION at a glance, where its commits have these words of seconds.
+fn dated(test: &impl Test, alloc: Global, words: &str) -> (Result<(), DumpFault>, Vec<u8>) {
+    let mut journal = journal_of(test, alloc, 0x10_0000, SESSION);
+    put_text(&mut journal, 0, words);
+    told_of(alloc, &journal, GLANCE)
+}
+
+/// Checks several transactions by these seconds of their commits.
+fn check_dates(test: &impl Test, alloc: Global, dates: &Dates, row: u64) {
+    let Dates(words, last) = dates;
+    let (answer, written) = dated(test, alloc, words);
+    check_at(test, answer.is_ok(), "what is answered in row", row);
+    let wanted = format!(in alloc; "{SEVERAL}{last}").must(test, "memory");
+    let is_wanted = written.as_slice() == wanted.as_bytes();
+    check_at(test, is_wanted, "what is written in row", row)
 }
 
 /// Checks several transactions by the seconds of their commits.
 fn check_several(test: &impl Test, alloc: Global) {
-    for (row, (words, last)) in (0..).zip(&DATES) {
-        let mut journal = journal_of(test, alloc, 0x10_0000, SESSION);
-        put_text(&mut journal, 0, words);
-        let (answer, written) = glanced(alloc, &journal, GLANCE);
-        let wanted = format!(in alloc; "{SEVERAL}{last}").must(test, "memory");
-        check_at(test, answer.is_ok(), "what is answered in row", row);
-        check_at(
-            test,
-            written.as_slice() == wanted.as_bytes(),
-            "what is written in row",
-            row,
-        );
+    for (row, dates) in (0..).zip(&DATES) {
+        check_dates(test, alloc, dates, row)
     }
 }
 
@@ -156,7 +154,7 @@ fn check_alone(test: &impl Test, alloc: Global) {
         superblock: true,
         summary: true,
     };
-    let (answer, written) = glanced(alloc, &journal, choice);
+    let (answer, written) = told_of(alloc, &journal, choice);
     check(
         test,
         answer.is_ok(),

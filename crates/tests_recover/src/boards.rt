@@ -71,6 +71,14 @@ fn a_second_seat_sees_what_the_first_raised(rt: HostRuntime) -> Result<(), Fail>
     Ok(())
 }
 
+/// Whether counts are out of order, or below these.
+fn is_fault(seen: &Front, last: &Front, count: u64) -> bool {
+    seen.settled < count
+        || seen.settled < last.settled
+        || seen.taken < seen.settled
+        || seen.stopped < seen.taken
+}
+
 /// How many of `rounds` looks, each after a ticket was stopped, taken and settled, gave counts that are
 /// out of order or below those of the look before.
 fn faults<L: Ledger>(board: &Board<L>, tickets: &Tickets<L>, rounds: u64) -> u64
@@ -84,11 +92,7 @@ fn faults<L: Ledger>(board: &Board<L>, tickets: &Tickets<L>, rounds: u64) -> u64
         board.raise_taken(&mut seat, count);
         board.raise_settled(&mut seat, count);
         let seen = board.look(&mut seat);
-        if seen.settled < count
-            || seen.settled < last.settled
-            || seen.taken < seen.settled
-            || seen.stopped < seen.taken
-        {
+        if is_fault(&seen, &last, count) {
             faults = count;
         }
         last = seen;

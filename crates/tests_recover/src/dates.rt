@@ -7,7 +7,7 @@ use jb_block::BlockSize;
 use jb_disk::Disk;
 use jb_format::read_super;
 use jb_recover::latest_commit;
-use tests_support::{Bench, check_row};
+use tests_support::{Bench, Must, Test, check_row, fail};
 
 /// A name, a small image with these rows, and the seconds of its latest commit.
 type Case = (&'static str, &'static [Row], u64);
@@ -49,20 +49,20 @@ static CASES: [Case; 5] = [
 ];
 
 /// The seconds of the latest commit of a disk, which has to have blocks of 1 KiB.
-fn dated<D: Disk>(disk: &mut D) -> Option<u64> {
+fn dated<D: Disk>(test: &impl Test, disk: &mut D) -> u64 {
     let mut block = [0; 1024];
     if disk.block_size() != BlockSize::OneKib {
-        return None;
+        return fail(test, "the size of a block");
     }
-    let sb = read_super(disk, &mut block).ok()?;
-    latest_commit(disk, &sb, &mut block).ok()
+    let sb = read_super(disk, &mut block).must(test, "a superblock");
+    latest_commit(disk, &sb, &mut block).must(test, "the latest commit")
 }
 
 /// Checks the latest commit of a row.
 fn check_case(test: &impl Bench, case: &Case) {
     let (row, rows, wanted) = *case;
     let mut disk = small(test, rows, &[]);
-    let is_so = dated(&mut disk) == Some(wanted);
+    let is_so = dated(test, &mut disk) == wanted;
     check_row(test, is_so, row, "the latest commit")
 }
 

@@ -5,7 +5,7 @@ use crate::disk_checks::By;
 use jb_block::{BlockSize, Stamp};
 use jb_disk::{Clock, Disk, Fault, FixedClock, FuseDisk, MemoryDisk, OneFaultDisk};
 use std::alloc::Global;
-use tests_support::{Must, Test, check, check_at, zeros};
+use tests_support::{Must, Test, check, check_at, crashed, zeros};
 
 /// Fills a block that the disk has.
 fn put(test: &impl Test, disk: &mut MemoryDisk, place: u64, byte: u8) {
@@ -22,23 +22,23 @@ fn pending(test: &impl Test, alloc: Global) -> MemoryDisk {
 }
 
 /// A choice of a version for each sector, and what a crash then leaves of the two blocks.
-type Crash = (&'static [u32], [u8; 4], [u8; 4]);
+struct Crash(&'static [u32], [u8; 4], [u8; 4]);
 
 static CRASHES: [Crash; 6] = [
-    (&[], [0, 0, 0, 0], [0, 0, 0, 0]),
-    (&[1], [1, 1, 0, 0], [0, 0, 0, 0]),
-    (&[0, 1], [0, 0, 1, 1], [0, 0, 0, 0]),
-    (&[0, 0, 1], [0, 0, 0, 0], [2, 2, 0, 0]),
-    (&[2, 2, 1, 1], [3, 3, 3, 3], [2, 2, 2, 2]),
-    (&[5, 7, 3, 8], [3, 3, 1, 1], [2, 2, 0, 0]),
+    Crash(&[], [0, 0, 0, 0], [0, 0, 0, 0]),
+    Crash(&[1], [1, 1, 0, 0], [0, 0, 0, 0]),
+    Crash(&[0, 1], [0, 0, 1, 1], [0, 0, 0, 0]),
+    Crash(&[0, 0, 1], [0, 0, 0, 0], [2, 2, 0, 0]),
+    Crash(&[2, 2, 1, 1], [3, 3, 3, 3], [2, 2, 2, 2]),
+    Crash(&[5, 7, 3, 8], [3, 3, 1, 1], [2, 2, 0, 0]),
 ];
 
 /// What is left after a sync and one more write.
-static SYNCED: Crash = (&[0, 1, 1, 1], [3, 3, 3, 3], [2, 2, 4, 4]);
+static SYNCED: Crash = Crash(&[0, 1, 1, 1], [3, 3, 3, 3], [2, 2, 4, 4]);
 
 /// Checks what a crash leaves of a disk, and that another one leaves the same.
 fn check_crash(test: &impl Test, disk: &MemoryDisk, crash: &Crash, row: u64) {
-    let (choice, first, second) = crash;
+    let Crash(choice, first, second) = crash;
     let mut left = disk.crash(choice).must(test, "memory");
     check_at(test, look(&mut left, 0) == Ok(*first), "block 0 of", row);
     check_at(test, look(&mut left, 1) == Ok(*second), "block 1 of", row);
@@ -64,24 +64,38 @@ fn check_crashes(test: &impl Test, alloc: Global) {
 
 /// Which of three calls succeed, by the number of calls that pass a fuse, and by the number of the one call that fails;
 /// and what the block holds after them.
-static CALLS: [(u64, [bool; 3], [bool; 3], [u8; 4]); 4] = [
-    (0, [false, false, false], [false, true, true], [0; 4]),
-    (1, [true, false, false], [true, false, true], [7; 4]),
-    (2, [true, true, false], [true, true, false], [7; 4]),
-    (3, [true, true, true], [true, true, true], [7; 4]),
+struct Calls(u64, [bool; 3], [bool; 3], [u8; 4]);
+
+static CALLS: [Calls; 4] = [
+    Calls(0, [false, false, false], [false, true, true], [0; 4]),
+    Calls(1, [true, false, false], [true, false, true], [7; 4]),
+    Calls(2, [true, true, false], [true, true, false], [7; 4]),
+    Calls(3, [true, true, true], [true, true, true], [7; 4]),
 ];
+
+/// Checks the calls of a fuse.
+fn check_fuse(test: &impl Test, disk: MemoryDisk, of: &Calls) {
+    let Calls(calls, fused, _, content) = *of;
+    let mut disk = FuseDisk::of(disk, calls);
+    check_at(test, three_calls(&mut disk) == fused, "fuse", calls);
+    let is_left = look(&mut disk.into_inner(), 1) == Ok(content);
+    check_at(test, is_left, "what a fuse leaves", calls)
+}
+
+/// Checks the calls of which one fails.
+fn check_fault(test: &impl Test, disk: MemoryDisk, of: &Calls) {
+    let Calls(calls, _, but_one, content) = *of;
+    let mut disk = OneFaultDisk::of(disk, calls);
+    check_at(test, three_calls(&mut disk) == but_one, "call", calls);
+    let is_left = look(&mut disk.into_inner(), 1) == Ok(content);
+    check_at(test, is_left, "what one fault leaves", calls)
+}
 
 /// Checks each row, in blocks of two sizes.
 fn check_calls(test: &impl Test, alloc: Global) {
-    for (calls, fused, but_one, content) in &CALLS {
-        let mut disk = FuseDisk::of(zeros(test, alloc, BlockSize::TwoKib, 2), *calls);
-        check_at(test, three_calls(&mut disk) == *fused, "fuse", *calls);
-        let is_left = look(&mut disk.into_inner(), 1) == Ok(*content);
-        check_at(test, is_left, "what a fuse leaves", *calls);
-        let mut disk = OneFaultDisk::of(zeros(test, alloc, BlockSize::FourKib, 2), *calls);
-        check_at(test, three_calls(&mut disk) == *but_one, "call", *calls);
-        let is_left = look(&mut disk.into_inner(), 1) == Ok(*content);
-        check_at(test, is_left, "what one fault leaves", *calls)
+    for of in &CALLS {
+        check_fuse(test, zeros(test, alloc, BlockSize::TwoKib, 2), of);
+        check_fault(test, zeros(test, alloc, BlockSize::FourKib, 2), of)
     }
 }
 
@@ -93,24 +107,26 @@ const OLD: [[u8; 4]; 5] = [[1; 4], [2; 4], [3; 4], [4; 4], [5; 4]];
 /// Three blocks in a row that are written by one call, by the number of calls that pass a fuse: a choice, whether the
 /// call succeeds, what is read then, and what a crash leaves by the choice: each sector is old or new by itself,
 /// whatever the others are.
-static WRITTEN: [(u64, &[u32], bool, [[u8; 4]; 5], [[u8; 4]; 5]); 5] = [
-    (3, &[], true, ALL, OLD),
-    (3, &[1, 1, 1, 1, 1, 1], true, ALL, ALL),
-    (
+struct Written(u64, &'static [u32], bool, [[u8; 4]; 5], [[u8; 4]; 5]);
+
+static WRITTEN: [Written; 5] = [
+    Written(3, &[], true, ALL, OLD),
+    Written(3, &[1, 1, 1, 1, 1, 1], true, ALL, ALL),
+    Written(
         3,
         &[0, 1, 1, 0, 0, 1],
         true,
         ALL,
         [[1; 4], [2, 2, 7, 7], [8, 8, 3, 3], [4, 4, 9, 9], [5; 4]],
     ),
-    (
+    Written(
         2,
         &[1, 0, 0, 1, 1, 1],
         false,
         [[1; 4], [7; 4], [8; 4], [4; 4], [5; 4]],
         [[1; 4], [7, 7, 2, 2], [3, 3, 8, 8], [4; 4], [5; 4]],
     ),
-    (0, &[1, 1, 1, 1, 1, 1], false, OLD, OLD),
+    Written(0, &[1, 1, 1, 1, 1, 1], false, OLD, OLD),
 ];
 
 /// Five blocks that are filled and synced.
@@ -121,15 +137,25 @@ fn numbered(test: &impl Test, alloc: Global) -> MemoryDisk {
     disk
 }
 
+/// The disk once a run was written to it, by so many calls that pass a fuse.
+fn left_by(test: &impl Test, alloc: Global, of: &Written, row: u64) -> MemoryDisk {
+    let mut fuse = FuseDisk::of(numbered(test, alloc), of.0);
+    let is_written = fill_run(&mut fuse, 1, 3, 7).is_ok() == of.2;
+    check_at(test, is_written, "what a run answers in row", row);
+    fuse.into_inner()
+}
+
+/// Checks a run that is written.
+fn check_run(test: &impl Test, alloc: Global, of: &Written, row: u64) {
+    let mut disk = left_by(test, alloc, of, row);
+    check_at(test, look_each(&mut disk) == Ok(of.3), "read in", row);
+    let mut left = crashed(test, &disk, of.1);
+    check_at(test, look_each(&mut left) == Ok(of.4), "crash", row)
+}
+
 fn check_written(test: &impl Test, alloc: Global) {
-    for (row, (calls, choice, written, found, left)) in (0..).zip(&WRITTEN) {
-        let mut fuse = FuseDisk::of(numbered(test, alloc), *calls);
-        let is_written = fill_run(&mut fuse, 1, 3).is_ok() == *written;
-        check_at(test, is_written, "what a run answers in row", row);
-        let mut disk = fuse.into_inner();
-        check_at(test, look_each(&mut disk) == Ok(*found), "read in", row);
-        let mut crashed = disk.crash(choice).must(test, "memory");
-        check_at(test, look_each(&mut crashed) == Ok(*left), "crash", row)
+    for (row, of) in (0..).zip(&WRITTEN) {
+        check_run(test, alloc, of, row)
     }
 }
 

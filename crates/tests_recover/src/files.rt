@@ -66,25 +66,39 @@ fn check_read(rt: &impl Host) {
 const WRITTEN: &str = "data/written.img";
 
 /// The place of a run that is written, how many blocks it has, and what each block then has.
-static RUNS: [(u64, usize, [[u8; 4]; 5]); 3] = [
-    (3, 1, [[1; 4], [2; 4], [3; 4], [7; 4], [5; 4]]),
-    (1, 3, [[1; 4], [7; 4], [8; 4], [9; 4], [5; 4]]),
-    (3, 2, LAST),
+struct Run(u64, usize, [[u8; 4]; 5]);
+
+static RUNS: [Run; 3] = [
+    Run(3, 1, [[1; 4], [2; 4], [3; 4], [7; 4], [5; 4]]),
+    Run(1, 3, [[1; 4], [7; 4], [8; 4], [9; 4], [5; 4]]),
+    Run(3, 2, LAST),
 ];
 
 /// What the blocks have at last.
 const LAST: [[u8; 4]; 5] = [[1; 4], [7; 4], [8; 4], [7; 4], [8; 4]];
 
+/// Checks a run that is written by one disk and read by another.
+fn check_run<A: Disk, B: Disk>(
+    test: &impl Test,
+    disk: &mut A,
+    reader: &mut B,
+    run: &Run,
+    row: u64,
+) {
+    let Run(place, blocks, found) = *run;
+    let answer = fill_run(disk, place, blocks, 7);
+    check_at(test, answer.is_ok(), "what is answered of run", row);
+    let is_read = look_each(reader) == Ok(found);
+    check_at(test, is_read, "what is read of run", row)
+}
+
 /// Checks runs that are written by one disk and read by another, which may not write.
 fn check_runs_written(test: &impl Test, disk: &mut FileDisk, reader: &mut FileDisk) {
     check(test, number(disk).is_ok(), "the blocks are not filled");
-    for (row, (place, blocks, found)) in (0..).zip(&RUNS) {
-        let answer = fill_run(disk, *place, *blocks);
-        check_at(test, answer.is_ok(), "what is answered of run", row);
-        let is_read = look_each(reader) == Ok(*found);
-        check_at(test, is_read, "what is read of run", row)
+    for (row, run) in (0..).zip(&RUNS) {
+        check_run(test, disk, reader, run, row)
     }
-    check(test, fill_run(reader, 0, 3) == Err(Fault), "a reader");
+    check(test, fill_run(reader, 0, 3, 7) == Err(Fault), "a reader");
     check(test, look_each(reader) == Ok(LAST), "what is not written");
     check(test, reader.blocks() == 5, "how many blocks there are")
 }

@@ -49,10 +49,15 @@ fn put_log<D: Disk>(test: &impl Test, disk: &mut D) {
     front[27] = 2;
     front[31] = 1;
     write_at(test, disk, 0, &front);
+    put_blocks(test, disk);
+    disk.sync().must(test, "a sync")
+}
+
+/// Puts the blocks of the log.
+fn put_blocks<D: Disk>(test: &impl Test, disk: &mut D) {
     for (place, bytes) in (1..).zip(&LOG) {
         write_at(test, disk, place, &block_of(bytes));
     }
-    disk.sync().must(test, "a sync")
 }
 
 /// The first four bytes that a peek at a home gives.

@@ -1,5 +1,6 @@
 //! Which of the two disks a call reaches, and what comes of one that fails.
 
+use crate::blocks::{fill_run, read_run};
 use crate::checks::By;
 use jb_block::BlockSize;
 use jb_disk::{Disk, Fault, MemoryDisk, OneFaultDisk};
@@ -20,37 +21,8 @@ pub fn look<D: Disk>(disk: &mut D, place: u64) -> Result<u8, Fault> {
 
 /// The first bytes of up to four blocks in a row, read by one call.
 fn look_run<D: Disk>(disk: &mut D, place: u64, blocks: usize) -> Result<[u8; 4], Fault> {
-    let count = disk.blocks();
-    if blocks == 0 || 4 < blocks || count < place || count - place < blocks as u64 {
-        return Err(Fault);
-    }
-    if disk.block_size() != BlockSize::OneKib {
-        return Err(Fault);
-    }
-    let mut bytes = [0; 4096];
-    disk.read_run(place, blocks, &mut bytes[..1024 * blocks])?;
+    let bytes = read_run(disk, place, blocks)?;
     Ok([bytes[0], bytes[1024], bytes[2048], bytes[3072]])
-}
-
-/// Fills up to four blocks in a row, by one call, with 5, 6, 7 and 8.
-fn fill_run<D: Disk>(disk: &mut D, place: u64, blocks: usize) -> Result<(), Fault> {
-    let count = disk.blocks();
-    if blocks == 0 || 4 < blocks || count < place || count - place < blocks as u64 {
-        return Err(Fault);
-    }
-    if disk.block_size() != BlockSize::OneKib {
-        return Err(Fault);
-    }
-    disk.write_run(place, blocks, &four()[..1024 * blocks])
-}
-
-/// Four blocks, of 5, 6, 7 and 8.
-fn four() -> [u8; 4096] {
-    let mut bytes = [5; 4096];
-    bytes[1024..2048].fill(6);
-    bytes[2048..3072].fill(7);
-    bytes[3072..].fill(8);
-    bytes
 }
 
 /// Whether the two blocks of a disk have these first bytes, and of what a crash leaves at least of it.
@@ -104,7 +76,7 @@ fn filled(test: &impl Bench, front: u64, back: u64) -> Both {
 
 /// The number of the call that fails of the first disk, and of the second; which of the five calls of the pair
 /// succeed; and what each disk holds then and after a crash.
-type Calls = (u64, u64, [bool; 5], [u8; 4], [u8; 4]);
+struct Calls(u64, u64, [bool; 5], [u8; 4], [u8; 4]);
 
 const NO_SYNC: [bool; 5] = [true, true, true, true, false];
 
@@ -113,21 +85,32 @@ const NOT_FIRST: [bool; 5] = [false, true, true, true, true];
 const NOT_LAST: [bool; 5] = [true, true, true, false, true];
 
 static CALLS: [Calls; 6] = [
-    (9, 9, [true; 5], [1, 2, 1, 2], [3, 4, 3, 4]),
-    (0, 9, NOT_FIRST, [0, 2, 0, 2], [3, 4, 3, 4]),
-    (9, 1, NOT_LAST, [1, 2, 1, 2], [3, 0, 3, 0]),
-    (2, 9, NO_SYNC, [1, 2, 0, 0], [3, 4, 0, 0]),
-    (9, 2, NO_SYNC, [1, 2, 1, 2], [3, 4, 0, 0]),
-    (2, 2, NO_SYNC, [1, 2, 0, 0], [3, 4, 0, 0]),
+    Calls(9, 9, [true; 5], [1, 2, 1, 2], [3, 4, 3, 4]),
+    Calls(0, 9, NOT_FIRST, [0, 2, 0, 2], [3, 4, 3, 4]),
+    Calls(9, 1, NOT_LAST, [1, 2, 1, 2], [3, 0, 3, 0]),
+    Calls(2, 9, NO_SYNC, [1, 2, 0, 0], [3, 4, 0, 0]),
+    Calls(9, 2, NO_SYNC, [1, 2, 1, 2], [3, 4, 0, 0]),
+    Calls(2, 2, NO_SYNC, [1, 2, 0, 0], [3, 4, 0, 0]),
 ];
 
+/// Checks the calls of a pair.
+fn check_five<D: Disk>(test: &impl Test, disk: &mut D, answers: [bool; 5], row: u64) {
+    check_at(test, disk.blocks() == 4, "the blocks of row", row);
+    let is_told = five_calls(disk) == answers;
+    check_at(test, is_told, "the calls of row", row)
+}
+
+/// Checks the calls of a row, and what they leave.
+fn check_row(test: &impl Bench, of: &Calls, row: u64) {
+    let Calls(front, back, answers, first, second) = *of;
+    let mut disk = two(test, front, back);
+    check_five(test, &mut disk, answers, row);
+    check_held(test, disk, first, second, row)
+}
+
 fn check_calls(test: &impl Bench) {
-    for (row, (front, back, answers, first, second)) in (0..).zip(&CALLS) {
-        let mut disk = two(test, *front, *back);
-        check_at(test, disk.blocks() == 4, "the blocks of row", row);
-        let is_told = five_calls(&mut disk) == *answers;
-        check_at(test, is_told, "the calls of row", row);
-        check_held(test, disk, *first, *second, row)
+    for (row, of) in (0..).zip(&CALLS) {
+        check_row(test, of, row)
     }
 }
 
@@ -150,23 +133,35 @@ fn each_call_reaches_its_disk(rt: HostRuntime) {
 }
 
 /// A place and how many blocks, their first bytes, and whether their read is one of the first disk, and of the second.
-static READ: [(u64, usize, [u8; 4], bool, bool); 5] = [
-    (0, 2, [1, 2, 0, 0], true, false),
-    (1, 2, [2, 3, 0, 0], true, true),
-    (2, 2, [3, 4, 0, 0], false, true),
-    (3, 1, [4, 0, 0, 0], false, true),
-    (0, 4, [1, 2, 3, 4], true, true),
+struct Read(u64, usize, [u8; 4], bool, bool);
+
+static READ: [Read; 5] = [
+    Read(0, 2, [1, 2, 0, 0], true, false),
+    Read(1, 2, [2, 3, 0, 0], true, true),
+    Read(2, 2, [3, 4, 0, 0], false, true),
+    Read(3, 1, [4, 0, 0, 0], false, true),
+    Read(0, 4, [1, 2, 3, 4], true, true),
 ];
+
+/// What a run of a row is read as, from disks of which one call may fail.
+fn read_of(test: &impl Bench, front: u64, back: u64, of: &Read) -> Result<[u8; 4], Fault> {
+    look_run(&mut filled(test, front, back), of.0, of.1)
+}
+
+/// Checks the run of a row, and a fault of either disk.
+fn check_run(test: &impl Bench, of: &Read, row: u64) {
+    let is_read = read_of(test, 9, 9, of) == Ok(of.2);
+    check_at(test, is_read, "the run of row", row);
+    let is_fault = read_of(test, 3, 9, of).is_err();
+    check_at(test, is_fault == of.3, "a first fault at", row);
+    let is_fault = read_of(test, 9, 3, of).is_err();
+    check_at(test, is_fault == of.4, "a second fault at", row)
+}
 
 /// A run of blocks is read from the disk that has them, or from both; and a call of either may fail.
 fn check_read(test: &impl Bench) {
-    for (row, (place, blocks, bytes, first, second)) in (0..).zip(&READ) {
-        let answer = look_run(&mut filled(test, 9, 9), *place, *blocks);
-        check_at(test, answer == Ok(*bytes), "the run of row", row);
-        let answer = look_run(&mut filled(test, 3, 9), *place, *blocks);
-        check_at(test, answer.is_err() == *first, "a first fault at", row);
-        let answer = look_run(&mut filled(test, 9, 3), *place, *blocks);
-        check_at(test, answer.is_err() == *second, "a second fault at", row)
+    for (row, of) in (0..).zip(&READ) {
+        check_run(test, of, row)
     }
 }
 
@@ -177,26 +172,33 @@ fn a_run_is_read_where_its_blocks_are(rt: HostRuntime) {
 
 /// A place and how many blocks, the number of the call that fails of each disk, whether the write succeeds, and the
 /// four blocks then.
-static WRITTEN: [(u64, usize, u64, u64, bool, [u8; 4]); 8] = [
-    (0, 2, 9, 9, true, [5, 6, 0, 0]),
-    (1, 2, 9, 9, true, [0, 5, 6, 0]),
-    (2, 2, 9, 9, true, [0, 0, 5, 6]),
-    (3, 1, 9, 9, true, [0, 0, 0, 5]),
-    (0, 4, 9, 9, true, [5, 6, 7, 8]),
-    (0, 4, 1, 9, false, [5, 0, 0, 0]),
-    (1, 3, 9, 0, false, [0, 5, 0, 0]),
-    (1, 3, 9, 1, false, [0, 5, 6, 0]),
+struct Written(u64, usize, u64, u64, bool, [u8; 4]);
+
+static WRITTEN: [Written; 8] = [
+    Written(0, 2, 9, 9, true, [5, 6, 0, 0]),
+    Written(1, 2, 9, 9, true, [0, 5, 6, 0]),
+    Written(2, 2, 9, 9, true, [0, 0, 5, 6]),
+    Written(3, 1, 9, 9, true, [0, 0, 0, 5]),
+    Written(0, 4, 9, 9, true, [5, 6, 7, 8]),
+    Written(0, 4, 1, 9, false, [5, 0, 0, 0]),
+    Written(1, 3, 9, 0, false, [0, 5, 0, 0]),
+    Written(1, 3, 9, 1, false, [0, 5, 6, 0]),
 ];
+
+/// Checks the run of a row, and what is left.
+fn check_run_written(test: &impl Bench, of: &Written, row: u64) {
+    let Written(place, blocks, front, back, written, held) = *of;
+    let mut disk = two(test, front, back);
+    let is_written = fill_run(&mut disk, place, blocks, 5).is_ok();
+    check_at(test, is_written == written, "the write of row", row);
+    let first = [held[0], held[1], 0, 0];
+    check_held(test, disk, first, [held[2], held[3], 0, 0], row)
+}
 
 /// A run of blocks is written to the disk that has them, or to both, the first disk's first.
 fn check_written(test: &impl Bench) {
-    for (row, (place, blocks, front, back, written, held)) in (0..).zip(&WRITTEN) {
-        let mut disk = two(test, *front, *back);
-        let is_written = fill_run(&mut disk, *place, *blocks).is_ok();
-        check_at(test, is_written == *written, "the write of row", row);
-        let [first, second, third, fourth] = *held;
-        let (front, back) = ([first, second, 0, 0], [third, fourth, 0, 0]);
-        check_held(test, disk, front, back, row)
+    for (row, of) in (0..).zip(&WRITTEN) {
+        check_run_written(test, of, row)
     }
 }
 
@@ -205,19 +207,19 @@ fn a_run_is_written_where_its_blocks_are(rt: HostRuntime) {
     check_written(&By(&rt, rt.alloc()))
 }
 
-/// A block is read from the disk that has it; one of another size is not there.
-fn check_blocks(test: &impl Bench) {
-    let mut disk = filled(test, 9, 9);
-    for (place, byte) in [
-        (0, Ok(1)),
-        (1, Ok(2)),
-        (2, Ok(3)),
-        (3, Ok(4)),
-        (4, Err(Fault)),
-    ] {
-        let is_read = look(&mut disk, place) == byte;
+/// Checks the four blocks of a pair, after which there is none.
+fn check_looks<D: Disk>(test: &impl Test, disk: &mut D) {
+    for byte in 1..5u8 {
+        let place = u64::from(byte) - 1;
+        let is_read = look(disk, place) == Ok(byte);
         check_at(test, is_read, "the block at place", place)
     }
+    check(test, look(disk, 4) == Err(Fault), "a block after them")
+}
+
+/// A block is read from the disk that has it; one of another size is not there.
+fn check_blocks(test: &impl Bench) {
+    check_looks(test, &mut filled(test, 9, 9));
     let front = zeros(test, test.alloc(), BlockSize::OneKib, 2);
     let back = zeros(test, test.alloc(), BlockSize::TwoKib, 2);
     check(test, PairDisk::of(front, back).blocks() == 2, "two sizes")
