@@ -1,7 +1,7 @@
 //! Calls of a board and a book.
 
 use crate::journals::SHAPE;
-use crate::met::{Met, ample, must, refusing, tried};
+use crate::met::{Met, ample, met_if, refusing, tried};
 use jb_block::Memory;
 use jb_board::{Board, Front};
 use jb_desk::{BeginFault, Book, EnqueueFault};
@@ -10,11 +10,10 @@ use std::alloc::Global;
 use std::fs::File;
 use std::marker::Brand;
 use std::rt::Files;
-use std::sync::ledger::Ledger;
 
 /// Whether a new board counts no tickets.
-fn is_new<L: Ledger>(alloc: Global) -> Result<bool, Memory> {
-    let (board, mut seat) = Board::<L>::new(alloc)?;
+fn is_new(alloc: Global) -> Result<bool, Memory> {
+    let (board, mut seat) = Board::<Brand>::new(alloc)?;
     let front = Front {
         settled: 0,
         taken: 0,
@@ -24,8 +23,8 @@ fn is_new<L: Ledger>(alloc: Global) -> Result<bool, Memory> {
 }
 
 /// A new board.
-pub fn board_row<R: Files<File = File>, L: Ledger>(rt: &R, alloc: Global) -> Option<Met> {
-    tried(rt, || is_new::<L>(alloc))
+pub fn board_row(rt: &impl Files<File = File>, alloc: Global) -> Option<Met> {
+    tried(rt, || is_new(alloc))
 }
 
 /// Whether a handle is begun.
@@ -40,10 +39,10 @@ fn is_open(book: &mut Book<Brand>) -> Result<bool, Memory> {
 /// A book that ran out of memory lists no handle of the seat.
 pub fn open_row(rt: &impl Files<File = File>, alloc: Global) -> Option<Met> {
     let mut book = Book::<Brand>::new(alloc, SHAPE, 32);
-    let met = tried(rt, || is_open(&mut book))?;
-    must(book.open(1, 6) == Err(BeginFault::Busy))?;
-    must(book.open(2, 27) == Err(BeginFault::TooManyCredits(6)))?;
-    Some(met)
+    let met = tried(rt, || is_open(&mut book));
+    let is_busy = book.open(1, 6) == Err(BeginFault::Busy);
+    let is_too_many = book.open(2, 27) == Err(BeginFault::TooManyCredits(6));
+    if is_busy && is_too_many { met } else { None }
 }
 
 /// A handle that revokes home 1.
@@ -56,23 +55,31 @@ fn revoking(alloc: Global) -> Handle<()> {
 /// A book that ran out of memory has queued nothing, and hands the handle back.
 pub fn enqueue_row(rt: &impl Files<File = File>, alloc: Global) -> Option<Met> {
     let mut book = Book::<Brand>::new(alloc, SHAPE, 32);
-    must(book.open(1, 1).is_ok())?;
-    let handle = revoking(alloc);
+    let is_open = book.open(1, 1).is_ok();
+    let met = enqueue(rt, &mut book, revoking(alloc));
+    if is_open && is_all(&mut book) {
+        met
+    } else {
+        None
+    }
+}
+
+/// Queues a handle where memory may be refused.
+fn enqueue(
+    rt: &impl Files<File = File>,
+    book: &mut Book<Brand>,
+    handle: Handle<()>,
+) -> Option<Met> {
     refusing(rt);
     let first = book.enqueue(1, handle);
     ample(rt);
-    let (met, is_first) = match first {
-        Ok((_, ticket)) => (Met::Ample, ticket == 0),
-        Err((handle, EnqueueFault::Memory)) if handle.touched() == 1 => {
-            (Met::Memory, is_queued(&mut book, handle))
+    match first {
+        Ok((_, ticket)) => met_if(ticket == 0, Met::Ample),
+        Err((handle, fault)) => {
+            let is_kept = fault == EnqueueFault::Memory && handle.touched() == 1;
+            met_if(is_queued(book, handle) && is_kept, Met::Memory)
         }
-        Err((handle, _)) => {
-            let (_, _words) = handle.end();
-            return None;
-        }
-    };
-    must(is_first && is_all(&mut book))?;
-    Some(met)
+    }
 }
 
 /// Whether a handle that was handed back gets the first ticket.

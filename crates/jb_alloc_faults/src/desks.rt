@@ -3,22 +3,21 @@ ghost use Rattle.std.specs.Prelude.{◌≡◌, ◌+◌, ◌^◌, [], false, IfEr
 ghost use Rattle.jb_desk.specs.History.{history_in};
 ghost use Rattle.jb_board.specs.History.{history_id};
 
-use crate::journals::{STAMP, opened, word_at};
-use crate::met::{Met, ample, must, refusing, tried};
+use crate::journals::{STAMP, recovered_word};
+use crate::met::{Met, ample, refusing, tried};
 use jb_block::Memory;
 use jb_board::Opened;
 use jb_deck::Deck;
-use jb_desk::{Closed, Desk, Left, Origin, Seat, StopLedger};
-use jb_disk::{FixedClock, MemoryDisk};
-use jb_recover::recover;
+use jb_desk::{Closed, Desk, Left, Origin, StopLedger};
+use jb_disk::{Disk, FixedClock, MemoryDisk};
 use std::alloc::Global;
 use std::fs::File;
 use std::rt::Files;
 use std::sync::Wait;
 use std::sync::ledger::{Blank, Ledger};
 
-/// A desk over a disk in memory, whose clock stands still.
-pub type Small<H, N> = Desk<MemoryDisk, FixedClock, H, N>;
+/// A desk whose clock stands still.
+pub type Small<D, H, N> = Desk<D, FixedClock, H, N>;
 
 /// The parts of each ledger of a desk.
 pub const PARTS: u64 = (1 << 61) + 1;
@@ -32,6 +31,33 @@ pub const WORD: u32 = 0x0707_0707;
 /// What a desk that was closed comes to: handles, changes and groups, and the first word of home 1 once the journal is
 /// recovered.
 pub type Sums = (u64, u64, usize, u32);
+
+/// What a row leaves at its desk, which is closed with it.
+#[must_use]
+pub struct Rest<H: Origin, N: Ledger> {
+    /// How the row met refused memory; none where something is not as it must be.
+    pub met: Option<Met>,
+    /// What the desk comes to: one of these.
+    pub sums: [Sums; 2],
+    /// What a seat left.
+    pub left: Left<H, N>,
+    /// What another seat left, where there was one.
+    pub other: Option<Left<H, N>>,
+}
+
+/// What a row with one seat leaves, where the desk comes to this.
+pub fn one_left<H: Origin, N: Ledger>(
+    met: Option<Met>,
+    sums: Sums,
+    left: Left<H, N>,
+) -> Rest<H, N> {
+    Rest {
+        met,
+        sums: [sums, sums],
+        left,
+        other: None,
+    }
+}
 
 /// Whether a ledger and a history are made.
 fn is_made(alloc: Global) -> Result<bool, Memory> {
@@ -60,7 +86,7 @@ fn start<H: Origin, N: Ledger>(
     changes: Blank,
     marks: Opened<Deck<MemoryDisk>>,
     deck: Deck<MemoryDisk>,
-) -> Result<Small<H, N>, Parts>
+) -> Result<Small<MemoryDisk, H, N>, Parts>
     requires blind { H.begun.is_known → ⊥ }
     requires handles { (handles.tickets.name ≡ H.name) × (handles.tickets.parts ≡ H.parts) × (H.parts ≡ 2 ^ 61 + 1) }
     requires histories { (history_in handles ≡ H.history) × (history_id marks ≡ H.marks) }
@@ -72,104 +98,146 @@ fn start<H: Origin, N: Ledger>(
     Desk::start(alloc, handles, changes, marks, deck, CLOCK)
 }
 
-/// A desk over a new journal, which is started where memory may be refused if that is asked. The parts that are handed
-/// back for want of memory start a desk.
+/// The parts that were handed back for want of memory start a desk.
+fn start_again<H: Origin, N: Ledger>(
+    alloc: Global,
+    handles: StopLedger,
+    changes: Blank,
+    marks: Opened<Deck<MemoryDisk>>,
+    deck: Deck<MemoryDisk>,
+) -> Option<Small<MemoryDisk, H, N>>
+    requires blind { H.begun.is_known → ⊥ }
+    requires handles { (handles.tickets.name ≡ H.name) × (handles.tickets.parts ≡ H.parts) × (H.parts ≡ 2 ^ 61 + 1) }
+    requires histories { (history_in handles ≡ H.history) × (history_id marks ≡ H.marks) }
+    requires changes { (changes.name ≡ N.name) × (changes.parts ≡ N.parts) × (N.parts ≡ 2 ^ 61 + 1) }
+    requires fresh { deck.trail ≡ [] }
+    requires running { deck.aborted ≡ false }
+{
+    start::<H, N>(alloc, handles, changes, marks, deck).ok()
+}
+
+/// A desk over a new journal, which is started where memory may be refused if that is asked; and whether memory ran
+/// out.
 pub fn started<R: Files<File = File>, H: Origin, N: Ledger>(
     rt: &R,
     alloc: Global,
     handles: StopLedger,
     changes: Blank,
     marks: Opened<Deck<MemoryDisk>>,
+    deck: Deck<MemoryDisk>,
     is_refused: bool,
-) -> Option<(Met, Small<H, N>)>
+) -> (Met, Option<Small<MemoryDisk, H, N>>)
     requires blind { H.begun.is_known → ⊥ }
     requires handles { (handles.tickets.name ≡ H.name) × (handles.tickets.parts ≡ H.parts) × (H.parts ≡ 2 ^ 61 + 1) }
     requires histories { (history_in handles ≡ H.history) × (history_id marks ≡ H.marks) }
     requires changes { (changes.name ≡ N.name) × (changes.parts ≡ N.parts) × (N.parts ≡ 2 ^ 61 + 1) }
+    requires fresh { deck.trail ≡ [] }
+    requires running { deck.aborted ≡ false }
 {
-    let deck = opened(alloc)?;
     if is_refused {
         refusing(rt);
     }
     let first = start::<H, N>(alloc, handles, changes, marks, deck);
     ample(rt);
     match first {
-        Ok(desk) => Some((Met::Ample, desk)),
-        Err((handles, changes, marks, deck, _)) => {
-            match start::<H, N>(alloc, handles, changes, marks, deck) {
-                Ok(desk) => Some((Met::Memory, desk)),
-                Err(_) => None,
-            }
-        }
+        Ok(desk) => (Met::Ample, Some(desk)),
+        Err((handles, changes, marks, deck, _)) => (
+            Met::Memory,
+            start_again::<H, N>(alloc, handles, changes, marks, deck),
+        ),
     }
 }
 
 /// A seat takes no memory, and closing a desk takes none.
-pub fn seat_row<R: Files<File = File> + Wait, H: Origin, N: Ledger>(
+pub fn seat_row<R: Files<File = File> + Wait, D: Disk, H: Origin, N: Ledger>(
     rt: &R,
-    alloc: Global,
-    desk: Small<H, N>,
-) -> Option<Met>
-    requires parts { (H.parts ≡ 2 ^ 61 + 1) × (N.parts ≡ 2 ^ 61 + 1) }
-{
+    desk: &Small<D, H, N>,
+) -> Option<Rest<H, N>> {
     refusing(rt);
     let first = desk.seat(rt);
     ample(rt);
-    let Ok(seat) = first else {
-        return None;
-    };
-    must(sums(rt, alloc, desk, seat)? == (0, 0, 0, 0))?;
-    Some(Met::Ample)
-}
-
-/// A seat leaves, and the desk is closed. All other seats have left, with nothing.
-pub fn sums<R: Files<File = File> + Wait, H: Origin, N: Ledger>(
-    rt: &R,
-    alloc: Global,
-    desk: Small<H, N>,
-    seat: Seat<H, N>,
-) -> Option<Sums>
-    requires parts { (H.parts ≡ 2 ^ 61 + 1) × (N.parts ≡ 2 ^ 61 + 1) }
-{
-    let left = desk.leave(rt, seat);
-    let lefts = Vec::new(alloc);
-    sums_with(rt, alloc, desk, lefts, left)
-}
-
-/// Closes a desk with what its seats left, where memory may be refused.
-pub fn sums_with<R: Files<File = File> + Wait, H: Origin, N: Ledger>(
-    rt: &R,
-    alloc: Global,
-    desk: Small<H, N>,
-    lefts: Vec<Left<H, N>>,
-    last: Left<H, N>,
-) -> Option<Sums>
-    requires parts { (H.parts ≡ 2 ^ 61 + 1) × (N.parts ≡ 2 ^ 61 + 1) }
-{
-    let mut lefts = lefts;
-    lefts.reserve(1).ok()?;
-    lefts.push_reserved(last);
-    let seen = desk.sights(rt);
-    refusing(rt);
-    let first = desk.close(lefts, seen);
-    ample(rt);
     match first {
-        Ok(closed) => sums_of(alloc, closed),
+        Ok(seat) => Some(one_left(Some(Met::Ample), (0, 0, 0, 0), desk.leave(rt, seat))),
         Err(_) => None,
     }
 }
 
-/// What a closed desk comes to.
-fn sums_of(alloc: Global, closed: Closed<MemoryDisk, FixedClock>) -> Option<Sums> {
-    let Closed {
-        disk,
-        clock: _,
-        handles,
-        changes,
-        shape: _,
-        trail,
-    } = closed;
-    let mut disk = disk;
-    must(recover(alloc, &mut disk).is_ok())?;
-    Some((handles, changes, trail.len(), word_at(&mut disk, 34)?))
+/// What two seats left, or one. Where there is no memory for it the desk is not closed.
+fn lefts_of<H: Origin, N: Ledger>(
+    alloc: Global,
+    left: Left<H, N>,
+    other: Option<Left<H, N>>,
+) -> Vec<Left<H, N>> {
+    let mut lefts = Vec::new(alloc);
+    let _refused = lefts.push(left);
+    if let Some(other) = other {
+        let _refused = lefts.push(other);
+    }
+    lefts
+}
+
+/// Closes a desk with what its seats left, where memory may be refused.
+fn closed<R: Files<File = File> + Wait, D: Disk + Drop, H: Origin, N: Ledger>(
+    rt: &R,
+    desk: Small<D, H, N>,
+    lefts: Vec<Left<H, N>>,
+) -> Option<Closed<D, FixedClock>>
+    requires parts { (H.parts ≡ 2 ^ 61 + 1) × (N.parts ≡ 2 ^ 61 + 1) }
+{
+    let seen = desk.sights(rt);
+    refusing(rt);
+    let first = desk.close(lefts, seen);
+    ample(rt);
+    first.ok()
+}
+
+/// Whether a desk that was closed comes to one of these.
+fn is_one_of<D: Disk>(alloc: Global, closed: &mut Closed<D, FixedClock>, sums: [Sums; 2]) -> bool {
+    match recovered_word(alloc, &mut closed.disk, 34) {
+        Some(word) => {
+            let found = (closed.handles, closed.changes, closed.trail.len(), word);
+            found == sums[0] || found == sums[1]
+        }
+        None => false,
+    }
+}
+
+/// Closes a desk with what its seats left. Says whether it comes to one of these.
+fn is_closed<R: Files<File = File> + Wait, D: Disk + Drop, H: Origin, N: Ledger>(
+    rt: &R,
+    alloc: Global,
+    desk: Small<D, H, N>,
+    lefts: Vec<Left<H, N>>,
+    sums: [Sums; 2],
+) -> bool
+    requires parts { (H.parts ≡ 2 ^ 61 + 1) × (N.parts ≡ 2 ^ 61 + 1) }
+{
+    match closed(rt, desk, lefts) {
+        Some(mut closed) => is_one_of(alloc, &mut closed, sums),
+        None => false,
+    }
+}
+
+/// Closes the desk of a row with what its seats left: how the row met refused memory, where the desk comes to what it
+/// must. That of a row without an answer is not closed.
+pub fn settle<R: Files<File = File> + Wait, D: Disk + Drop, H: Origin, N: Ledger>(
+    rt: &R,
+    alloc: Global,
+    desk: Small<D, H, N>,
+    rest: Option<Rest<H, N>>,
+) -> Option<Met>
+    requires parts { (H.parts ≡ 2 ^ 61 + 1) × (N.parts ≡ 2 ^ 61 + 1) }
+{
+    let Rest {
+        met,
+        sums,
+        left,
+        other,
+    } = rest?;
+    let lefts = lefts_of(alloc, left, other);
+    if is_closed(rt, alloc, desk, lefts, sums) {
+        met
+    } else {
+        None
+    }
 }

@@ -1,7 +1,7 @@
 //! Disks in memory, their recovery and their text.
 
-use crate::journals::{HOME_5, committed, formatted, put_word, word_at};
-use crate::met::{Met, ample, must, refusing, tried};
+use crate::journals::{HOME_5, committed, formatted, put_word, read_block, word_at};
+use crate::met::{Met, ample, met_if, refusing, tried};
 use jb_block::{BlockSize, MAGIC, Memory};
 use jb_disk::{Disk, MemoryDisk};
 use jb_dump::{DumpFault, dump};
@@ -48,14 +48,43 @@ fn is_left(disk: &MemoryDisk) -> Result<bool, Memory> {
     Ok(is_first && word_at(&mut left, HOME_5 + 1) == Some(0))
 }
 
+/// A crash of a disk with two blocks that were written since the last sync.
+fn crash(rt: &impl Files<File = File>, disk: &mut MemoryDisk) -> Option<Met> {
+    put_word(disk, HOME_5, MAGIC)?;
+    put_word(disk, HOME_5 + 1, MAGIC)?;
+    let met = tried(rt, || is_left(disk));
+    if word_at(disk, HOME_5 + 1) == Some(MAGIC) {
+        met
+    } else {
+        None
+    }
+}
+
 /// A crash leaves the disk as it was.
 pub fn crash_row(rt: &impl Files<File = File>, alloc: Global) -> Option<Met> {
     let mut disk = formatted(alloc)?;
-    put_word(&mut disk, HOME_5, MAGIC)?;
-    put_word(&mut disk, HOME_5 + 1, MAGIC)?;
-    let met = tried(rt, || is_left(&disk))?;
-    must(word_at(&mut disk, HOME_5 + 1)? == MAGIC)?;
-    Some(met)
+    crash(rt, &mut disk)
+}
+
+/// How a recovery met refused memory.
+fn met_by<D: Disk>(
+    alloc: Global,
+    disk: &mut D,
+    first: Result<Recovered, RecoverFault>,
+) -> Option<Met> {
+    match first {
+        Ok(found) => met_if(found == RECOVERED, Met::Ample),
+        Err(RecoverFault::Memory) => {
+            let is_kept = word_at(disk, HOME_5) == Some(0);
+            let is_found = recover(alloc, disk) == Ok(RECOVERED);
+            met_if(is_kept && is_found, Met::Memory)
+        }
+        Err(RecoverFault::DeviceFault) => match recover(alloc, disk) {
+            Ok(found) => met_if(found == RECOVERED || found.next == 4, Met::Fault),
+            Err(_) => None,
+        },
+        Err(_) => None,
+    }
 }
 
 /// The disk of a recovery that ran out of memory is as it was. One that failed is recovered by the next call.
@@ -64,31 +93,31 @@ pub fn recover_row(rt: &impl Files<File = File>, alloc: Global) -> Option<Met> {
     refusing(rt);
     let first = recover(alloc, &mut disk);
     ample(rt);
-    let (met, found) = match first {
-        Ok(found) => (Met::Ample, found),
-        Err(RecoverFault::Memory) => {
-            must(word_at(&mut disk, HOME_5)? == 0)?;
-            (Met::Memory, recover(alloc, &mut disk).ok()?)
-        }
-        Err(RecoverFault::DeviceFault) => (Met::Fault, recover(alloc, &mut disk).ok()?),
-        Err(_) => return None,
-    };
-    must(found == RECOVERED || met == Met::Fault && found.next == 4)?;
-    must(word_at(&mut disk, HOME_5)? == MAGIC)?;
-    Some(met)
+    let met = met_by(alloc, &mut disk, first);
+    if word_at(&mut disk, HOME_5) == Some(MAGIC) {
+        met
+    } else {
+        None
+    }
 }
 
-/// The bytes of the journal with the committed handle.
-fn journal(alloc: Global) -> Option<Vec<u8>> {
-    let mut disk = committed(alloc)?;
-    let mut bytes = Vec::new(alloc);
+/// Reads the journal's blocks. None where that fails.
+fn read<D: Disk>(disk: &mut D, bytes: &mut Vec<u8>) -> Option<()> {
     let mut block = [0; 1024];
     for place in 0..33 {
-        must(place < disk.blocks() && disk.block_size().bytes() == 1024)?;
-        disk.read(place, &mut block).ok()?;
+        read_block(disk, place, &mut block)?;
         bytes.extend_from_slice(&block).ok()?;
     }
-    Some(bytes)
+    Some(())
+}
+
+/// The bytes of the journal with the committed handle; none where it is not read.
+fn journal(alloc: Global) -> Vec<u8> {
+    let mut bytes = Vec::new(alloc);
+    if let Some(mut disk) = committed(alloc) {
+        let _read = read(&mut disk, &mut bytes);
+    }
+    bytes
 }
 
 /// Whether the text of a journal is dumped. A dump that ran out of memory has written nothing.
@@ -103,8 +132,8 @@ fn is_dumped(alloc: Global, bytes: &[u8], text: &mut Vec<u8>) -> Result<bool, Me
 
 /// The dump of a journal.
 pub fn dump_row(rt: &impl Files<File = File>, alloc: Global) -> Option<Met> {
-    let bytes = journal(alloc)?;
+    let bytes = journal(alloc);
     let mut text = Vec::new(alloc);
-    text.reserve(1024).ok()?;
+    let _refused = text.reserve(1024);
     tried(rt, || is_dumped(alloc, &bytes, &mut text))
 }

@@ -1,12 +1,12 @@
 //! Calls of handles and batches.
 
 use crate::journals::SHAPE;
-use crate::met::{Met, ample, must, refusing, tried};
+use crate::met::{Met, ample, met_if, refusing, tried};
 use crate::texts::THREE;
 use crate::values::PRICES;
 use jb_block::{BlockSize, Memory, Width};
 use jb_deck::{Batch, PrepareFault, Prepared, is_batch, prepare};
-use jb_handle::{Handle, Payload, Shape, Stopped, TouchFault, Word};
+use jb_handle::{Handle, Payload, Shape, Stopped, TouchFault, Word, Words};
 use jb_queue::read_queue;
 use std::alloc::Global;
 use std::fs::File;
@@ -26,13 +26,24 @@ fn is_touched(handle: &mut Handle<()>, is_write: bool) -> Result<bool, Memory> {
     }
 }
 
+/// Whether home block 5 alone is written, or freed.
+fn is_block_5(words: &Words, is_write: bool) -> bool {
+    match words.get(5) {
+        Some(word) => words.len() == 1 && word.is_copy() == is_write,
+        None => false,
+    }
+}
+
 /// A refused write or revoke leaves the handle as it was.
 pub fn touch_row(rt: &impl Files<File = File>, alloc: Global, is_write: bool) -> Option<Met> {
     let mut handle = Handle::new(alloc, (), 2, SHAPE);
     let met = tried(rt, || is_touched(&mut handle, is_write));
     let (_, words) = handle.end();
-    must(words.len() == 1 && words.get(5)?.is_copy() == is_write)?;
-    met
+    if is_block_5(&words, is_write) {
+        met
+    } else {
+        None
+    }
 }
 
 /// A copy that a handle refuses, as it has no credits, takes no memory.
@@ -43,8 +54,8 @@ pub fn refused_row(rt: &impl Files<File = File>, alloc: Global) -> Option<Met> {
     let put = handle.put(5, &word);
     ample(rt);
     let (_, words) = handle.end();
-    must(put.err() == Some(TouchFault::NoCredit(0)) && words.is_empty())?;
-    Some(Met::Ample)
+    let is_refused = put.err() == Some(TouchFault::NoCredit(0));
+    met_if(is_refused && words.is_empty(), Met::Ample)
 }
 
 /// The journal that the three handles are for: a group takes seven log blocks at most.
@@ -55,42 +66,17 @@ const SEVEN: Shape = Shape {
     width: Width::Narrow,
 };
 
-/// These handles as a batch; none where they are not one.
-pub fn batch_of(first: u64, handles: Vec<Stopped>, shape: Shape) -> Option<Batch> {
+/// These handles as a batch with its plan; none where that is refused.
+pub fn prepared(
+    alloc: Global,
+    first: u64,
+    handles: Vec<Stopped>,
+    shape: Shape,
+) -> Option<Prepared> {
     if !is_batch(first, &handles, shape) {
         return None;
     }
-    Some(Batch::of(first, handles, shape))
-}
-
-/// A batch that is handed back for want of memory is prepared by the next call.
-pub fn prepare_row(rt: &impl Files<File = File>, alloc: Global) -> Option<Met> {
-    let batch = batch_of(0, read_queue(alloc, THREE).ok()?.handles, SEVEN)?;
-    refusing(rt);
-    let first = prepare(alloc, batch);
-    ample(rt);
-    match first {
-        Ok(prepared) => planned(prepared, Met::Ample),
-        Err((batch, PrepareFault::Memory)) => prepare_again(alloc, batch),
-        Err((batch, PrepareFault::NoCut(_))) => {
-            let _handles = batch.end();
-            None
-        }
-    }
-}
-
-/// Prepares a batch that was handed back, whole.
-fn prepare_again(alloc: Global, batch: Batch) -> Option<Met> {
-    if batch.len() != 3 || batch.first() != 0 {
-        let _handles = batch.end();
-        return None;
-    }
-    planned(prepared(alloc, batch)?, Met::Memory)
-}
-
-/// A batch with its plan; none where it is refused.
-pub fn prepared(alloc: Global, batch: Batch) -> Option<Prepared> {
-    match prepare(alloc, batch) {
+    match prepare(alloc, Batch::of(first, handles, shape)) {
         Ok(prepared) => Some(prepared),
         Err((batch, _)) => {
             let _handles = batch.end();
@@ -99,11 +85,57 @@ pub fn prepared(alloc: Global, batch: Batch) -> Option<Prepared> {
     }
 }
 
-/// As it was met, where a batch has the plan of the three handles; it is let go.
-fn planned(prepared: Prepared, met: Met) -> Option<Met> {
+/// A batch that is handed back for want of memory is prepared by the next call.
+pub fn prepare_row(rt: &impl Files<File = File>, alloc: Global) -> Option<Met> {
+    let queue = read_queue(alloc, THREE).ok()?;
+    prepare_of(rt, alloc, queue.handles, SEVEN)
+}
+
+/// Prepares the three handles where memory may be refused.
+fn prepare_of(
+    rt: &impl Files<File = File>,
+    alloc: Global,
+    handles: Vec<Stopped>,
+    shape: Shape,
+) -> Option<Met> {
+    if !is_batch(0, &handles, shape) {
+        return None;
+    }
+    let batch = Batch::of(0, handles, shape);
+    refusing(rt);
+    let first = prepare(alloc, batch);
+    ample(rt);
+    met_by(alloc, first)
+}
+
+/// How the plan of the three handles met refused memory.
+fn met_by(alloc: Global, first: Result<Prepared, (Batch, PrepareFault)>) -> Option<Met> {
+    match first {
+        Ok(prepared) => met_if(is_planned(prepared), Met::Ample),
+        Err((batch, fault)) => {
+            let is_memory = matches!(fault, PrepareFault::Memory);
+            let is_whole = batch.len() == 3 && batch.first() == 0;
+            let is_again = is_prepared(alloc, batch);
+            met_if(is_memory && is_whole && is_again, Met::Memory)
+        }
+    }
+}
+
+/// Whether a batch that was handed back gets the plan of the three handles.
+fn is_prepared(alloc: Global, batch: Batch) -> bool {
+    match prepare(alloc, batch) {
+        Ok(prepared) => is_planned(prepared),
+        Err((batch, _)) => {
+            let _handles = batch.end();
+            false
+        }
+    }
+}
+
+/// Whether a batch has the plan of the three handles; it is let go.
+fn is_planned(prepared: Prepared) -> bool {
     let is_least = prepared.groups() == [0, 3].as_slice() && prepared.total() == 7;
     let is_priced = prepared.prices() == PRICES.as_slice();
     let _handles = prepared.back().end();
-    must(is_least && is_priced)?;
-    Some(met)
+    is_least && is_priced
 }

@@ -2,7 +2,7 @@
 
 use crate::desks::CLOCK;
 use crate::journals::formatted;
-use crate::met::{Met, ample, must, refusing};
+use crate::met::{Met, ample, met_if, refusing};
 use jb_deck::OpenFault;
 use jb_desk::Ended;
 use jb_disk::{Disk, FixedClock};
@@ -72,8 +72,30 @@ fn met_by(answer: &Result<Loaded, LoadFault>) -> Option<Met> {
         }
         _ => return None,
     };
-    must(is_so)?;
-    Some(met)
+    met_if(is_so, met)
+}
+
+/// A load where memory may be refused.
+fn first<R: Files<File = File> + Threads + Wait + Clock + Sync>(
+    rt: &R,
+    alloc: Global,
+    queue: &QueueLines,
+) -> Option<Met> {
+    let disk = formatted(alloc)?;
+    refusing(rt);
+    let first = load(rt, alloc, disk, queue);
+    ample(rt);
+    met_by(&first)
+}
+
+/// A load with ample memory.
+fn again<R: Threads + Wait + Clock + Sync>(
+    rt: &R,
+    alloc: Global,
+    queue: &QueueLines,
+) -> Option<Met> {
+    let disk = formatted(alloc)?;
+    met_by(&load(rt, alloc, disk, queue))
 }
 
 /// A load that ran out of memory is made again, into another journal, as the first one is lost with its disk.
@@ -81,13 +103,12 @@ pub fn load_row<R: Files<File = File> + Threads + Wait + Clock + Sync>(
     rt: &R,
     alloc: Global,
 ) -> Option<Met> {
-    let queue = read_lines(alloc, TEXT.to_vec(alloc).ok()?).ok()?;
-    let disk = formatted(alloc)?;
-    refusing(rt);
-    let first = load(rt, alloc, disk, &queue);
-    ample(rt);
-    let met = met_by(&first)?;
-    let again = load(rt, alloc, formatted(alloc)?, &queue);
-    must(met_by(&again)? == Met::Ample)?;
-    Some(met)
+    let text = TEXT.to_vec(alloc).ok()?;
+    let queue = read_lines(alloc, text).ok()?;
+    let met = first(rt, alloc, &queue);
+    if again(rt, alloc, &queue) == Some(Met::Ample) {
+        met
+    } else {
+        None
+    }
 }

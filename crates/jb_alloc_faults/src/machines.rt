@@ -1,7 +1,7 @@
 //! Steps of the machine.
 
 use crate::journals::SHAPE;
-use crate::met::{Met, must, tried};
+use crate::met::{Met, tried};
 use jb_block::Memory;
 use jb_core::{CoreFault, Event, Reply, State, run, step};
 use jb_handle::{Op, Payload};
@@ -58,34 +58,67 @@ fn is_made(state: &mut State, event: Option<Event>, row: &Row) -> Result<bool, M
     }
 }
 
-/// The machine after the first so many steps.
-fn stepped(alloc: Global, count: usize) -> Option<State> {
-    let mut state = State::new(alloc, SHAPE);
-    for (name, reply, _) in STEPS.iter().take(count) {
-        let event = event(alloc, name).ok()?;
-        must(step(&mut state, event) == Ok(*reply))?;
+/// Whether a machine makes this step.
+fn is_stepped(alloc: Global, state: &mut State, row: &Row) -> bool {
+    match event(alloc, row.0) {
+        Ok(event) => step(state, event) == Ok(row.1),
+        Err(_) => false,
     }
-    Some(state)
+}
+
+/// Whether a new machine makes the first so many steps.
+fn are_stepped(alloc: Global, state: &mut State, count: usize) -> bool {
+    for row in STEPS.iter().take(count) {
+        if !is_stepped(alloc, state, row) {
+            return false;
+        }
+    }
+    true
+}
+
+/// The event of a step for a first call, and that for a second one.
+fn two_events(alloc: Global, name: &str) -> Result<Vec<Event>, Memory> {
+    let mut events = Vec::new(alloc);
+    for _ in 0..2 {
+        events.push(event(alloc, name)?)?;
+    }
+    Ok(events)
+}
+
+/// Makes this step.
+fn made(rt: &impl Files<File = File>, alloc: Global, state: &mut State, row: &Row) -> Option<Met> {
+    let mut events = two_events(alloc, row.0).ok()?;
+    tried(rt, || is_made(state, events.pop(), row))
 }
 
 /// The step of this name, after those before it.
 pub fn step_row(rt: &impl Files<File = File>, alloc: Global, name: &str) -> Option<Met> {
     let at = STEPS.iter().position(|row| row.0 == name)?;
     let row = STEPS.get(at)?;
-    let mut state = stepped(alloc, at)?;
-    let mut events = Vec::new(alloc);
-    events.push(event(alloc, name).ok()?).ok()?;
-    events.push(event(alloc, name).ok()?).ok()?;
-    tried(rt, || is_made(&mut state, events.pop(), row))
+    let mut state = State::new(alloc, SHAPE);
+    if are_stepped(alloc, &mut state, at) {
+        made(rt, alloc, &mut state, row)
+    } else {
+        None
+    }
 }
 
 /// The events of all steps.
-fn events(alloc: Global) -> Option<Vec<Event>> {
+fn events(alloc: Global) -> Result<Vec<Event>, Memory> {
     let mut events = Vec::new(alloc);
     for (name, _, _) in &STEPS {
-        events.push(event(alloc, name).ok()?).ok()?;
+        events.push(event(alloc, name)?)?;
     }
-    Some(events)
+    Ok(events)
+}
+
+/// The events for a first call, and those for a second one.
+fn two_runs(alloc: Global) -> Result<Vec<Vec<Event>>, Memory> {
+    let mut runs = Vec::new(alloc);
+    for _ in 0..2 {
+        runs.push(events(alloc)?)?;
+    }
+    Ok(runs)
 }
 
 /// Whether a run over the events of all steps ends as the last one does.
@@ -100,8 +133,6 @@ fn is_run(alloc: Global, events: Option<Vec<Event>>) -> Result<bool, Memory> {
 
 /// A run over several events.
 pub fn run_row(rt: &impl Files<File = File>, alloc: Global) -> Option<Met> {
-    let mut runs = Vec::new(alloc);
-    runs.push(events(alloc)?).ok()?;
-    runs.push(events(alloc)?).ok()?;
+    let mut runs = two_runs(alloc).ok()?;
     tried(rt, || is_run(alloc, runs.pop()))
 }

@@ -1,6 +1,4 @@
 //! Where memory may be refused, and how a row met that.
-ghost use Rattle.std.specs.Prelude.{◌≡◌, true, false, IfNone, OnSome};
-
 use jb_block::Memory;
 use std::fs::File;
 use std::rt::Files;
@@ -27,12 +25,9 @@ pub fn ample(rt: &impl Files<File = File>) {
     let _seen = File::open(rt, "/refuse/off");
 }
 
-/// Something where it holds: a row goes on.
-pub fn must(holds: bool) -> Option<()>
-    ensures some { OnSome result (holds ≡ true) }
-    ensures none { IfNone result (holds ≡ false) }
-{
-    if holds { Some(()) } else { None }
+/// How a row met refused memory, where all that it compares holds.
+pub fn met_if(holds: bool, met: Met) -> Option<Met> {
+    if holds { Some(met) } else { None }
 }
 
 /// Makes a call where memory may be refused, and once more where it answers that memory ran out. The call says whether
@@ -50,6 +45,5 @@ pub fn tried<R: Files<File = File>, F: FnMut() -> Result<bool, Memory>>(
         Ok(_) => (Met::Ample, first),
         Err(_) => (Met::Memory, call()),
     };
-    must(matches!(found, Ok(true)))?;
-    Some(met)
+    met_if(matches!(found, Ok(true)), met)
 }

@@ -1,18 +1,18 @@
 //! Rounds of a desk: batches that are committed, and groups that are brought home.
-ghost use Rattle.std.specs.Prelude.{◌≡◌, ◌+◌, ◌^◌, IfSome};
+ghost use Rattle.std.specs.Prelude.{◌≡◌, IfSome};
 ghost use Rattle.jb_desk.specs.Desks.{desk_id};
 ghost use Rattle.jb_desk.specs.Rounds.{seat_of};
 ghost use Rattle.jb_desk.specs.Seats.{desk_of};
 ghost use Rattle.jb_handle.specs.Handle.{holder};
 ghost use Rattle.jb_handle.specs.Word.{WordMap};
 
-use crate::desks::{Small, WORD, sums, sums_with};
-use crate::met::{Met, ample, must, refusing, tried};
+use crate::desks::{Rest, Small, WORD, one_left};
+use crate::met::{Met, ample, refusing, tried};
 use crate::stopping::{stop, written};
 use jb_block::Memory;
-use jb_deck::CheckpointFault;
+use jb_deck::{Checked, CheckpointFault};
 use jb_desk::{Committer, Ended, Left, Origin, Round, RoundFault, Seat};
-use std::alloc::Global;
+use jb_disk::Disk;
 use std::fs::File;
 use std::rt::Files;
 use std::sync::Wait;
@@ -20,7 +20,10 @@ use std::sync::ledger::Ledger;
 use std::time::Clock;
 
 /// A committer, at whose desk a handle that writes home 1 has stopped; none where that was refused.
-fn stopped<R: Wait, H: Origin, N: Ledger>(rt: &R, desk: &Small<H, N>) -> Option<Committer<H, N>>
+fn stopped<R: Wait, D: Disk, H: Origin, N: Ledger>(
+    rt: &R,
+    desk: &Small<D, H, N>,
+) -> Option<Committer<H, N>>
     requires any { (words : WordMap) → H.begun.stops words }
     ensures { IfSome result (λ committer. desk_of (seat_of committer) ≡ desk_id desk.now) }
 {
@@ -36,9 +39,9 @@ fn stopped<R: Wait, H: Origin, N: Ledger>(rt: &R, desk: &Small<H, N>) -> Option<
 }
 
 /// A committer retires, or gives up where it is handed back. Says whether it retired.
-fn retired<R: Wait, H: Origin, N: Ledger>(
+fn retired<R: Wait, D: Disk, H: Origin, N: Ledger>(
     rt: &R,
-    desk: &Small<H, N>,
+    desk: &Small<D, H, N>,
     committer: Committer<H, N>,
 ) -> (Seat<H, N>, bool)
     ensures { result.0 ≡ seat_of committer }
@@ -49,30 +52,31 @@ fn retired<R: Wait, H: Origin, N: Ledger>(
     }
 }
 
-/// How the commit of the one handle was met.
-fn ends<R: Files<File = File> + Wait, H: Origin, N: Ledger>(
+/// What a committer leaves that has committed the one handle, so that it is home once the journal is recovered. Where
+/// the disk failed no group is settled, and it may be home.
+fn ends<R: Wait, D: Disk, H: Origin, N: Ledger>(
     rt: &R,
-    alloc: Global,
-    desk: Small<H, N>,
+    desk: &Small<D, H, N>,
     committer: Committer<H, N>,
     met: Option<Met>,
-) -> Option<Met>
-    requires parts { (H.parts ≡ 2 ^ 61 + 1) × (N.parts ≡ 2 ^ 61 + 1) }
-{
-    let (seat, is_retired) = retired(rt, &desk, committer);
-    let (handles, changes, groups, word) = sums(rt, alloc, desk, seat)?;
-    must(is_retired && handles == 1 && changes == 1)?;
-    must(match met? {
-        Met::Fault => groups == 0 && (word == 0 || word == WORD),
-        _ => groups == 1 && word == WORD,
-    })?;
-    met
+) -> Rest<H, N> {
+    let (seat, is_retired) = retired(rt, desk, committer);
+    let sums = match met {
+        Some(Met::Fault) => [(1, 1, 0, 0), (1, 1, 0, WORD)],
+        _ => [(1, 1, 1, WORD), (1, 1, 1, WORD)],
+    };
+    Rest {
+        met: if is_retired { met } else { None },
+        sums,
+        left: desk.leave(rt, seat),
+        other: None,
+    }
 }
 
 /// Makes a round: how it was met, where it commits the handle.
-fn round<R: Wait, H: Origin, N: Ledger>(
+fn round<R: Wait, D: Disk, H: Origin, N: Ledger>(
     rt: &R,
-    desk: &Small<H, N>,
+    desk: &Small<D, H, N>,
     committer: &mut Committer<H, N>,
 ) -> Option<Met>
     requires desk { desk_of (seat_of committer.old) ≡ desk_id desk.now }
@@ -87,23 +91,20 @@ fn round<R: Wait, H: Origin, N: Ledger>(
 }
 
 /// A committer that ran out of memory holds its batch, and the next round commits it.
-pub fn commit_round_row<R: Files<File = File> + Wait, H: Origin, N: Ledger>(
+pub fn commit_round_row<R: Files<File = File> + Wait, D: Disk, H: Origin, N: Ledger>(
     rt: &R,
-    alloc: Global,
-    desk: Small<H, N>,
-) -> Option<Met>
+    desk: &Small<D, H, N>,
+) -> Option<Rest<H, N>>
     requires any { (words : WordMap) → H.begun.stops words }
-    requires parts { (H.parts ≡ 2 ^ 61 + 1) × (N.parts ≡ 2 ^ 61 + 1) }
 {
-    let mut committer = stopped(rt, &desk)?;
+    let mut committer = stopped(rt, desk)?;
     refusing(rt);
-    let first = round(rt, &desk, &mut committer);
+    let first = round(rt, desk, &mut committer);
     ample(rt);
     let is_again = first == Some(Met::Memory);
-    let is_held = !is_again || round(rt, &desk, &mut committer) == Some(Met::Ample);
-    let met = ends(rt, alloc, desk, committer, first)?;
-    must(is_held)?;
-    Some(met)
+    let is_held = !is_again || round(rt, desk, &mut committer) == Some(Met::Ample);
+    let met = if is_held { first } else { None };
+    Some(ends(rt, desk, committer, met))
 }
 
 /// How a committer has ended, whose one handle is settled where the desk was over.
@@ -116,89 +117,115 @@ fn ended_as(ended: Ended) -> Option<Met> {
     }
 }
 
-/// A committer that ended for want of memory holds its batch, and commits it when it is run again.
-pub fn run_committer_row<R: Files<File = File> + Wait + Clock, H: Origin, N: Ledger>(
+/// A committer that ended for want of memory commits its batch when it is run again.
+fn ends_again<R: Wait + Clock, D: Disk, H: Origin, N: Ledger>(
     rt: &R,
-    alloc: Global,
-    desk: Small<H, N>,
-) -> Option<Met>
-    requires any { (words : WordMap) → H.begun.stops words }
-    requires parts { (H.parts ≡ 2 ^ 61 + 1) × (N.parts ≡ 2 ^ 61 + 1) }
+    desk: &Small<D, H, N>,
+    committer: Committer<H, N>,
+) -> Rest<H, N>
+    requires desk { desk_of (seat_of committer) ≡ desk_id desk.now }
 {
-    let committer = stopped(rt, &desk)?;
+    let (committer, again) = desk.run_committer(rt, committer);
+    let is_over = ended_as(again) == Some(Met::Ample);
+    let met = if is_over { Some(Met::Memory) } else { None };
+    ends(rt, desk, committer, met)
+}
+
+/// A committer that ended for want of memory holds its batch, and commits it when it is run again.
+pub fn run_committer_row<R: Files<File = File> + Wait + Clock, D: Disk, H: Origin, N: Ledger>(
+    rt: &R,
+    desk: &Small<D, H, N>,
+) -> Option<Rest<H, N>>
+    requires any { (words : WordMap) → H.begun.stops words }
+{
+    let committer = stopped(rt, desk)?;
     desk.shut(rt);
     refusing(rt);
     let (committer, ended) = desk.run_committer(rt, committer);
     ample(rt);
-    if ended != Ended::Memory {
-        return ends(rt, alloc, desk, committer, ended_as(ended));
+    Some(if ended == Ended::Memory {
+        ends_again(rt, desk, committer)
+    } else {
+        ends(rt, desk, committer, ended_as(ended))
+    })
+}
+
+/// How a checkpoint of the one group was met.
+fn checked_as(first: Result<Checked, CheckpointFault>) -> Option<Met> {
+    match first {
+        Ok(checked) if checked.number == 2 && checked.blocks == 1 => Some(Met::Ample),
+        Err(CheckpointFault::DeviceFault) => Some(Met::Fault),
+        _ => None,
     }
-    let (committer, again) = desk.run_committer(rt, committer);
-    must(ends(rt, alloc, desk, committer, ended_as(again))? == Met::Ample)?;
-    Some(Met::Memory)
 }
 
 /// A checkpoint takes no memory of its own. Where the disk failed for want of memory the group is still in the log.
-pub fn checkpoint_round_row<R: Files<File = File> + Wait, H: Origin, N: Ledger>(
+pub fn checkpoint_round_row<R: Files<File = File> + Wait, D: Disk, H: Origin, N: Ledger>(
     rt: &R,
-    alloc: Global,
-    desk: Small<H, N>,
-) -> Option<Met>
+    desk: &Small<D, H, N>,
+) -> Option<Rest<H, N>>
     requires any { (words : WordMap) → H.begun.stops words }
-    requires parts { (H.parts ≡ 2 ^ 61 + 1) × (N.parts ≡ 2 ^ 61 + 1) }
 {
-    let left = settled(rt, &desk)?;
+    let left = settled(rt, desk)?;
     refusing(rt);
     let first = desk.checkpoint_round(rt);
     ample(rt);
-    let found = sums_with(rt, alloc, desk, Vec::new(alloc), left)?;
-    must(found == (1, 1, 1, WORD))?;
-    match first {
-        Ok(checked) => {
-            must(checked.number == 2 && checked.blocks == 1)?;
-            Some(Met::Ample)
-        }
-        Err(CheckpointFault::DeviceFault) => Some(Met::Fault),
-        Err(_) => None,
-    }
+    Some(one_left(checked_as(first), (1, 1, 1, WORD), left))
 }
 
 /// Commits a handle with a seat that then leaves.
-fn settled<R: Wait, H: Origin, N: Ledger>(rt: &R, desk: &Small<H, N>) -> Option<Left<H, N>>
+fn settled<R: Wait, D: Disk, H: Origin, N: Ledger>(
+    rt: &R,
+    desk: &Small<D, H, N>,
+) -> Option<Left<H, N>>
     requires { (words : WordMap) → H.begun.stops words }
 {
     let mut committer = stopped(rt, desk)?;
     let committed = round(rt, desk, &mut committer);
     let (seat, is_retired) = retired(rt, desk, committer);
     let left = desk.leave(rt, seat);
-    must(committed == Some(Met::Ample) && is_retired)?;
-    Some(left)
+    if committed == Some(Met::Ample) && is_retired {
+        Some(left)
+    } else {
+        None
+    }
 }
 
 /// Whether a desk gives the entry of the group that is home.
-fn is_taken<R: Wait, H: Origin, N: Ledger>(rt: &R, desk: &Small<H, N>) -> Result<bool, Memory> {
+fn is_taken<R: Wait, D: Disk, H: Origin, N: Ledger>(
+    rt: &R,
+    desk: &Small<D, H, N>,
+) -> Result<bool, Memory> {
     Ok(match desk.take_trail(rt)?.as_slice() {
         [entry] => entry.past == 1 && entry.number == 2,
         _ => false,
     })
 }
 
-/// A desk that has no memory for the entries keeps its trail.
-pub fn take_trail_row<R: Files<File = File> + Wait, H: Origin, N: Ledger>(
+/// How a call for the entry of the group that is home was met, once the group is home.
+fn taken<R: Files<File = File> + Wait, D: Disk, H: Origin, N: Ledger>(
     rt: &R,
-    alloc: Global,
-    desk: Small<H, N>,
-) -> Option<Met>
+    desk: &Small<D, H, N>,
+) -> Option<Met> {
+    if desk.checkpoint_round(rt).is_err() {
+        return None;
+    }
+    tried(rt, || is_taken(rt, desk))
+}
+
+/// A desk that has no memory for the entries keeps its trail.
+pub fn take_trail_row<R: Files<File = File> + Wait, D: Disk, H: Origin, N: Ledger>(
+    rt: &R,
+    desk: &Small<D, H, N>,
+) -> Option<Rest<H, N>>
     requires any { (words : WordMap) → H.begun.stops words }
-    requires parts { (H.parts ≡ 2 ^ 61 + 1) × (N.parts ≡ 2 ^ 61 + 1) }
 {
-    let mut lefts = Vec::new(alloc);
-    lefts.reserve(1).ok()?;
-    lefts.push_reserved(settled(rt, &desk)?);
-    let last = settled(rt, &desk)?;
-    must(desk.checkpoint_round(rt).is_ok())?;
-    let met = tried(rt, || is_taken(rt, &desk))?;
-    let found = sums_with(rt, alloc, desk, lefts, last)?;
-    must(found == (2, 2, 1, WORD))?;
-    Some(met)
+    let left = settled(rt, desk)?;
+    let other = settled(rt, desk)?;
+    Some(Rest {
+        met: taken(rt, desk),
+        sums: [(2, 2, 1, WORD), (2, 2, 1, WORD)],
+        left,
+        other: Some(other),
+    })
 }

@@ -1,10 +1,11 @@
 //! The rows by their names.
-ghost use Rattle.std.specs.Prelude.{◌≡◌, ◌+◌, ◌^◌};
+ghost use Rattle.std.specs.Prelude.{◌≡◌, ◌+◌, ◌^◌, [], false};
 ghost use Rattle.jb_desk.specs.History.{history_in};
 ghost use Rattle.jb_board.specs.History.{history_id};
 ghost use Rattle.jb_handle.specs.Word.{WordMap};
 
-use crate::desks::{PARTS, started};
+use crate::desks::{PARTS, Rest, Small, settle, started};
+use crate::journals::opened;
 use crate::met::Met;
 use crate::{
     books, decks, desks, disks, handles, loads, logs, machines, rounds, stopping, texts, values,
@@ -12,7 +13,7 @@ use crate::{
 use jb_board::Opened;
 use jb_deck::Deck;
 use jb_desk::{Origin, StopLedger};
-use jb_disk::MemoryDisk;
+use jb_disk::{Disk, MemoryDisk};
 use std::alloc::Global;
 use std::fs::File;
 use std::marker::Brand;
@@ -60,6 +61,7 @@ fn shared_row<R: Files<File = File> + Threads + Wait + Clock + Sync>(
         "Deck::open" => decks::open_row(rt, alloc),
         "commit_batch" => decks::commit_batch_row(rt, alloc),
         "Deck::take_trail" => decks::take_trail_row(rt, alloc),
+        "Board::new" => books::board_row(rt, alloc),
         "Book::open" => books::open_row(rt, alloc),
         "Book::enqueue" => books::enqueue_row(rt, alloc),
         "StopLedger::new" => desks::stops_row(rt, alloc),
@@ -68,10 +70,9 @@ fn shared_row<R: Files<File = File> + Threads + Wait + Clock + Sync>(
     }
 }
 
-/// A row of a board or of a desk.
+/// A row of a desk.
 #[derive(Clone, Copy)]
 enum OfDesk {
-    Board,
     Start,
     Seat,
     Begin,
@@ -83,10 +84,9 @@ enum OfDesk {
     TakeTrail,
 }
 
-/// The row of this name, of a board or of a desk. A call that picks what its ledgers are named passes no text.
+/// The row of this name, of a desk. A call that picks what its ledgers are named passes no text.
 fn of_desk(name: &str) -> Option<OfDesk> {
     match name {
-        "Board::new" => Some(OfDesk::Board),
         "Desk::start" => Some(OfDesk::Start),
         "Desk::seat" | "Desk::close" => Some(OfDesk::Seat),
         "Desk::begin" => Some(OfDesk::Begin),
@@ -100,7 +100,7 @@ fn of_desk(name: &str) -> Option<OfDesk> {
     }
 }
 
-/// Runs a row of a board or of a desk, whose ledgers are named here.
+/// Runs a row of a desk, whose ledgers are named here.
 fn desk_row<R: Files<File = File> + Threads + Wait + Clock + Sync>(
     rt: &R,
     alloc: Global,
@@ -108,10 +108,32 @@ fn desk_row<R: Files<File = File> + Threads + Wait + Clock + Sync>(
 ) -> Option<Met> {
     let (handles, changes) = (StopLedger::new(alloc, PARTS).ok()?, Blank::new(PARTS));
     let marks = Opened::new(alloc).ok()?;
-    run_row::<R, Brand, Brand>(rt, alloc, row, handles, changes, marks)
+    let deck = opened(alloc)?;
+    run_row::<R, Brand, Brand>(rt, alloc, row, handles, changes, marks, deck)
 }
 
-/// Starts a desk and runs a row of it.
+/// What a row leaves at its desk.
+fn rest_of<
+    R: Files<File = File> + Threads + Wait + Clock + Sync,
+    D: Disk + Send,
+    H: Origin + Send + Sync,
+    N: Ledger + Send + Sync,
+>(rt: &R, row: OfDesk, desk: &Small<D, H, N>) -> Option<Rest<H, N>>
+    requires { (words : WordMap) → H.begun.stops words }
+{
+    match row {
+        OfDesk::Start | OfDesk::Seat => desks::seat_row(rt, desk),
+        OfDesk::Begin => stopping::begin_row(rt, desk),
+        OfDesk::Stop => stopping::stop_row(rt, desk),
+        OfDesk::StopBesideStop => stopping::stop_beside_stop_row(rt, desk),
+        OfDesk::CommitRound => rounds::commit_round_row(rt, desk),
+        OfDesk::RunCommitter => rounds::run_committer_row(rt, desk),
+        OfDesk::CheckpointRound => rounds::checkpoint_round_row(rt, desk),
+        OfDesk::TakeTrail => rounds::take_trail_row(rt, desk),
+    }
+}
+
+/// Starts a desk, runs a row of it, and closes the desk.
 fn run_row<
     R: Files<File = File> + Threads + Wait + Clock + Sync,
     H: Origin + Send + Sync,
@@ -123,33 +145,21 @@ fn run_row<
     handles: StopLedger,
     changes: Blank,
     marks: Opened<Deck<MemoryDisk>>,
+    deck: Deck<MemoryDisk>,
 ) -> Option<Met>
     requires blind { H.begun.is_known → ⊥ }
     requires any { (words : WordMap) → H.begun.stops words }
     requires handles { (handles.tickets.name ≡ H.name) × (handles.tickets.parts ≡ H.parts) × (H.parts ≡ 2 ^ 61 + 1) }
     requires histories { (history_in handles ≡ H.history) × (history_id marks ≡ H.marks) }
     requires changes { (changes.name ≡ N.name) × (changes.parts ≡ N.parts) × (N.parts ≡ 2 ^ 61 + 1) }
+    requires fresh { deck.trail ≡ [] }
+    requires running { deck.aborted ≡ false }
 {
-    let (met, desk) = started::<R, H, N>(
-        rt,
-        alloc,
-        handles,
-        changes,
-        marks,
-        matches!(row, OfDesk::Start),
-    )?;
-    let found = match row {
-        OfDesk::Board => books::board_row::<R, N>(rt, alloc),
-        OfDesk::Start | OfDesk::Seat => desks::seat_row(rt, alloc, desk),
-        OfDesk::Begin => stopping::begin_row(rt, alloc, desk),
-        OfDesk::Stop => stopping::stop_row(rt, alloc, desk),
-        OfDesk::StopBesideStop => stopping::stop_beside_stop_row(rt, alloc, desk),
-        OfDesk::CommitRound => rounds::commit_round_row(rt, alloc, desk),
-        OfDesk::RunCommitter => rounds::run_committer_row(rt, alloc, desk),
-        OfDesk::CheckpointRound => rounds::checkpoint_round_row(rt, alloc, desk),
-        OfDesk::TakeTrail => rounds::take_trail_row(rt, alloc, desk),
-    };
-    match found {
+    let is_refused = matches!(row, OfDesk::Start);
+    let (met, desk) = started::<R, H, N>(rt, alloc, handles, changes, marks, deck, is_refused);
+    let desk = desk?;
+    let rest = rest_of(rt, row, &desk);
+    match settle(rt, alloc, desk, rest) {
         Some(Met::Ample) => Some(met),
         found => found,
     }

@@ -1,15 +1,15 @@
 //! Handles of a desk: how they begin and stop.
-ghost use Rattle.std.specs.Prelude.{◌≡◌, ◌+◌, ◌^◌, None, IfSome, IfOk};
+ghost use Rattle.std.specs.Prelude.{◌≡◌, None, IfSome};
 ghost use Rattle.jb_desk.specs.Desks.{desk_id};
 ghost use Rattle.jb_desk.specs.Seats.{desk_of};
 ghost use Rattle.jb_handle.specs.Handle.{holder};
 ghost use Rattle.jb_handle.specs.Word.{WordMap};
 
-use crate::desks::{Small, sums, sums_with};
-use crate::met::{Met, ample, must, refusing};
+use crate::desks::{Rest, Small, one_left};
+use crate::met::{Met, ample, refusing};
 use jb_desk::{BeginFault, Left, Origin, Seat, StopFault};
+use jb_disk::Disk;
 use jb_handle::Handle;
-use std::alloc::Global;
 use std::fs::File;
 use std::rt::Files;
 use std::sync::Wait;
@@ -18,9 +18,9 @@ use std::thread;
 use std::thread::Threads;
 
 /// A handle that was begun and has written a home block; none where that was refused.
-pub fn written<R: Wait, H: Origin, N: Ledger>(
+pub fn written<R: Wait, D: Disk, H: Origin, N: Ledger>(
     rt: &R,
-    desk: &Small<H, N>,
+    desk: &Small<D, H, N>,
     home: u64,
 ) -> Option<Handle<Seat<H, N>>>
     ensures { IfSome result (λ handle. desk_of (holder handle) ≡ desk_id desk.now) }
@@ -41,9 +41,9 @@ pub fn written<R: Wait, H: Origin, N: Ledger>(
 }
 
 /// Begins a handle and drops it: how that was met.
-fn begun<R: Wait, H: Origin, N: Ledger>(
+fn begun<R: Wait, D: Disk, H: Origin, N: Ledger>(
     rt: &R,
-    desk: &Small<H, N>,
+    desk: &Small<D, H, N>,
     seat: Seat<H, N>,
 ) -> (Seat<H, N>, Option<Met>) {
     match desk.begin(rt, seat, 1) {
@@ -54,23 +54,20 @@ fn begun<R: Wait, H: Origin, N: Ledger>(
 }
 
 /// A seat that ran out of memory has begun nothing.
-pub fn begin_row<R: Files<File = File> + Wait, H: Origin, N: Ledger>(
+pub fn begin_row<R: Files<File = File> + Wait, D: Disk, H: Origin, N: Ledger>(
     rt: &R,
-    alloc: Global,
-    desk: Small<H, N>,
-) -> Option<Met>
-    requires parts { (H.parts ≡ 2 ^ 61 + 1) × (N.parts ≡ 2 ^ 61 + 1) }
-{
+    desk: &Small<D, H, N>,
+) -> Option<Rest<H, N>> {
     let Ok(seat) = desk.seat(rt) else {
         return None;
     };
     refusing(rt);
-    let (seat, met) = begun(rt, &desk, seat);
+    let (seat, met) = begun(rt, desk, seat);
     ample(rt);
-    let (seat, again) = begun(rt, &desk, seat);
-    must(sums(rt, alloc, desk, seat)? == (0, 0, 0, 0))?;
-    must(again == Some(Met::Ample))?;
-    met
+    let (seat, again) = begun(rt, desk, seat);
+    let left = desk.leave(rt, seat);
+    let is_begun = again == Some(Met::Ample);
+    Some(one_left(if is_begun { met } else { None }, (0, 0, 0, 0), left))
 }
 
 /// What the stop of a handle came to.
@@ -95,9 +92,9 @@ fn stop_at(ticket: u64, met: Met) -> Came {
 }
 
 /// A handle for which memory ran out is stopped once more.
-fn stop_again<R: Wait, H: Origin, N: Ledger>(
+fn stop_again<R: Wait, D: Disk, H: Origin, N: Ledger>(
     rt: &R,
-    desk: &Small<H, N>,
+    desk: &Small<D, H, N>,
     handle: Handle<Seat<H, N>>,
 ) -> (Seat<H, N>, Came)
     requires any { (words : WordMap) → H.begun.stops words }
@@ -113,9 +110,9 @@ fn stop_again<R: Wait, H: Origin, N: Ledger>(
 }
 
 /// Stops a handle, and once more where memory ran out.
-pub fn stop<R: Wait, H: Origin, N: Ledger>(
+pub fn stop<R: Wait, D: Disk, H: Origin, N: Ledger>(
     rt: &R,
-    desk: &Small<H, N>,
+    desk: &Small<D, H, N>,
     handle: Handle<Seat<H, N>>,
 ) -> (Seat<H, N>, Came)
     requires any { (words : WordMap) → H.begun.stops words }
@@ -131,32 +128,32 @@ pub fn stop<R: Wait, H: Origin, N: Ledger>(
 }
 
 /// A handle that ran out of memory stops when it is asked again.
-pub fn stop_row<R: Files<File = File> + Wait, H: Origin, N: Ledger>(
+pub fn stop_row<R: Files<File = File> + Wait, D: Disk, H: Origin, N: Ledger>(
     rt: &R,
-    alloc: Global,
-    desk: Small<H, N>,
-) -> Option<Met>
+    desk: &Small<D, H, N>,
+) -> Option<Rest<H, N>>
     requires any { (words : WordMap) → H.begun.stops words }
-    requires parts { (H.parts ≡ 2 ^ 61 + 1) × (N.parts ≡ 2 ^ 61 + 1) }
 {
-    let Some(handle) = written(rt, &desk, 1) else {
-        return None;
-    };
+    let handle = written(rt, desk, 1)?;
     refusing(rt);
-    let (seat, stop) = stop(rt, &desk, handle);
+    let (seat, stop) = stop(rt, desk, handle);
     ample(rt);
-    let found = sums(rt, alloc, desk, seat)?;
-    must(stop.ticket == Some(0) && found == (1, 1, 0, 0))?;
-    Some(stop.met)
+    let left = desk.leave(rt, seat);
+    let is_first = stop.ticket == Some(0);
+    Some(one_left(
+        if is_first { Some(stop.met) } else { None },
+        (1, 1, 0, 0),
+        left,
+    ))
 }
 
 /// What a thread left that stopped a handle.
 type Ended<H, N> = Option<(Left<H, N>, Came)>;
 
 /// Stops the handle at a place; its seat leaves.
-fn stop_from<R: Wait, H: Origin, N: Ledger>(
+fn stop_from<R: Wait, D: Disk, H: Origin, N: Ledger>(
     rt: &R,
-    desk: &Small<H, N>,
+    desk: &Small<D, H, N>,
     place: &mut Option<Handle<Seat<H, N>>>,
 ) -> Ended<H, N>
     requires any { (words : WordMap) → H.begun.stops words }
@@ -170,10 +167,26 @@ fn stop_from<R: Wait, H: Origin, N: Ledger>(
     Some((desk.leave(rt, seat), stop))
 }
 
-/// Two threads stop a handle each.
-fn stop_both<R: Threads + Wait + Sync, H: Origin + Send + Sync, N: Ledger + Send + Sync>(
+/// A handle that was not stopped is dropped; its seat leaves.
+fn dropped<R: Wait, D: Disk, H: Origin, N: Ledger>(
     rt: &R,
-    desk: &Small<H, N>,
+    desk: &Small<D, H, N>,
+    handle: Option<Handle<Seat<H, N>>>,
+) {
+    if let Some(handle) = handle {
+        let _left = desk.leave(rt, desk.abandon(rt, handle));
+    }
+}
+
+/// Two threads stop a handle each.
+fn stop_both<
+    R: Threads + Wait + Sync,
+    D: Disk + Send,
+    H: Origin + Send + Sync,
+    N: Ledger + Send + Sync,
+>(
+    rt: &R,
+    desk: &Small<D, H, N>,
     one: Handle<Seat<H, N>>,
     other: Handle<Seat<H, N>>,
 ) -> (Ended<H, N>, Ended<H, N>)
@@ -187,49 +200,63 @@ fn stop_both<R: Threads + Wait + Sync, H: Origin + Send + Sync, N: Ledger + Send
         || stop_from(rt, desk, &mut one),
         || stop_from(rt, desk, &mut other),
     );
-    if let Some(handle) = one {
-        let seat = desk.abandon(rt, handle);
-        let _left = desk.leave(rt, seat);
-    }
-    if let Some(handle) = other {
-        let seat = desk.abandon(rt, handle);
-        let _left = desk.leave(rt, seat);
-    }
+    dropped(rt, desk, one);
+    dropped(rt, desk, other);
     ended
+}
+
+/// Two handles that were begun and have each written a home block; none where that was refused.
+fn both_written<R: Wait, D: Disk, H: Origin, N: Ledger>(
+    rt: &R,
+    desk: &Small<D, H, N>,
+) -> Option<(Handle<Seat<H, N>>, Handle<Seat<H, N>>)>
+    ensures one { IfSome result (λ both. desk_of (holder both.0) ≡ desk_id desk.now) }
+    ensures other { IfSome result (λ both. desk_of (holder both.1) ≡ desk_id desk.now) }
+{
+    let one = written(rt, desk, 1)?;
+    match written(rt, desk, 2) {
+        Some(other) => Some((one, other)),
+        None => {
+            dropped(rt, desk, Some(one));
+            None
+        }
+    }
+}
+
+/// How two stops were met of which one was refused memory, if any: they got the first two tickets.
+fn met_of(first: Came, second: Came) -> Option<Met> {
+    match (first.ticket, second.ticket) {
+        (Some(0), Some(1)) | (Some(1), Some(0)) if first.met == Met::Ample => Some(second.met),
+        (Some(0), Some(1)) | (Some(1), Some(0)) => Some(first.met),
+        _ => None,
+    }
+}
+
+/// What two threads leave that stopped a handle each.
+fn rest_of<H: Origin, N: Ledger>(one: Ended<H, N>, other: Ended<H, N>) -> Option<Rest<H, N>> {
+    let (left, first) = one?;
+    let (other, second) = other?;
+    Some(Rest {
+        met: met_of(first, second),
+        sums: [(2, 2, 0, 0), (2, 2, 0, 0)],
+        left,
+        other: Some(other),
+    })
 }
 
 /// Two threads stop a handle each where memory may be refused. One that ran out of memory stops when it is asked again,
 /// while the other one is at work.
 pub fn stop_beside_stop_row<
     R: Files<File = File> + Threads + Wait + Sync,
+    D: Disk + Send,
     H: Origin + Send + Sync,
     N: Ledger + Send + Sync,
->(rt: &R, alloc: Global, desk: Small<H, N>) -> Option<Met>
+>(rt: &R, desk: &Small<D, H, N>) -> Option<Rest<H, N>>
     requires any { (words : WordMap) → H.begun.stops words }
-    requires parts { (H.parts ≡ 2 ^ 61 + 1) × (N.parts ≡ 2 ^ 61 + 1) }
 {
-    let Some(one) = written(rt, &desk, 1) else {
-        return None;
-    };
-    let Some(other) = written(rt, &desk, 2) else {
-        let seat = desk.abandon(rt, one);
-        let _left = desk.leave(rt, seat);
-        return None;
-    };
+    let (one, other) = both_written(rt, desk)?;
     refusing(rt);
-    let (first, second) = stop_both(rt, &desk, one, other);
+    let (first, second) = stop_both(rt, desk, one, other);
     ample(rt);
-    let (Some((one, first)), Some((other, second))) = (first, second) else {
-        return None;
-    };
-    let mut lefts = Vec::new(alloc);
-    lefts.reserve(1).ok()?;
-    lefts.push_reserved(one);
-    let found = sums_with(rt, alloc, desk, lefts, other)?;
-    must(found == (2, 2, 0, 0))?;
-    match (first.ticket, second.ticket) {
-        (Some(0), Some(1)) | (Some(1), Some(0)) if first.met == Met::Ample => Some(second.met),
-        (Some(0), Some(1)) | (Some(1), Some(0)) => Some(first.met),
-        _ => None,
-    }
+    rest_of(first, second)
 }

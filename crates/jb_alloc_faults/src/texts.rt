@@ -18,27 +18,46 @@ pub const CERTIFICATE: &str = "prices 0 5 7 7\ncut 0 3\ntotal 7\n";
 
 /// The rows of texts and blocks, by their names.
 pub fn row(rt: &impl Files<File = File>, alloc: Global, name: &str) -> Option<Met> {
+    if name == "read_lines" {
+        return lines_row(rt, alloc);
+    }
     let cert = read_cert(alloc, CERTIFICATE.as_bytes(), 3).ok()?;
-    let mut texts = Vec::new(alloc);
-    texts.push(THREE.to_vec(alloc).ok()?).ok()?;
-    texts.push(THREE.to_vec(alloc).ok()?).ok()?;
-    tried(rt, || is_read(alloc, name, &cert, texts.pop()))
+    tried(rt, || is_read(alloc, name, &cert))
 }
 
 /// Whether the call of this name reads or writes what it must.
-fn is_read(alloc: Global, name: &str, cert: &Cert, text: Option<Vec<u8>>) -> Result<bool, Memory> {
+fn is_read(alloc: Global, name: &str, cert: &Cert) -> Result<bool, Memory> {
     match name {
         "read_queue" => is_queue(alloc),
-        "read_lines" => match text {
-            Some(text) => is_of_eight(alloc, text),
-            None => Ok(false),
-        },
         "read_cert" => is_cert(alloc, cert),
-        "print_cert" => Ok(&*print_cert(alloc, cert)? == CERTIFICATE),
+        "print_cert" => is_printed(alloc, cert),
         "read_tags" => is_of_zeros(alloc),
         "read_revokes" => is_of_five(alloc),
         _ => Ok(false),
     }
+}
+
+/// Whether a certificate is printed as it was read.
+fn is_printed(alloc: Global, cert: &Cert) -> Result<bool, Memory> {
+    Ok(&*print_cert(alloc, cert)? == CERTIFICATE)
+}
+
+/// The text for a first call, and that for a second one.
+fn two_texts(alloc: Global) -> Result<Vec<Vec<u8>>, Memory> {
+    let mut texts = Vec::new(alloc);
+    for _ in 0..2 {
+        texts.push(THREE.to_vec(alloc)?)?;
+    }
+    Ok(texts)
+}
+
+/// The row of a text that is read without its handles.
+fn lines_row(rt: &impl Files<File = File>, alloc: Global) -> Option<Met> {
+    let mut texts = two_texts(alloc).ok()?;
+    tried(rt, || match texts.pop() {
+        Some(text) => is_of_eight(alloc, text),
+        None => Ok(false),
+    })
 }
 
 /// Memory ran out, where a text has no fault before the line that is named.

@@ -19,8 +19,18 @@ pub const PRICES: [Option<u64>; 4] = [Some(0), Some(5), Some(7), Some(7)];
 /// The rows of the calls over the three handles, by their names.
 pub fn row(rt: &impl Files<File = File>, alloc: Global, name: &str) -> Option<Met> {
     let queue = read_queue(alloc, THREE).ok()?;
+    row_of(rt, alloc, name, &queue)
+}
+
+/// The row of this name over a queue.
+fn row_of(
+    rt: &impl Files<File = File>,
+    alloc: Global,
+    name: &str,
+    queue: &QueueText,
+) -> Option<Met> {
     let cert = read_cert(alloc, CERTIFICATE.as_bytes(), 3).ok()?;
-    tried(rt, || is_least(alloc, name, &queue, &cert))
+    tried(rt, || is_least(alloc, name, queue, &cert))
 }
 
 /// Whether the call of this name counts the fewest blocks for the three handles.
