@@ -48,6 +48,7 @@ ROWS = [
     ("widen", "widen a", {"a": CLEAN}, b""),
     ("renumber", "renumber a", {"a": SPENT}, b""),
     ("load, one thread", "load a q --hold", {"a": CLEAN, "q": LOADED}, b""),
+    ("load, two threads", "load a q --threads 2 --hold", {"a": CLEAN, "q": LOADED}, b""),
     ("load, two threads and checkpoints", "load a q --threads 2 --checkpoint", {"a": CLEAN, "q": LOADED}, b""),
 ]
 # what a load says where memory ran out in its threads

@@ -8,7 +8,6 @@ mod desks;
 mod disks;
 mod handles;
 mod journals;
-mod loads;
 mod logs;
 mod machines;
 mod met;

@@ -7,9 +7,7 @@ ghost use Rattle.jb_handle.specs.Word.{WordMap};
 use crate::desks::{PARTS, Rest, Small, settle, started};
 use crate::journals::opened;
 use crate::met::Met;
-use crate::{
-    books, decks, desks, disks, handles, loads, logs, machines, rounds, stopping, texts, values,
-};
+use crate::{books, decks, desks, disks, handles, logs, machines, rounds, stopping, texts, values};
 use jb_board::Opened;
 use jb_deck::Deck;
 use jb_desk::{Origin, StopLedger};
@@ -65,7 +63,6 @@ fn shared_row<R: Files<File = File> + Threads + Wait + Clock + Sync>(
         "Book::open" => books::open_row(rt, alloc),
         "Book::enqueue" => books::enqueue_row(rt, alloc),
         "StopLedger::new" => desks::stops_row(rt, alloc),
-        "load_on" => loads::load_row(rt, alloc),
         _ => desk_row(rt, alloc, of_desk(name)?),
     }
 }
