@@ -3,8 +3,8 @@
 
 compare/refuse.c is loaded before the C library and refuses one allocation of a run, counted from its start. The answer has to be
 `jb: Memory` with status 1 and nothing else, or that with ample memory, byte for byte; of a load also its counts, with a line for
-what ran out of memory. After `jb: Memory` each file is as it was, and none is made; what a load left is recovered, and each home block
-is as it was or as a handle wrote it. Then the same command answers as with ample memory, and leaves the same files. Where refuse.c has
+what ran out of memory; where it is held, all that stopped is settled, or nothing. After `jb: Memory` each file is as it was, and none is
+made; what a load left is recovered, and each home block is as it was or as a handle wrote it. Then the same command answers as with ample memory, and leaves the same files. Where refuse.c has
 an image's blocks not written, or its file one block too long, `format` has to say so and to leave none. Prints a line for each command,
 and each run that is not as it must be. It needs Linux and a C compiler."""
 import concurrent.futures
@@ -53,7 +53,7 @@ ROWS = [
 ]
 # what a load says where memory ran out in its threads
 RAN_OUT = re.compile(rb"(jb: handle \d+: (Memory|Aborted)\n)?(jb: commit (Memory|Aborted)\n)?(jb: checkpoint (Memory|Aborted|Stopped)\n)?")
-COUNTS = re.compile(rb"handles \d+ changes \d+ settled \d+ groups \d+ blocks \d+\n")
+COUNTS = re.compile(rb"handles (\d+) changes \d+ settled (\d+) groups \d+ blocks \d+\n")
 GROUPS = re.compile(rb"groups \d+ blocks \d+")
 # what the first handle writes to a home block that a later one writes, too
 EARLIER = b"\1"
@@ -106,6 +106,14 @@ def ran_out(answer):
     return answer[0] == 1 and COUNTS.fullmatch(answer[1]) and RAN_OUT.fullmatch(answer[2]) and b"Memory" in answer[2]
 
 
+def miscounts(answer):
+    """What is wrong of the counts of a load that commits once its handles have run, where one allocation was refused, or None."""
+    handles, settled = map(int, COUNTS.fullmatch(answer[1]).groups())
+    if b"jb: handle" in answer[2]:
+        return None if settled == handles and b"jb: commit" not in answer[2] else "a handle that stopped is not settled"
+    return None if handles == LOADED.count(b"\nh ") and settled == 0 else "not all handles stopped, or one is settled"
+
+
 class Row:
     """A row, what it answers with ample memory, and the files that it leaves then."""
 
@@ -147,6 +155,8 @@ class Row:
         """By which name the answer is counted, and what is wrong, or None."""
         if met and (answer == MEMORY or self.is_load and ran_out(answer)):
             why = self.wrong_now()
+            if not why and answer != MEMORY and "--hold" in self.words:
+                why = miscounts(answer)
             again = run(self.room, self.words, self.stdin)[0]
             if not why and not self.agrees(again):
                 why = "made again it answers %r, or leaves other files" % (again,)
