@@ -119,8 +119,8 @@ fn check_taken(
     choices: &[Taken],
     name: &'static str,
 ) {
-    for (row, taken) in (0..).zip(choices) {
-        check_lines(test, alloc, journal, text, taken, name, row)
+    for (row, taken) in choices.iter().enumerate() {
+        check_lines(test, alloc, journal, text, taken, name, row as u64)
     }
 }
 
@@ -139,8 +139,8 @@ fn check_fault(
 
 /// The same of each choice.
 fn check_faults(test: &impl Test, alloc: Global, journal: &[u8], fault: DumpFault) {
-    for (row, taken) in (0..).zip(&OF_SESSION) {
-        check_fault(test, alloc, journal, fault, choice_of(taken), row)
+    for (row, taken) in OF_SESSION.iter().enumerate() {
+        check_fault(test, alloc, journal, fault, choice_of(taken), row as u64)
     }
 }
 

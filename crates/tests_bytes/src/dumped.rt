@@ -157,8 +157,8 @@ fn check_journal(test: &impl Test, alloc: Global, of: &Journal, row: u64) {
 }
 
 fn check_journals(test: &impl Test, alloc: Global) {
-    for (row, of) in (0..).zip(&JOURNALS) {
-        check_journal(test, alloc, of, row)
+    for (row, of) in JOURNALS.iter().enumerate() {
+        check_journal(test, alloc, of, row as u64)
     }
 }
 

@@ -175,8 +175,8 @@ fn check_case(test: &impl Test, alloc: Global, case: &Case, row: u64) {
 }
 
 fn check_cases(test: &impl Test, alloc: Global) {
-    for (row, case) in (0..).zip(&CASES) {
-        check_case(test, alloc, case, row)
+    for (row, case) in CASES.iter().enumerate() {
+        check_case(test, alloc, case, row as u64)
     }
 }
 

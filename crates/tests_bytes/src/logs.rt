@@ -161,8 +161,8 @@ fn check_log(test: &impl Test, alloc: Global, log: &Log, row: u64) {
 
 /// Checks what each row is found to hold.
 fn check_logs(test: &impl Test, alloc: Global) {
-    for (row, log) in (0..).zip(&LOGS) {
-        check_log(test, alloc, log, row)
+    for (row, log) in LOGS.iter().enumerate() {
+        check_log(test, alloc, log, row as u64)
     }
     check_nothing(test, alloc)
 }

@@ -72,9 +72,9 @@ fn check_written(test: &impl Test) {
 
 /// Checks the homes of each row.
 fn check_read(test: &impl Test, alloc: Global) {
-    for (row, of) in (0..).zip(&READ) {
+    for (row, of) in READ.iter().enumerate() {
         let is_read = reads(alloc, &block_of(of.0), of.1, of.2);
-        check_at(test, is_read, "the homes of row", row)
+        check_at(test, is_read, "the homes of row", row as u64)
     }
 }
 

@@ -116,8 +116,8 @@ fn check_glance(test: &impl Test, alloc: Global, case: &Case, row: u64) {
 
 /// Checks journals made by hand.
 fn check_by_hand(test: &impl Test, alloc: Global) {
-    for (row, case) in (0..).zip(&BY_HAND) {
-        check_glance(test, alloc, case, row)
+    for (row, case) in BY_HAND.iter().enumerate() {
+        check_glance(test, alloc, case, row as u64)
     }
 }
 
@@ -140,8 +140,8 @@ fn check_dates(test: &impl Test, alloc: Global, dates: &Dates, row: u64) {
 
 /// Checks several transactions by the seconds of their commits.
 fn check_several(test: &impl Test, alloc: Global) {
-    for (row, dates) in (0..).zip(&DATES) {
-        check_dates(test, alloc, dates, row)
+    for (row, dates) in DATES.iter().enumerate() {
+        check_dates(test, alloc, dates, row as u64)
     }
 }
 

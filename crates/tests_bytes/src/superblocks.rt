@@ -109,8 +109,8 @@ fn check_image(test: &impl Test, image: &Image, at: u64) {
 }
 
 fn check_images(test: &impl Test) {
-    for (at, image) in (0..).zip(&IMAGES) {
-        check_image(test, image, at)
+    for (at, image) in IMAGES.iter().enumerate() {
+        check_image(test, image, at as u64)
     }
 }
 

@@ -6,7 +6,7 @@ use crate::groups::STAMP;
 use crate::scripts::{Told, are, opening};
 use jb_block::Width;
 use jb_deck::Deck;
-use jb_disk::{Disk, FuseDisk};
+use jb_disk::{Disk, FuseDisk, MemoryDisk};
 use jb_handle::{Handle, Shape};
 use proof_clients::two_handles;
 use tests_support::{Bench, check_at};
@@ -53,19 +53,23 @@ fn stands<D: Disk>(test: &impl Bench, deck: &mut Deck<D>, row: &Row) -> bool {
     }
 }
 
-/// Checks the handles of a row on a journal whose power fails after so many calls from now on. One that has handles
-/// already refuses tickets from 0 on.
-fn check_row<D: Disk>(test: &impl Bench, deck: &mut Deck<D>, row: &Row, at: u64) {
-    check_at(test, stands(test, deck, row), "the groups of row", at);
-    let is_refused = deck.trail().is_empty() || stands(test, deck, &(1, 1, ALL, None));
-    check_at(test, is_refused, "two more handles of row", at)
+/// Checks the handles of a row on the journal of a disk. One that has handles already refuses tickets from 0 on.
+fn check_row<D: Disk + Drop>(test: &impl Bench, disk: D, row: &Row, at: usize) {
+    let mut deck = opening(test, disk);
+    let stood = stands(test, &mut deck, row);
+    check_at(test, stood, "the groups of row", at as u64);
+    let is_refused = deck.trail().is_empty() || stands(test, &mut deck, &(1, 1, ALL, None));
+    check_at(test, is_refused, "two more handles of row", at as u64)
+}
+
+/// A disk with a new journal whose power fails after so many calls.
+fn fused(test: &impl Bench, calls: u64) -> FuseDisk<MemoryDisk> {
+    FuseDisk::of(formatted(test, 33, 8, [7; 16], Width::Narrow), calls)
 }
 
 fn check_rows(test: &impl Bench) {
-    for (at, row) in (0..).zip(&ROWS) {
-        let disk = formatted(test, 33, 8, [7; 16], Width::Narrow);
-        let mut deck = opening(test, FuseDisk::of(disk, row.2));
-        check_row(test, &mut deck, row, at);
+    for (at, row) in ROWS.iter().enumerate() {
+        check_row(test, fused(test, row.2), row, at);
     }
 }
 

@@ -6,6 +6,7 @@ use crate::images::{BLOCKS, Label, Row, Stands, put, small};
 use crate::scripts::{Step, check_steps, opening};
 use jb_disk::{Disk, MemoryDisk, OneFaultDisk};
 use jb_recover::{Recovered, recover};
+use std::alloc::Global;
 use tests_support::{Bench, Test, check_in, check_none, check_row, crashed, difference};
 
 /// What recovery reports: transactions, copies, revoked copies and the next number.
@@ -39,8 +40,8 @@ pub fn called_with_fault(test: &impl Bench, row: Label, call: u64, steps: &[Step
 /// The image of a case, of so many blocks, once it is recovered.
 fn recovered(test: &impl Bench, blocks: u64, case: &Case) -> MemoryDisk {
     let mut disk = small(test, blocks, case.image, &[]);
-    let is_recovered = recover(test.alloc(), &mut disk).is_ok();
-    check_row(test, is_recovered, case.name, "it is not recovered");
+    let is_so = is_recovered(test.alloc(), &mut disk);
+    check_row(test, is_so, case.name, "it is not recovered");
     disk
 }
 
@@ -73,7 +74,7 @@ fn check_left(test: &impl Bench, case: &Case, disk: &mut MemoryDisk) {
 }
 
 /// What recovery reports.
-pub fn report(told: Report) -> Recovered {
+fn report(told: Report) -> Recovered {
     let (transactions, copies, revoked, next) = told;
     Recovered {
         transactions,
@@ -83,9 +84,19 @@ pub fn report(told: Report) -> Recovered {
     }
 }
 
+/// Whether recovery of a disk reports this.
+pub fn recovers<D: Disk>(alloc: Global, disk: &mut D, told: Report) -> bool {
+    recover(alloc, disk) == Ok(report(told))
+}
+
+/// Whether a disk is recovered.
+pub fn is_recovered<D: Disk>(alloc: Global, disk: &mut D) -> bool {
+    recover(alloc, disk).is_ok()
+}
+
 /// Checks what a crash left of a case once it is recovered.
 fn check_home(test: &impl Bench, case: &Case, left: &mut MemoryDisk, wanted: &mut MemoryDisk) {
-    let is_told = recover(test.alloc(), left) == Ok(report(case.recovered));
+    let is_told = recovers(test.alloc(), left, case.recovered);
     let next = case.recovered.3;
     check_in(test, is_told, case.name, "what is recovered, at", next);
     put(test, wanted, &case.after);

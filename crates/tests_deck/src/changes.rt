@@ -1,6 +1,6 @@
 //! Journals that are changed in their place, opened, and called; some of them were used before.
 
-use crate::cases::{called, report};
+use crate::cases::{called, recovers};
 use crate::checks::By;
 use crate::images::{BLOCKS, Label, MAGIC, Row, small};
 use crate::openings::{Told, closed, refused};
@@ -10,7 +10,6 @@ use jb_block::{Width, get32};
 use jb_deck::{Deck, OpenFault};
 use jb_disk::MemoryDisk;
 use jb_format::{renumber, widen};
-use jb_recover::recover;
 use tests_support::{Bench, Test, check, check_in, check_none, difference, read_at};
 
 const NARROW: Width = Width::Narrow;
@@ -120,8 +119,8 @@ fn check_committed(test: &impl Bench, row: Label, told: Told, disk: MemoryDisk) 
     let mut disk = deck.close();
     let fits = tag_width(test, &mut disk) == width;
     check_in(test, fits, row, "the width of its tags at number", number);
-    let is_told = recover(test.alloc(), &mut disk)
-        == Ok(report((1, 6, 0, number.saturating_add(2))));
+    let told = (1, 6, 0, number.saturating_add(2));
+    let is_told = recovers(test.alloc(), &mut disk, told);
     check_in(test, is_told, row, "what is recovered at number", number)
 }
 
@@ -135,11 +134,15 @@ fn check_changed(test: &impl Bench, of: &Changed) {
     check_committed(test, row, told, disk)
 }
 
+fn check_each_changed(test: &impl Bench) {
+    for row in &CHANGED {
+        check_changed(test, row);
+    }
+}
+
 #[test]
 fn journals_that_were_changed_in_their_place_are_opened(rt: HostRuntime) {
-    for row in &CHANGED {
-        check_changed(&By(&rt, rt.alloc()), row);
-    }
+    check_each_changed(&By(&rt, rt.alloc()))
 }
 
 /// The disk of a journal that is to be widened, once it is recovered; or of one that is to be renumbered, since it is
@@ -148,7 +151,7 @@ fn readied(test: &impl Bench, row: Label, widens: bool, mut disk: MemoryDisk) ->
     if !widens {
         return refused(test, row, disk, OpenFault::NumbersSpent);
     }
-    let is_told = recover(test.alloc(), &mut disk) == Ok(report((1, 1, 0, 4)));
+    let is_told = recovers(test.alloc(), &mut disk, (1, 1, 0, 4));
     check_in(test, is_told, row, "it is not recovered", 0);
     disk
 }
@@ -162,9 +165,13 @@ fn check_used(test: &impl Bench, of: &Used) {
     check_committed(test, row, told, disk)
 }
 
+fn check_each_used(test: &impl Bench) {
+    for row in &USED {
+        check_used(test, row);
+    }
+}
+
 #[test]
 fn journals_that_were_used_are_changed_and_used_again(rt: HostRuntime) {
-    for row in &USED {
-        check_used(&By(&rt, rt.alloc()), row);
-    }
+    check_each_used(&By(&rt, rt.alloc()))
 }

@@ -1,6 +1,6 @@
 //! Each client of proof_clients is run, and the homes of its disk are compared after a recovery.
 
-use crate::cases::{Report, report};
+use crate::cases::{Report, recovers};
 use crate::checks::By;
 use crate::draws::formatted;
 use crate::groups::STAMP;
@@ -8,9 +8,8 @@ use crate::images::HOMES;
 use crate::scripts::{handles_of, prepared};
 use jb_block::{BlockSize, Width};
 use jb_deck::{Deck, Prepared, laws};
-use jb_disk::MemoryDisk;
+use jb_disk::{Disk, MemoryDisk};
 use jb_handle::Shape;
-use jb_recover::recover;
 use proof_clients::{Failure, Life, Lived, commit_and_close, commit_three, reuse_home, run_lives};
 use tests_support::{Bench, Must, Test, check, check_at, read_at};
 
@@ -34,18 +33,21 @@ fn batch(test: &impl Bench, first: u64, lines: &str) -> Prepared {
 }
 
 /// Checks the first byte of each of the first four homes. `at` is which of the test's disks it is.
-fn check_homes(test: &impl Test, disk: &mut MemoryDisk, wanted: [u8; 4], at: u64) {
+fn check_homes<D: Disk>(test: &impl Test, disk: &mut D, wanted: [u8; 4], at: u64) {
     let mut block = [0; 1024];
-    for (home, byte) in (HOMES..).zip(&wanted) {
-        read_at(test, disk, home, &mut block);
+    for (home, byte) in wanted.iter().enumerate() {
+        read_at(test, disk, HOMES.saturating_add(home as u64), &mut block);
         check_at(test, block[0] == *byte, "the homes of disk", at);
     }
 }
 
 /// Checks what a recovery reports, and the homes then.
-fn check_recovered(test: &impl Bench, disk: &mut MemoryDisk, told: Report, wanted: [u8; 4]) {
-    let is_told = recover(test.alloc(), disk) == Ok(report(told));
-    check(test, is_told, "what is recovered");
+fn check_recovered<D: Disk>(test: &impl Bench, disk: &mut D, told: Report, wanted: [u8; 4]) {
+    check(
+        test,
+        recovers(test.alloc(), disk, told),
+        "what is recovered",
+    );
     check_homes(test, disk, wanted, told.3)
 }
 
@@ -64,21 +66,34 @@ fn closed(test: &impl Bench, first: u64, lines: &str) -> Result<MemoryDisk, Memo
     commit_and_close(test.alloc(), new_disk(test), batch, STAMP)
 }
 
-fn check_closed(test: &impl Bench) {
+/// Checks three batches.
+fn check_three(test: &impl Bench) {
     let deck = after_three(test);
     check(test, deck.trail().len() == 3, "how many groups");
     let mut disk = deck.close();
     // the first group has gone home, and nothing else
     check_homes(test, &mut disk, [0x11, 0x12, 0, 0], 0);
-    check_recovered(test, &mut disk, (2, 3, 0, 6), [0x11, 0x22, 0x23, 0x34]);
+    check_recovered(test, &mut disk, (2, 3, 0, 6), [0x11, 0x22, 0x23, 0x34])
+}
 
+/// Checks a batch that is committed to a journal, which is then closed.
+fn check_one(test: &impl Bench) {
     let mut disk = closed(test, 0, TWO_HANDLES).must(test, "the batch is not committed");
     check_homes(test, &mut disk, [0, 0, 0, 0], 1);
-    check_recovered(test, &mut disk, (1, 2, 0, 4), [0x41, 0x43, 0, 0]);
-    // a batch that does not begin where the trail ends is refused, and the disk is given back
+    check_recovered(test, &mut disk, (1, 2, 0, 4), [0x41, 0x43, 0, 0])
+}
+
+/// Checks a batch that does not begin where the trail ends: it is refused, and the disk is given back.
+fn check_late(test: &impl Bench) {
     let late = closed(test, 1, "h w0=41\n").err();
     let mut disk = late.must(test, "a batch of other tickets is committed");
     check_recovered(test, &mut disk, (0, 0, 0, 2), [0, 0, 0, 0])
+}
+
+fn check_closed(test: &impl Bench) {
+    check_three(test);
+    check_one(test);
+    check_late(test)
 }
 
 #[test]
@@ -146,29 +161,46 @@ fn failure(test: &impl Bench, calls: u64) -> Failure {
     }
 }
 
+/// A further life, by its row, with the handles of these lines.
+fn push_life(test: &impl Bench, lives: &mut Vec<Life>, of: &LifeRow, lines: &str) {
+    let (end, again, checkpoint) = *of;
+    let life = Life {
+        handles: handles_of(test, lines, 0),
+        stamp: STAMP,
+        checkpoint,
+        end: failure(test, end),
+        again: failure(test, again),
+    };
+    lives.push(life).must(test, "memory");
+}
+
+/// The lives of these rows.
+fn lives_of(test: &impl Bench, rows: &[LifeRow]) -> Vec<Life> {
+    let mut lives = Vec::new(test.alloc());
+    for (of, lines) in rows.iter().zip(&HANDLES) {
+        push_life(test, &mut lives, of, lines);
+    }
+    lives
+}
+
 /// The journal after these lives.
 fn after_lives(test: &impl Bench, rows: &[LifeRow]) -> Lived {
-    let mut lives = Vec::new(test.alloc());
-    for ((end, again, checkpoint), lines) in rows.iter().zip(&HANDLES) {
-        let life = Life {
-            handles: handles_of(test, lines, 0),
-            stamp: STAMP,
-            checkpoint: *checkpoint,
-            end: failure(test, *end),
-            again: failure(test, *again),
-        };
-        lives.push(life).must(test, "memory");
-    }
-    run_lives(test.alloc(), new_disk(test), lives).must(test, "a recovery fails")
+    run_lives(test.alloc(), new_disk(test), lives_of(test, rows)).must(test, "a recovery fails")
+}
+
+/// Checks the lives of a row.
+fn check_lived(test: &impl Bench, of: &LivesRow, row: u64) {
+    let (rows, committed, wanted) = *of;
+    let mut lived = after_lives(test, rows);
+    check_homes(test, &mut lived.disk, wanted, row);
+    let are_told = lived.committed.as_slice() == committed;
+    check_at(test, are_told, "what is committed in row", row)
 }
 
 fn check_lives(test: &impl Bench) {
     laws::chained();
-    for (row, (rows, committed, wanted)) in (0..).zip(&LIVES) {
-        let mut lived = after_lives(test, rows);
-        check_homes(test, &mut lived.disk, *wanted, row);
-        let are_told = &lived.committed[..] == *committed;
-        check_at(test, are_told, "what is committed in row", row);
+    for (row, of) in LIVES.iter().enumerate() {
+        check_lived(test, of, row as u64);
     }
 }
 

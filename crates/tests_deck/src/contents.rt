@@ -54,21 +54,30 @@ pub fn holds<D: Disk>(
     torn: Option<(usize, u32)>,
 ) -> bool {
     let mut block = [0; 1024];
-    let mut wanted = [0; 1024];
-    let mut other = [0; 1024];
     for (home, number) in homes.iter().enumerate() {
         read_at(test, disk, first.saturating_add(home as u64), &mut block);
-        fill(&mut wanted, *number);
-        let contents = match torn {
-            Some((at, contents)) if at == home => contents,
-            _ => *number,
-        };
-        fill(&mut other, contents);
-        if !is_mixed(&block, &wanted, &other) {
+        if !has_either(&block, *number, other_of(torn, home, *number)) {
             return false;
         }
     }
     true
+}
+
+/// The other contents of a home's sectors, or these where it has none.
+fn other_of(torn: Option<(usize, u32)>, home: usize, number: u32) -> u32 {
+    match torn {
+        Some((at, contents)) if at == home => contents,
+        _ => number,
+    }
+}
+
+/// Whether each sector of a block has the contents of one number or of the other.
+fn has_either(block: &[u8; 1024], number: u32, other: u32) -> bool {
+    let mut one = [0; 1024];
+    let mut two = [0; 1024];
+    fill(&mut one, number);
+    fill(&mut two, other);
+    is_mixed(block, &one, &two)
 }
 
 /// Whether each sector of a block is that of one block or of the other.

@@ -1,13 +1,12 @@
 //! A journal that is opened on a disk of which a call fails, or every call from one on; and what a crash then
 //! leaves of it.
 
-use crate::cases::report;
+use crate::cases::recovers;
 use crate::checks::By;
 use crate::frames::Frame;
 use crate::images::{BLOCKS, HOMES, MAGIC, Row, small};
 use jb_deck::{Deck, OpenFault};
 use jb_disk::{Disk, FuseDisk, MemoryDisk, OneFaultDisk};
-use jb_recover::recover;
 use std::alloc::Global;
 use tests_support::{Bench, check_in, crashed, difference};
 
@@ -92,10 +91,9 @@ fn make_wanted(test: &impl Bench, of: &Case) -> Wanted {
 /// from a place on.
 fn mends(test: &impl Bench, left: &mut MemoryDisk, wanted: &mut Wanted, from: u64) -> bool {
     let is_kept = wanted.was.is_kept(test, left) || wanted.becomes.is_kept(test, left);
-    if !is_kept || recover(test.alloc(), left) != Ok(report((0, 0, 0, 2))) {
-        return false;
-    }
-    difference(test, left, &mut wanted.whole, from).is_none()
+    is_kept
+        && recovers(test.alloc(), left, (0, 0, 0, 2))
+        && difference(test, left, &mut wanted.whole, from).is_none()
 }
 
 /// What is left once the journal on a disk is opened and closed, or is not opened for this fault.
@@ -123,24 +121,42 @@ fn check_left(
         (None, 0)
     };
     check_in(test, met == fault, row, "how opening it ends at call", call);
+    let is_mended = mends_each(test, disk, wanted, from);
+    check_in(test, is_mended, row, "a crash does not mend at", call)
+}
+
+/// Whether what each choice leaves of a disk mends.
+fn mends_each(test: &impl Bench, disk: &MemoryDisk, wanted: &mut Wanted, from: u64) -> bool {
     for choice in &CHOICES {
-        let is_mended = mends(test, &mut crashed(test, disk, choice), wanted, from);
-        check_in(test, is_mended, row, "a crash does not mend at", call);
+        if !mends(test, &mut crashed(test, disk, choice), wanted, from) {
+            return false;
+        }
     }
+    true
+}
+
+/// What is left of a disk of which the call of this number and all after it fail.
+fn left_from(alloc: Global, disk: MemoryDisk, call: u64) -> (MemoryDisk, Option<OpenFault>) {
+    let (left, fault) = left_on(alloc, FuseDisk::of(disk, call));
+    (left.into_inner(), fault)
+}
+
+/// What is left of a disk of which the call of this number alone fails.
+fn left_at(alloc: Global, disk: MemoryDisk, call: u64) -> (MemoryDisk, Option<OpenFault>) {
+    let (left, fault) = left_on(alloc, OneFaultDisk::of(disk, call));
+    (left.into_inner(), fault)
 }
 
 /// Checks what is left of a case where the call of this number and all after it fail.
 fn check_rest(test: &impl Bench, of: &Case, wanted: &mut Wanted, call: u64) {
-    let before = small(test, BLOCKS, of.1, &[]);
-    let (left, fault) = left_on(test.alloc(), FuseDisk::of(before, call));
-    check_left(test, of, wanted, call, &left.into_inner(), fault)
+    let (left, fault) = left_from(test.alloc(), small(test, BLOCKS, of.1, &[]), call);
+    check_left(test, of, wanted, call, &left, fault)
 }
 
 /// Checks what is left of a case where the call of this number alone fails.
 fn check_alone(test: &impl Bench, of: &Case, wanted: &mut Wanted, call: u64) {
-    let before = small(test, BLOCKS, of.1, &[]);
-    let (left, fault) = left_on(test.alloc(), OneFaultDisk::of(before, call));
-    check_left(test, of, wanted, call, &left.into_inner(), fault)
+    let (left, fault) = left_at(test.alloc(), small(test, BLOCKS, of.1, &[]), call);
+    check_left(test, of, wanted, call, &left, fault)
 }
 
 /// Checks what is left of a case for the number of each call, and for the one after them.
@@ -157,9 +173,13 @@ fn check_case(test: &impl Bench, of: &Case) {
     check_calls(test, of, &mut wanted)
 }
 
+fn check_each(test: &impl Bench) {
+    for case in &CASES {
+        check_case(test, case);
+    }
+}
+
 #[test]
 fn every_call_may_fail_or_be_the_last(rt: HostRuntime) {
-    for case in &CASES {
-        check_case(&By(&rt, rt.alloc()), case);
-    }
+    check_each(&By(&rt, rt.alloc()))
 }

@@ -4,6 +4,7 @@ use crate::contents::{Left, fill};
 use crate::images::{Row, put_rows};
 use crate::lives::{Call, make_call};
 use crate::model::{Model, Touch};
+use crate::touches::push_touch;
 use jb_block::{BlockSize, Width};
 use jb_deck::Deck;
 use jb_disk::{Disk, MemoryDisk};
@@ -82,17 +83,22 @@ pub fn formatted(
     disk
 }
 
-/// Lets the log of a new journal begin after so many further blocks, and fills these, and block 0 after the
-/// superblock.
-fn put_gap(test: &impl Test, disk: &mut MemoryDisk, maxlen: u32, gap: u32) {
-    let first = gap.saturating_add(1);
-    put_rows(test, disk, &[(0, 0x10, [maxlen, first, 1, 0])]);
-    put_rows(test, disk, &AFTER);
+/// Fills so many blocks after block 0, each with contents of its own.
+fn fill_gap<D: Disk>(test: &impl Test, disk: &mut D, gap: u32) {
     let mut filled = [0; 1024];
     for place in 1..=gap {
         fill(&mut filled, place);
         write_at(test, disk, u64::from(place), &filled);
     }
+}
+
+/// Lets the log of a new journal begin after so many further blocks, and fills these, and block 0 after the
+/// superblock.
+fn put_gap<D: Disk>(test: &impl Test, disk: &mut D, maxlen: u32, gap: u32) {
+    let first = gap.saturating_add(1);
+    put_rows(test, disk, &[(0, 0x10, [maxlen, first, 1, 0])]);
+    put_rows(test, disk, &AFTER);
+    fill_gap(test, disk, gap);
     disk.sync().must(test, "a sync");
 }
 
@@ -129,9 +135,7 @@ fn touches(test: &impl Bench, seed: &mut Seed, count: u32) -> Vec<Touch> {
         if seed.below(5) == 0 {
             handle = seed.below(count).max(handle);
         }
-        touches
-            .push(one_touch(seed, homes, handle))
-            .must(test, "memory");
+        push_touch(test, &mut touches, one_touch(seed, homes, handle));
     }
     touches
 }

@@ -5,13 +5,15 @@ use crate::lives::{push_handle, put_word};
 use crate::scripts::{opening, settles};
 use jb_block::{BlockSize, Width};
 use jb_deck::Deck;
-use jb_disk::MemoryDisk;
+use jb_disk::{Disk, MemoryDisk};
 use jb_format::format;
 use jb_handle::{Stopped, Words};
-use tests_support::{Bench, check, zeros};
+use tests_support::{Bench, check, check_at, zeros};
 
 /// How many homes one handle writes, how many it frees, and how many log blocks its group takes.
-const ROWS: [(u64, u64, u32); 5] = [
+type Row = (u64, u64, u32);
+
+static ROWS: [Row; 5] = [
     (0, 0, 1),
     (124, 0, 126),
     (125, 0, 128),
@@ -40,20 +42,21 @@ fn begun(test: &impl Bench) -> Deck<MemoryDisk> {
     opening(test, disk)
 }
 
-/// Whether the entry of such a handle, in such a journal, has so many blocks.
-fn has_blocks(test: &impl Bench, copies: u64, frees: u64, blocks: u32) -> bool {
-    let mut deck = begun(test);
+/// Whether the entry of such a handle, in a journal, has so many blocks.
+fn has_blocks<D: Disk>(test: &impl Bench, deck: &mut Deck<D>, row: &Row) -> bool {
+    let (copies, frees, blocks) = *row;
     let handles = one(test, copies, frees);
-    settles(test.alloc(), &mut deck, handles, &[(0, 1, 2, blocks)])
+    settles(test.alloc(), deck, handles, &[(0, 1, 2, blocks)])
+}
+
+fn check_rows(test: &impl Bench) {
+    for (at, row) in ROWS.iter().enumerate() {
+        let has = has_blocks(test, &mut begun(test), row);
+        check_at(test, has, "not so many blocks in row", at as u64);
+    }
 }
 
 #[test]
 fn an_entry_has_the_blocks_of_its_group(rt: HostRuntime) {
-    for (copies, frees, blocks) in ROWS {
-        let is = has_blocks(&By(&rt, rt.alloc()), copies, frees, blocks);
-        assert!(rt;
-            is,
-            "{copies} copies and {frees} freed homes: not {blocks} blocks"
-        );
-    }
+    check_rows(&By(&rt, rt.alloc()))
 }

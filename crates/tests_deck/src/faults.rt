@@ -1,14 +1,13 @@
 //! A commit or a checkpoint of which one sync fails, and what a crash leaves of it then.
 
-use crate::cases::{Report, called_with_fault, report};
+use crate::cases::{Report, called_with_fault, recovers};
 use crate::checks::By;
 use crate::frames::Frame;
 use crate::images::{BLOCKS, HOMES, Label, MAGIC, Row, small};
 use crate::scripts::{Refusal, Step, opening};
 use jb_block::Width;
 use jb_deck::CheckpointFault;
-use jb_disk::MemoryDisk;
-use jb_recover::recover;
+use jb_disk::Disk;
 use tests_support::{Bench, check_in, check_none, crashed, difference};
 
 /// The sync that fails, by its number among the calls of the disk: opening the small image makes 34; then the
@@ -92,7 +91,7 @@ static RUNS: [Given; 4] = [
 ];
 
 /// The commit, which meets the fault.
-const COMMIT: [Step; 1] = [Step::Refuses(
+static COMMIT: [Step; 1] = [Step::Refuses(
     0,
     (16, 8, Width::Narrow),
     "h w5=c03b399801020304 r7\n",
@@ -106,7 +105,7 @@ const SECOND: Step = Step::Commits("h r5 w7=ac\n", &[(1, 2, 3, 4)]);
 const THIRD: Step = Step::Commits("h w6=ad w8=ae\n", &[(2, 3, 4, 4)]);
 
 /// The checkpoint of three groups, which meets the fault.
-const RUN: [Step; 4] = [
+static RUN: [Step; 4] = [
     FIRST,
     SECOND,
     THIRD,
@@ -114,42 +113,63 @@ const RUN: [Step; 4] = [
 ];
 
 /// The same, which meets none.
-const DONE: [Step; 4] = [FIRST, SECOND, THIRD, Step::Runs(3, Ok((3, 4, 4)))];
+static DONE: [Step; 4] = [FIRST, SECOND, THIRD, Step::Runs(3, Ok((3, 4, 4)))];
 
 /// Checks a row of these calls of the journal.
 fn check_row(test: &impl Bench, steps: &[Step], of: &Given) {
     let (row, (call, choice, recovered, from, rows)) = *of;
     let mut left = crashed(test, &called_with_fault(test, row, call, steps), choice);
     check_recovered(test, row, &mut left, recovered);
-    let deck = opening(test, left);
-    let number = deck.next_number();
-    check_in(test, number == recovered.3, row, "the next number", number);
+    let mut disk = reopened(test, row, left, recovered.3);
     let mut wanted = small(test, BLOCKS, rows, &[]);
-    let place = difference(test, &mut deck.close(), &mut wanted, from);
+    let place = difference(test, &mut disk, &mut wanted, from);
     check_none(test, row, "block", place)
+}
+
+/// The disk of a journal that is opened, has this next number, and is closed.
+fn reopened<D: Disk + Drop>(test: &impl Bench, row: Label, disk: D, next: u64) -> D {
+    let deck = opening(test, disk);
+    let number = deck.next_number();
+    check_in(test, number == next, row, "the next number", number);
+    deck.close()
+}
+
+/// What stands before the log of the small image.
+fn front_of(test: &impl Bench) -> Frame {
+    Frame::of(test, &mut small(test, BLOCKS, &[], &[]), 1)
 }
 
 /// Checks what recovery reports of what is left of a row, and that what stands before the log is kept, before and
 /// after.
-fn check_recovered(test: &impl Bench, row: Label, left: &mut MemoryDisk, recovered: Report) {
+fn check_recovered<D: Disk>(test: &impl Bench, row: Label, left: &mut D, recovered: Report) {
     let next = recovered.3;
-    let front = Frame::of(test, &mut small(test, BLOCKS, &[], &[]), 1);
+    let front = front_of(test);
     let was_kept = front.is_kept(test, left);
     check_in(test, was_kept, row, "changed before the log, to", next);
-    let is_told = recover(test.alloc(), left) == Ok(report(recovered));
+    let is_told = recovers(test.alloc(), left, recovered);
     check_in(test, is_told, row, "what recovery reports, at", next);
     let is_kept = front.is_kept(test, left);
     check_in(test, is_kept, row, "recovery changed it, to", next)
 }
 
-/// Checks each row.
-fn check_rows(test: &impl Bench) {
+/// Checks what is left of the commit.
+fn check_commits(test: &impl Bench) {
     for row in &COMMITS {
         check_row(test, &COMMIT, row);
     }
+}
+
+/// Checks what is left of the checkpoint.
+fn check_runs(test: &impl Bench) {
     for row in &RUNS {
         check_row(test, &RUN, row);
     }
+}
+
+/// Checks each row.
+fn check_rows(test: &impl Bench) {
+    check_commits(test);
+    check_runs(test)
 }
 
 #[test]

@@ -1,10 +1,10 @@
 //! What no call of a journal changes, and no crash either: block 0 but for where the log begins and the number
 //! there, and the blocks before the log. All blocks after the journal are homes on a disk as small as these.
 
+use crate::cases::is_recovered;
 use crate::contents::{Left, is_left};
 use jb_block::put64;
-use jb_disk::{Disk, MemoryDisk};
-use jb_recover::recover;
+use jb_disk::Disk;
 use tests_support::{Bench, Must, check_at, read_at};
 
 /// Where a superblock has the number of the first transaction and the place at which the log begins
@@ -50,11 +50,11 @@ pub struct Wanted {
 impl Wanted {
     /// Recovers what a crash left: what stands before the log is kept, then too, and the homes may be left.
     /// `at` is which of the test's images it is.
-    pub fn mend(&self, test: &impl Bench, image: &mut MemoryDisk, at: u64) {
+    pub fn mend<D: Disk>(&self, test: &impl Bench, image: &mut D, at: u64) {
         let was_kept = self.frame.is_kept(test, image);
         check_at(test, was_kept, "changed before the log in", at);
-        let is_recovered = recover(test.alloc(), image).is_ok();
-        check_at(test, is_recovered, "it is not recovered in", at);
+        let is_mended = is_recovered(test.alloc(), image);
+        check_at(test, is_mended, "it is not recovered in", at);
         let is_kept = self.frame.is_kept(test, image);
         check_at(test, is_kept, "recovery changed it in", at);
         let is_left = is_left(test, image, self.homes, &self.left);

@@ -5,18 +5,13 @@ use crate::checks::By;
 use crate::images::{BLOCKS, HOMES, MAGIC};
 use crate::scripts::Step;
 use jb_deck::{CheckpointFault, FreeFault};
+use tests_support::Bench;
 
 /// The bytes that a script writes to a free home.
 const SEVENS: [u32; 4] = [0x7777_7777, 0x7777_7777, 0x7777_7777, 0x7777_7777];
 
-const FREED: [Step; 3] = [
-    Step::Commits("h w5=aa\n", &[(0, 1, 2, 3)]),
-    Step::Commits("h r5\n", &[(1, 2, 3, 2)]),
-    Step::Writes(5, 1024, Ok(())),
-];
-
-/// Copies that go home, groups that go home together, and homes that are freed.
-static CASES: [Case; 7] = [
+/// Copies that go home, and groups that go home together.
+static HOME: [Case; 4] = [
     Case {
         name: "the escaped copy goes home",
         image: &[],
@@ -98,10 +93,18 @@ static CASES: [Case; 7] = [
         recovered: (1, 1, 0, 6),
         after: (&[(0, 0x10, [33, 1, 5, 0])], &[(5, 0xAD)]),
     },
+];
+
+/// Homes that are freed, and a group that is not committed.
+static FREED: [Case; 3] = [
     Case {
         name: "a freed home that is written",
         image: &[],
-        steps: &FREED,
+        steps: &[
+            Step::Commits("h w5=aa\n", &[(0, 1, 2, 3)]),
+            Step::Commits("h r5\n", &[(1, 2, 3, 2)]),
+            Step::Writes(5, 1024, Ok(())),
+        ],
         groups: &[(1, 2, &[], &[5], &[0xAA]), (4, 3, &[5], &[], &[])],
         rows: (&[(0, 0x10, [33, 1, 2, 1]), (HOMES + 5, 0, SEVENS)], &[]),
         recovered: (2, 0, 1, 5),
@@ -150,7 +153,20 @@ static CASES: [Case; 7] = [
     },
 ];
 
+fn check_home(test: &impl Bench) {
+    check_cases(test, BLOCKS, &HOME)
+}
+
+fn check_freed(test: &impl Bench) {
+    check_cases(test, BLOCKS, &FREED)
+}
+
+fn check_both(test: &impl Bench) {
+    check_home(test);
+    check_freed(test)
+}
+
 #[test]
 fn copies_go_home_and_homes_are_freed_as_worked_by_hand(rt: HostRuntime) {
-    check_cases(&By(&rt, rt.alloc()), BLOCKS, &CASES)
+    check_both(&By(&rt, rt.alloc()))
 }

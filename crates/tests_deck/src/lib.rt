@@ -2,6 +2,8 @@
 #![tactic(auto)]
 
 #[cfg(test)]
+mod answers;
+#[cfg(test)]
 mod books;
 #[cfg(test)]
 mod cases;
@@ -51,6 +53,8 @@ mod seeds;
 mod stops;
 #[cfg(test)]
 mod taking;
+#[cfg(test)]
+mod touches;
 #[cfg(test)]
 mod words;
 #[cfg(test)]

@@ -3,7 +3,8 @@
 use crate::contents::{Left, fill, only};
 use crate::groups::STAMP;
 use crate::model::{Model, Touch};
-use crate::scripts::{next_ticket, prepared, refused};
+use crate::scripts::{Refusal, next_ticket, prepared, refused};
+use crate::touches::touches_of;
 use jb_deck::{BatchFault, CheckpointFault, Deck, FreeFault, Prepared};
 use jb_disk::Disk;
 use jb_handle::{Payload, Shape, Stopped, Word, Words};
@@ -44,41 +45,24 @@ pub fn push_handle(test: &impl Test, handles: &mut Vec<Stopped>, ticket: u64, wo
     handles.push(Stopped { ticket, words }).must(test, "memory");
 }
 
-/// What a handle does to these homes: it copies contents to each from this number on, or frees it.
-fn push_touches(
-    test: &impl Test,
-    touches: &mut Vec<Touch>,
-    handle: usize,
-    homes: &[u32],
-    from: Option<u32>,
-) {
-    for home in homes {
-        let copy = from.map(|from| from.saturating_add(*home));
-        touches
-            .push((handle, *home as usize, copy))
-            .must(test, "memory");
+/// A further word of a handle: a copy of these contents, or that the home is free.
+fn put_contents(test: &impl Bench, words: &mut Words, home: u64, copy: Option<u32>) {
+    let mut block = [0; 1024];
+    match copy {
+        Some(number) => {
+            fill(&mut block, number);
+            put_word(test, words, home, Some(block.as_slice()))
+        }
+        None => put_word(test, words, home, None),
     }
-}
-
-/// What the handles of a script do to homes.
-fn touches_of(test: &impl Bench, handles: &[Does]) -> Vec<Touch> {
-    let mut touches = Vec::new(test.alloc());
-    for (handle, (copies, from, frees)) in handles.iter().enumerate() {
-        push_touches(test, &mut touches, handle, copies, Some(*from));
-        push_touches(test, &mut touches, handle, frees, None);
-    }
-    touches
 }
 
 /// The words of one handle of a batch.
 fn words_of(test: &impl Bench, touches: &[Touch], handle: usize) -> Words {
     let mut words = Words::new(test.alloc());
-    let mut block = [0; 1024];
     for (of, home, copy) in touches {
         if *of == handle {
-            fill(&mut block, copy.unwrap_or(0));
-            let copied = copy.is_some().then_some(block.as_slice());
-            put_word(test, &mut words, *home as u64, copied);
+            put_contents(test, &mut words, *home as u64, *copy);
         }
     }
     words
@@ -114,15 +98,28 @@ fn planned(test: &impl Bench, first: u64, call: Made<'_>, shape: Shape) -> Prepa
     )
 }
 
+/// How many groups were settled before a fault of the disk.
+fn settled_before(test: &impl Test, fault: BatchFault) -> usize {
+    match refused(fault) {
+        (Refusal::DeviceFault(settled), _) => settled,
+        _ => fail(test, "the batch is refused"),
+    }
+}
+
 /// Commits a batch: how many groups are settled, and whether it met a fault.
 fn settled_by<D: Disk>(test: &impl Test, deck: &mut Deck<D>, batch: Prepared) -> (usize, bool) {
     match deck.commit_batch(batch, STAMP) {
         Ok(done) => (done.entries().len(), false),
-        Err(BatchFault::DeviceFault { settled }) => (settled.entries().len(), true),
-        Err(fault) => {
-            let _told = refused(fault);
-            fail(test, "the batch is refused")
-        }
+        Err(fault) => (settled_before(test, fault), true),
+    }
+}
+
+/// What a crash may leave once the group of this index is in the model too, where so many groups are settled.
+fn leave(left: &mut Left, model: &Model, group: usize, settled: usize) {
+    if group < settled {
+        *left = only(model.standing());
+    } else if group == settled {
+        left.becomes = model.standing();
     }
 }
 
@@ -138,11 +135,7 @@ fn put_groups(
     let mut low = 0;
     for (i, high) in bounds.iter().skip(1).enumerate() {
         model.commit(test, touches, low, *high);
-        if i < settled {
-            left = only(model.standing());
-        } else if i == settled {
-            left.becomes = model.standing();
-        }
+        leave(&mut left, model, i, settled);
         low = *high;
     }
     left
@@ -198,6 +191,34 @@ pub fn make_call<D: Disk>(
     }
 }
 
+/// The oldest groups of a model go home, at most so many; how many that are.
+fn go_home(model: &mut Model, most: usize) -> usize {
+    let mut went: usize = 0;
+    for _ in 0..most {
+        if model.checkpoint() {
+            went = went.saturating_add(1);
+        }
+    }
+    went
+}
+
+/// Checkpoints the oldest transaction, or the oldest ones together, at most so many; how many that are.
+fn checkpointed<D: Disk>(
+    deck: &mut Deck<D>,
+    most: Option<usize>,
+) -> Result<usize, CheckpointFault> {
+    match most {
+        None => match deck.checkpoint_one() {
+            Ok(_) => Ok(1),
+            Err(fault) => Err(fault),
+        },
+        Some(most) => match deck.checkpoint_up_to(most) {
+            Ok(run) => Ok(run.count),
+            Err(fault) => Err(fault),
+        },
+    }
+}
+
 /// Checkpoints the oldest transaction, or the oldest ones together, at most so many; after a fault, what a crash may
 /// leave.
 fn checkpoint<D: Disk>(
@@ -207,15 +228,8 @@ fn checkpoint<D: Disk>(
     most: Option<usize>,
 ) -> Option<Left> {
     let stood = model.standing();
-    let mut went: usize = 0;
-    for _ in 0..most.unwrap_or(1) {
-        went = went.saturating_add(usize::from(model.checkpoint()));
-    }
-    let told = match most {
-        None => deck.checkpoint_one().map(|_| 1),
-        Some(most) => deck.checkpoint_up_to(most).map(|run| run.count),
-    };
-    match told {
+    let went = go_home(model, most.unwrap_or(1));
+    match checkpointed(deck, most) {
         Ok(count) if count == went && went > 0 => None,
         Err(CheckpointFault::Nothing) if went == 0 => None,
         Err(CheckpointFault::DeviceFault) if went > 0 => Some(only(stood)),

@@ -11,7 +11,7 @@ pub type Homes = [u32; 16];
 pub type Touch = (usize, usize, Option<u32>);
 
 /// The last word of a group on a home.
-#[derive(Clone, Copy, PartialEq, Eq)]
+#[derive(Clone, Copy)]
 enum Mark {
     Nothing,
     Copy(u32),
@@ -60,9 +60,9 @@ impl Model {
     fn last_mark(&self, home: usize) -> Mark {
         let mut last = Mark::Nothing;
         for piece in &self.live {
-            let mark = mark_at(&piece.marks, home);
-            if mark != Mark::Nothing {
-                last = mark;
+            match mark_at(&piece.marks, home) {
+                Mark::Nothing => {}
+                mark => last = mark,
             }
         }
         last
@@ -70,7 +70,7 @@ impl Model {
 
     /// Whether the last word on a home is that it is free.
     pub fn is_free(&self, home: usize) -> bool {
-        self.last_mark(home) == Mark::Free
+        matches!(self.last_mark(home), Mark::Free)
     }
 
     /// What a home holds itself from now on.
@@ -84,12 +84,17 @@ impl Model {
     pub fn commit(&mut self, test: &impl Test, touches: &[Touch], low: usize, high: usize) {
         let marks = marks_of(touches, low, high);
         let blocks = blocks_of(&marks);
+        self.make_room(blocks);
+        self.live.push(Piece { blocks, marks }).must(test, "memory");
+    }
+
+    /// The oldest groups go home until so many further blocks fit.
+    fn make_room(&mut self, blocks: u64) {
         for _ in 0..self.live.len() {
             if self.live_blocks().saturating_add(blocks) > self.usable {
                 self.checkpoint();
             }
         }
-        self.live.push(Piece { blocks, marks }).must(test, "memory");
     }
 
     fn live_blocks(&self) -> u64 {
@@ -106,21 +111,29 @@ impl Model {
             return false;
         }
         let oldest = self.live.remove(0);
-        for home in 0..16 {
-            if let Mark::Copy(copy) = oldest.marks[home] {
+        self.take_home(&oldest.marks);
+        true
+    }
+
+    /// Copies go home, but to a home that a live group frees.
+    fn take_home(&mut self, marks: &Marks) {
+        for (home, mark) in marks.iter().enumerate() {
+            if let Mark::Copy(copy) = *mark {
                 if !self.is_freed(home) {
-                    self.own[home] = copy;
+                    self.write(home, copy);
                 }
             }
         }
-        true
     }
 
     /// Whether a live group frees the home.
     fn is_freed(&self, home: usize) -> bool {
-        self.live
-            .iter()
-            .any(|piece| mark_at(&piece.marks, home) == Mark::Free)
+        for piece in &self.live {
+            if let Mark::Free = mark_at(&piece.marks, home) {
+                return true;
+            }
+        }
+        false
     }
 }
 

@@ -147,20 +147,29 @@ static REFUSED: [Refused; 12] = [
     ),
 ];
 
-/// Whether a journal of the small image says this of itself, and is as one whose log is empty.
-fn is_new(deck: &mut Deck<MemoryDisk>, told: Told) -> bool {
+/// Whether a journal of the small image says this of itself.
+fn is_told<D: Disk>(deck: &Deck<D>, told: Told) -> bool {
+    let (number, usable, width) = told;
+    deck.next_number() == number && deck.usable() == usable && deck.shape().width == width
+}
+
+/// Whether the handles of a journal have the blocks, the homes and the limit of the small image.
+fn is_small<D: Disk>(deck: &Deck<D>) -> bool {
     let shape = deck.shape();
-    (deck.next_number(), deck.usable(), shape.width) == told
-        && shape.bs == BlockSize::OneKib
-        && shape.homes == 16
-        && shape.limit == deck.usable() / 4
+    shape.bs == BlockSize::OneKib && shape.homes == 16 && shape.limit == deck.usable() / 4
+}
+
+/// Whether a journal of the small image says this of itself, and is as one whose log is empty.
+fn is_new<D: Disk>(deck: &mut Deck<D>, told: Told) -> bool {
+    is_told(deck, told)
+        && is_small(deck)
         && deck.trail().is_empty()
         && !deck.aborted()
         && is_idle(deck)
 }
 
 /// Whether a journal has nothing to checkpoint, and no last word on a home.
-fn is_idle(deck: &mut Deck<MemoryDisk>) -> bool {
+fn is_idle<D: Disk>(deck: &mut Deck<D>) -> bool {
     deck.checkpoint_one() == Err(CheckpointFault::Nothing)
         && deck.word_of(5).is_none()
         && deck.write_free(5, &[1, 2]) == Err(FreeFault::NotFree)
@@ -189,11 +198,15 @@ fn check_opened(test: &impl Bench, of: &Opened) {
     check_blocks(test, row, &mut left, rows, after)
 }
 
+fn check_openings(test: &impl Bench) {
+    for row in &OPENED {
+        check_opened(test, row);
+    }
+}
+
 #[test]
 fn journals_are_opened_as_worked_by_hand(rt: HostRuntime) {
-    for row in &OPENED {
-        check_opened(&By(&rt, rt.alloc()), row);
-    }
+    check_openings(&By(&rt, rt.alloc()))
 }
 
 /// The disk of a journal that is refused, and why.
@@ -216,17 +229,19 @@ fn check_refused(test: &impl Bench, blocks: u64, of: &Refused) {
 }
 
 /// Checks each refusal, and those of disks without a block and with too few.
+/// A disk without a block.
+static NO_BLOCK: Refused = ("no block", &[], OpenFault::Super(SuperFault::ShortBlock));
+
+/// A disk that ends within the journal, with a block of a later number.
+static CUT: Refused = ("a disk that is cut", &[(9, 0, [MAGIC, 2, 7, 0])], GEOMETRY);
+
 fn check_refusals(test: &impl Bench) {
     for of in &REFUSED {
         check_refused(test, BLOCKS, of);
     }
-    let short = OpenFault::Super(SuperFault::ShortBlock);
-    check_refused(test, 0, &("no block", &[], short));
-    check_refused(test, 20, &("a disk that is cut", &LATER, GEOMETRY))
+    check_refused(test, 0, &NO_BLOCK);
+    check_refused(test, 20, &CUT)
 }
-
-/// A block of a later number.
-static LATER: [Row; 1] = [(9, 0, [MAGIC, 2, 7, 0])];
 
 #[test]
 fn journals_are_refused_and_stay(rt: HostRuntime) {

@@ -11,7 +11,7 @@ use crate::stops::{SCRIPT, before};
 use jb_block::Width;
 use jb_deck::{Deck, ReadHomeFault};
 use jb_disk::{Disk, FuseDisk, OneFaultDisk};
-use tests_support::{Bench, Must, Test, check, check_at};
+use tests_support::{Bench, Test, check, check_at};
 
 /// How many journals are called at random, and how often each.
 const JOURNALS: u32 = 40;
@@ -25,30 +25,52 @@ const ODDS: Odds = Odds {
     calls: 4,
 };
 
+/// Whether a home is read with these contents.
+fn reads_home<D: Disk>(deck: &mut Deck<D>, home: u64, number: u32) -> bool {
+    let mut block = [0xA5; 1024];
+    let mut wanted = [0; 1024];
+    fill(&mut wanted, number);
+    deck.read_home(home, &mut block) == Ok(()) && block == wanted
+}
+
 /// Whether each home is read as the model has it, and none after the last.
 fn reads_as<D: Disk>(deck: &mut Deck<D>, homes: &Homes) -> bool {
-    let mut block = [0; 1024];
-    let mut wanted = [0; 1024];
     for (home, number) in homes.iter().enumerate() {
-        block.fill(0xA5);
-        fill(&mut wanted, *number);
-        if deck.read_home(home as u64, &mut block) != Ok(()) || block != wanted {
+        if !reads_home(deck, home as u64, *number) {
             return false;
         }
     }
-    deck.read_home(16, &mut block) == Err(ReadHomeFault::OutOfRange)
+    deck.read_home(16, &mut [0; 1024]) == Err(ReadHomeFault::OutOfRange)
+}
+
+/// A journal of homes of zeros, with nothing live.
+fn model_of<D: Disk>(test: &impl Bench, deck: &Deck<D>) -> Model {
+    Model::new(test.alloc(), [0; 16], u64::from(deck.usable()))
+}
+
+/// Makes calls at random: whether none meets a fault, and all homes are read as the model has them after each.
+fn reads_calls<D: Disk>(
+    test: &impl Bench,
+    seed: &mut Seed,
+    deck: &mut Deck<D>,
+    model: &mut Model,
+) -> bool {
+    for _ in 0..CALLS {
+        let met = call_at_random(test, seed, deck, model, ODDS);
+        if met.is_some() || !reads_as(deck, &model.standing()) {
+            return false;
+        }
+    }
+    true
 }
 
 /// All homes of a journal at random are read as the model has them after each of these calls at random.
 fn read_one(test: &impl Bench, seed: &mut Seed, journal: u32) {
     let image = image_at_random(test, seed);
     let mut deck = opening(test, image.disk);
-    let mut model = Model::new(test.alloc(), [0; 16], u64::from(deck.usable()));
-    for _ in 0..CALLS {
-        let met = call_at_random(test, seed, &mut deck, &mut model, ODDS);
-        let is_read = met.is_none() && reads_as(&mut deck, &model.standing());
-        check_at(test, is_read, "a home of journal", u64::from(journal));
-    }
+    let mut model = model_of(test, &deck);
+    let is_read = reads_calls(test, seed, &mut deck, &mut model);
+    check_at(test, is_read, "a home of journal", u64::from(journal))
 }
 
 /// So are those of each journal at random.
@@ -63,20 +85,29 @@ fn read_each(test: &impl Bench) {
 /// its calls.
 fn read_script(test: &impl Bench) {
     let mut deck = opening(test, before(test));
-    let mut model = Model::new(test.alloc(), [0; 16], u64::from(deck.usable()));
+    let mut model = model_of(test, &deck);
     let is_read = reads_as(&mut deck, &model.standing());
     check(test, is_read, "a home before the script");
+    read_script_calls(test, &mut deck, &mut model)
+}
+
+/// Makes the calls of the script, and reads all homes after each.
+fn read_script_calls<D: Disk>(test: &impl Bench, deck: &mut Deck<D>, model: &mut Model) {
     for (i, call) in SCRIPT.iter().enumerate() {
-        let met = make_call(test, &mut deck, &mut model, *call);
-        let is_read = met.is_none() && reads_as(&mut deck, &model.standing());
+        let met = make_call(test, deck, model, *call);
+        let is_read = met.is_none() && reads_as(deck, &model.standing());
         check_at(test, is_read, "a home after the script's call", i as u64);
     }
 }
 
+fn read_all(test: &impl Bench) {
+    read_script(test);
+    read_each(test)
+}
+
 #[test]
 fn every_home_is_read_as_it_stands_after_every_call(rt: HostRuntime) {
-    read_script(&By(&rt, rt.alloc()));
-    read_each(&By(&rt, rt.alloc()))
+    read_all(&By(&rt, rt.alloc()))
 }
 
 /// A name, a home, how long the buffer is, and the answer, on the small image with sixteen homes.
@@ -96,44 +127,50 @@ const OPENED: u64 = 34;
 
 static FIVE: [Row; 1] = [(HOMES + 5, 0, [5, 5, 5, 5])];
 
-/// How a read of so many bytes ends, and whether they stay as they were.
-fn read_into<D: Disk>(
-    test: &impl Bench,
-    deck: &mut Deck<D>,
-    home: u64,
-    len: usize,
-) -> (Result<(), ReadHomeFault>, bool) {
-    let mut bytes = vec![in test.alloc(); 3; len].must(test, "memory");
-    let told = deck.read_home(home, &mut bytes);
-    (told, bytes.iter().all(|byte| *byte == 3))
+/// Whether a read of so many bytes, at most a block, is refused so, and they stay as they were.
+fn is_refused<D: Disk>(deck: &mut Deck<D>, of: &Refused) -> bool {
+    let (_, home, len, fault) = *of;
+    let mut bytes = [3; 1024];
+    let told = deck.read_home(home, &mut bytes[..len.min(1024)]);
+    told == Err(fault) && bytes == [3; 1024]
+}
+
+/// Whether a read of home 5 meets a fault.
+fn meets_fault<D: Disk>(deck: &mut Deck<D>) -> bool {
+    deck.read_home(5, &mut [0; 1024]) == Err(ReadHomeFault::DeviceFault)
+}
+
+/// Whether a read of home 5 has its bytes.
+fn has_five<D: Disk>(deck: &mut Deck<D>) -> bool {
+    let mut block = [0; 1024];
+    let told = deck.read_home(5, &mut block);
+    told == Ok(()) && block.starts_with(&[0, 0, 0, 5, 0, 0, 0, 5])
 }
 
 /// Two reads of home 5, of which the first meets a fault: the journal has not failed, and the second one has its bytes.
 fn read_twice<D: Disk>(test: &impl Test, deck: &mut Deck<D>) {
-    let mut block = [0; 1024];
-    let first = deck.read_home(5, &mut block);
-    let is_fault = first == Err(ReadHomeFault::DeviceFault);
-    check(test, is_fault, "the read that meets a fault");
+    check(test, meets_fault(deck), "the read that meets a fault");
     check(test, !deck.aborted(), "the journal fails by a read");
-    let second = deck.read_home(5, &mut block);
-    let has_bytes = block.starts_with(&[0, 0, 0, 5, 0, 0, 0, 5]);
-    check(test, second == Ok(()) && has_bytes, "the read after it")
+    check(test, has_five(deck), "the read after it")
 }
 
 /// Each of these reads of a journal on this disk is refused so, and fills no buffer; then home 5 is read twice.
 fn refuse_on<D: Disk + Drop>(test: &impl Bench, disk: D) {
     let mut deck = opening(test, disk);
-    for (row, home, len, fault) in &REFUSALS {
-        let (told, is_kept) = read_into(test, &mut deck, *home, *len);
-        check(test, told == Err(*fault) && is_kept, row);
+    for of in &REFUSALS {
+        check(test, is_refused(&mut deck, of), of.0);
     }
     read_twice(test, &mut deck)
 }
 
+fn check_refusals(test: &impl Bench) {
+    let disk = small(test, BLOCKS, &FIVE, &[]);
+    refuse_on(test, OneFaultDisk::of(disk, OPENED))
+}
+
 #[test]
 fn a_read_is_refused_in_order_and_a_fault_of_it_is_not_the_journals(rt: HostRuntime) {
-    let disk = small(&By(&rt, rt.alloc()), BLOCKS, &FIVE, &[]);
-    refuse_on(&By(&rt, rt.alloc()), OneFaultDisk::of(disk, OPENED))
+    check_refusals(&By(&rt, rt.alloc()))
 }
 
 /// A commit that fails. A checkpoint with nothing live makes no call of the disk, a commit does.
@@ -148,13 +185,24 @@ static FAILS: [Step; 1] = [Step::Refuses(
 fn fail_on<D: Disk + Drop>(test: &impl Bench, disk: D) {
     let mut deck = opening(test, disk);
     check_steps(test, "a journal that fails", &mut deck, &FAILS);
-    let told = deck.read_home(16, &mut [0; 1024]);
-    let is_refused = told == Err(ReadHomeFault::Aborted);
-    check(test, is_refused, "the read of a journal that failed")
+    check(
+        test,
+        is_aborted(&mut deck),
+        "the read of a journal that failed",
+    )
+}
+
+/// Whether a journal that failed refuses a read.
+fn is_aborted<D: Disk>(deck: &mut Deck<D>) -> bool {
+    deck.read_home(16, &mut [0; 1024]) == Err(ReadHomeFault::Aborted)
+}
+
+fn check_failed(test: &impl Bench) {
+    let disk = small(test, BLOCKS, &FIVE, &[]);
+    fail_on(test, FuseDisk::of(disk, OPENED))
 }
 
 #[test]
 fn a_journal_that_failed_refuses_each_read(rt: HostRuntime) {
-    let disk = small(&By(&rt, rt.alloc()), BLOCKS, &FIVE, &[]);
-    fail_on(&By(&rt, rt.alloc()), FuseDisk::of(disk, OPENED))
+    check_failed(&By(&rt, rt.alloc()))
 }

@@ -137,11 +137,19 @@ static FORTY: [Case; 1] = [Case {
 }];
 
 fn check_rounds(test: &impl Bench) {
-    check_cases(test, BLOCKS, &ROUNDS);
+    check_cases(test, BLOCKS, &ROUNDS)
+}
+
+fn check_forty(test: &impl Bench) {
     check_cases(test, HOMES + 40, &FORTY)
+}
+
+fn check_both(test: &impl Bench) {
+    check_rounds(test);
+    check_forty(test)
 }
 
 #[test]
 fn batches_fill_the_log_and_go_round_it_as_worked_by_hand(rt: HostRuntime) {
-    check_rounds(&By(&rt, rt.alloc()))
+    check_both(&By(&rt, rt.alloc()))
 }

@@ -36,20 +36,31 @@ fn refuse_each<D: Disk>(test: &impl Bench, deck: &mut Deck<D>) {
 
 /// Runs a script on a disk up to its first fault. `left` is what a crash may leave, before and after.
 fn run<D: Disk + Drop>(test: &impl Bench, disk: D, script: &[Call<'_>], left: &mut Left) -> Ran<D> {
-    let mut deck = match Deck::open(test.alloc(), disk) {
-        Ok(deck) => deck,
-        Err((disk, OpenFault::DeviceFault)) => {
-            return Ran { disk, ended: false };
-        }
-        Err(_) => return fail(test, "it is not opened"),
-    };
+    match Deck::open(test.alloc(), disk) {
+        Ok(deck) => run_on(test, deck, script, left),
+        Err((disk, OpenFault::DeviceFault)) => Ran { disk, ended: false },
+        Err(_) => fail(test, "it is not opened"),
+    }
+}
+
+/// Runs a script on a journal that is opened, up to its first fault, after which the journal refuses each call.
+fn run_on<D: Disk + Drop>(
+    test: &impl Bench,
+    opened: Deck<D>,
+    script: &[Call<'_>],
+    left: &mut Left,
+) -> Ran<D> {
+    let mut deck = opened;
     let mut model = Model::new(test.alloc(), left.was, u64::from(deck.usable()));
     let ended = run_with(test, &mut deck, &mut model, script, left);
+    if !ended {
+        refuse_each(test, &mut deck);
+    }
     let disk = deck.close();
     Ran { disk, ended }
 }
 
-/// Calls a journal by a script up to its first fault, after which it refuses each call; whether it met none.
+/// Calls a journal by a script up to its first fault; whether it met none.
 fn run_with<D: Disk>(
     test: &impl Bench,
     deck: &mut Deck<D>,
@@ -60,7 +71,6 @@ fn run_with<D: Disk>(
     for next in script {
         if let Some(met) = make_call(test, deck, model, *next) {
             *left = met;
-            refuse_each(test, deck);
             return false;
         }
     }

@@ -1,5 +1,6 @@
 //! Calls of a journal, with the answers that are worked out by hand.
 
+use crate::answers::{checkpoints, runs, takes, tells, writes};
 use crate::groups::STAMP;
 use crate::images::Label;
 use crate::words::says;
@@ -9,10 +10,10 @@ use jb_deck::{
     prepare,
 };
 use jb_disk::Disk;
-use jb_handle::{Shape, Stopped, Word};
+use jb_handle::{Shape, Stopped};
 use jb_queue::read_queue;
 use std::alloc::Global;
-use tests_support::{Bench, Must, check_in, put_words};
+use tests_support::{Bench, Must, check_in};
 
 /// A shape that a batch is made for: how many homes, which limit, and how wide block numbers are.
 pub type Made = (u64, u32, Width);
@@ -64,13 +65,19 @@ pub enum Refusal {
 /// blocks these take.
 pub type Kept = (u64, Shape, usize, usize, u64);
 
-/// The handles of these lines, with tickets from `first` on.
-pub fn handles_of(test: &impl Bench, lines: &str, first: u64) -> Vec<Stopped> {
+/// The text of a queue of these lines.
+fn text_of(test: &impl Bench, lines: &str) -> Vec<u8> {
     let mut text = b"bs 1024\nlimit 8\n"
         .to_vec(test.alloc())
         .must(test, "memory");
     text.extend_from_slice(lines.as_bytes())
         .must(test, "memory");
+    text
+}
+
+/// The handles of these lines, with tickets from `first` on.
+pub fn handles_of(test: &impl Bench, lines: &str, first: u64) -> Vec<Stopped> {
+    let text = text_of(test, lines);
     let mut handles = read_queue(test.alloc(), &text)
         .must(test, "a queue")
         .handles;
@@ -149,10 +156,21 @@ pub fn next_ticket<D: Disk>(deck: &Deck<D>) -> u64 {
     }
 }
 
+/// The entry that a row tells.
+fn entry_of(told: &Told) -> Entry {
+    let (first, past, number, blocks) = *told;
+    Entry {
+        first,
+        past,
+        number,
+        blocks,
+    }
+}
+
 /// Whether entries are these.
 pub fn are(entries: &[Entry], told: &[Told]) -> bool {
     for (entry, wanted) in entries.iter().zip(told) {
-        if (entry.first, entry.past, entry.number, entry.blocks) != *wanted {
+        if *entry != entry_of(wanted) {
             return false;
         }
     }
@@ -198,19 +216,6 @@ pub fn commits<D: Disk>(
     settles(test.alloc(), deck, handles, entries)
 }
 
-/// Whether so many bytes that are written to a home are answered so.
-fn writes<D: Disk>(
-    test: &impl Bench,
-    deck: &mut Deck<D>,
-    home: u64,
-    len: usize,
-    answer: Result<(), FreeFault>,
-) -> bool {
-    let mut bytes = vec![in test.alloc(); 0; len].must(test, "memory");
-    put_words(&mut bytes, 0, &[0x7777_7777; 4]);
-    deck.write_free(home, &bytes) == answer
-}
-
 /// Whether a batch is refused so, in words too, and handed back as it was where it is not lost.
 fn is_refused<D: Disk>(alloc: Global, deck: &mut Deck<D>, batch: Prepared, why: Refusal) -> bool {
     let was = kept_as(batch.batch(), batch.groups().len(), batch.total());
@@ -249,35 +254,17 @@ pub fn refuses<D: Disk>(
     }
 }
 
-/// Whether the oldest transactions, at most so many, are checkpointed so.
-fn runs<D: Disk>(deck: &mut Deck<D>, most: usize, answer: Result<Run, CheckpointFault>) -> bool {
-    deck.checkpoint_up_to(most)
-        .map(|run| (run.count, run.last, run.blocks))
-        == answer
-}
-
-/// Whether the entries that are taken from the trail are these.
-fn takes<D: Disk>(deck: &mut Deck<D>, past: u64, entries: &[Told]) -> bool {
-    match deck.take_trail(past) {
-        Ok(taken) => are(&taken, entries),
-        Err(_) => false,
-    }
-}
-
 /// Whether a call answers so.
 fn answers<D: Disk>(test: &impl Bench, deck: &mut Deck<D>, step: &Step) -> bool {
     match *step {
         Step::Commits(lines, entries) => commits(test, deck, lines, entries),
         Step::Refuses(first, made, lines, why) => refuses(test, deck, first, made, lines, why),
-        Step::Checkpoints(number, blocks) => deck.checkpoint_one()
-            == Ok(Checked { number, blocks }),
+        Step::Checkpoints(number, blocks) => checkpoints(deck, Ok(Checked { number, blocks })),
         Step::Runs(most, answer) => runs(deck, most, answer),
-        Step::Idle => deck.checkpoint_one() == Err(CheckpointFault::Nothing),
-        Step::Writes(home, len, answer) => writes(test, deck, home, len, answer),
-        Step::Word(home, copy) => deck.word_of(home).map(Word::is_copy) == copy,
+        Step::Idle => checkpoints(deck, Err(CheckpointFault::Nothing)),
+        Step::Writes(home, len, answer) => writes(deck, home, len, answer),
         Step::Takes(past, entries) => takes(deck, past, entries),
-        Step::Ends(trail, next) => are(deck.trail(), trail) && deck.next_number() == next,
-        Step::Aborted => deck.aborted(),
+        _ => tells(deck, step),
     }
 }
 

@@ -164,14 +164,18 @@ fn lives(test: &impl Bench, seed: &mut Seed) -> u64 {
     lives_on(test, seed, disk, &mut Wanted { left, frame, homes })
 }
 
-#[test]
-fn journals_survive_crashes_at_random(rt: HostRuntime) {
+/// Lives of a journal on one image after the other, until so many images were recovered.
+fn live_all(test: &impl Bench) {
     let mut seed = Seed::of(1);
     let mut crashes: u64 = 0;
     for _ in 0..CRASHES {
-        if crashes >= CRASHES {
-            return;
+        if crashes < CRASHES {
+            crashes = crashes.saturating_add(lives(test, &mut seed));
         }
-        crashes = crashes.saturating_add(lives(&By(&rt, rt.alloc()), &mut seed));
     }
+}
+
+#[test]
+fn journals_survive_crashes_at_random(rt: HostRuntime) {
+    live_all(&By(&rt, rt.alloc()))
 }

@@ -1,13 +1,13 @@
 //! A script of a journal's calls of which a call of the disk fails, or every one from one on; what a crash then
 //! leaves is recovered, and recovery is broken off by a crash too.
 
+use crate::cases::is_recovered;
 use crate::checks::By;
 use crate::frames::Wanted;
 use crate::images::{BLOCKS, HOMES, Row, small};
 use crate::lives::Call;
 use crate::runs::{Ran, Stop, run_over, run_to};
 use jb_disk::{FuseDisk, MemoryDisk};
-use jb_recover::recover;
 use tests_support::{Bench, check_at, crashed, difference, fail};
 
 /// More calls of the disk than the script makes, and than a recovery makes.
@@ -104,7 +104,7 @@ fn mend_all(test: &impl Bench, calls: u64, disk: &MemoryDisk, choices: u32, want
 /// A recovery of what a crash left, that is stopped after so many calls.
 pub fn stopped(test: &impl Bench, disk: &MemoryDisk, calls: u64) -> Ran<MemoryDisk> {
     let mut fuse = FuseDisk::of(crashed(test, disk, &[]), calls);
-    let ended = recover(test.alloc(), &mut fuse).is_ok();
+    let ended = is_recovered(test.alloc(), &mut fuse);
     Ran {
         disk: fuse.into_inner(),
         ended,

@@ -6,6 +6,7 @@ use crate::images::BLOCKS;
 use crate::rounds::{SIX, SIX_HOME, SIX_HOMES, SIX_WORDS};
 use crate::scripts::{Refusal, Step};
 use jb_block::Width;
+use tests_support::Bench;
 
 /// Entries are taken where their groups are home and their tickets are below the one that is given; the last stays.
 static TAKINGS: [Case; 1] = [Case {
@@ -67,8 +68,11 @@ fn trails_are_taken_as_worked_by_hand(rt: HostRuntime) {
     check_cases(&By(&rt, rt.alloc()), BLOCKS, &TAKINGS)
 }
 
+fn check_failed(test: &impl Bench) {
+    let _disk = called_with_fault(test, "a journal that failed", THIRD_COMMIT, &FAILED);
+}
+
 #[test]
 fn a_journal_that_failed_gives_its_entries(rt: HostRuntime) {
-    let row = "a journal that failed";
-    let _disk = called_with_fault(&By(&rt, rt.alloc()), row, THIRD_COMMIT, &FAILED);
+    check_failed(&By(&rt, rt.alloc()))
 }

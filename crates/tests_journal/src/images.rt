@@ -98,7 +98,9 @@ fn check_opened(rt: &impl FileHost) {
 
 /// The size of a block and the homes that are asked for, and why an image with sixteen homes in blocks of 1 KiB is
 /// refused.
-static UNFIT: [(BlockSize, u64, JournalFault); 2] = [
+type Unfit = (BlockSize, u64, JournalFault);
+
+static UNFIT: [Unfit; 2] = [
     (BlockSize::OneKib, 17, JournalFault::FewerHomes),
     (
         BlockSize::TwoKib,
@@ -106,6 +108,21 @@ static UNFIT: [(BlockSize, u64, JournalFault); 2] = [
         JournalFault::Recover(RecoverFault::Super(SuperFault::BlockSize(1024))),
     ),
 ];
+
+/// Checks that an image that does not fit is refused as its row says.
+fn check_unfit_row(rt: &impl FileHost, row: &Unfit, at: u64) {
+    let (size, homes, fault) = *row;
+    let answer = opened_or_made(rt, ImageGeometry::new(size, 33, homes));
+    let is_so = answer == Err(fault);
+    check_at(&By(rt, rt.alloc()), is_so, "the answer of row", at)
+}
+
+/// The same of each row.
+fn check_unfit_rows(rt: &impl FileHost) {
+    for (at, row) in UNFIT.iter().enumerate() {
+        check_unfit_row(rt, row, at as u64);
+    }
+}
 
 /// Checks that an image that does not fit is refused.
 fn check_unfit(rt: &impl FileHost) {
@@ -116,10 +133,7 @@ fn check_unfit(rt: &impl FileHost) {
         made(rt, geometry()) == Ok(49),
         "an image is not made",
     );
-    for (row, (size, homes, fault)) in (0..).zip(&UNFIT) {
-        let answer = opened_or_made(rt, ImageGeometry::new(*size, 33, *homes));
-        check_at(&test, answer == Err(*fault), "the answer of row", row);
-    }
+    check_unfit_rows(rt);
     check(
         &test,
         made(rt, geometry()) == Err(MakeFault::Exists),
@@ -153,9 +167,9 @@ static READS: [(u64, usize, Result<u8, HomeFault>); 4] = [
 
 /// Checks what is read of a disk while no journal runs.
 fn check_homes(test: &impl Test, disk: &mut impl Disk) {
-    for (row, (home, len, found)) in (0..).zip(&READS) {
-        let answer = read(test, disk, *home, *len);
-        check_at(test, answer == *found, "the answer of row", row);
+    for (at, (home, len, found)) in READS.iter().enumerate() {
+        let is_so = read(test, disk, *home, *len) == *found;
+        check_at(test, is_so, "the answer of row", at as u64);
     }
 }
 

@@ -10,19 +10,25 @@ use tests_support::{Must, check, check_at};
 /// The blocks of a journal and the homes that make no image; of the last, a home would have no number of 32 bits.
 static UNMADE: [(u32, u64); 3] = [(8, 16), (33, u64::MAX), (33, (1 << 32) + 1)];
 
+/// Checks that such numbers make no image.
+fn check_no_image(rt: &impl FileHost, journal: u32, homes: u64, at: u64) {
+    let answer = made(rt, ImageGeometry::new(BlockSize::OneKib, journal, homes));
+    let is_so = answer == Err(MakeFault::Geometry);
+    check_at(&By(rt, rt.alloc()), is_so, "the answer of row", at)
+}
+
+/// The same of each row.
+fn check_no_images(rt: &impl FileHost) {
+    for (at, (journal, homes)) in UNMADE.iter().enumerate() {
+        check_no_image(rt, *journal, *homes, at as u64);
+    }
+}
+
 /// Checks that numbers that make no image are refused, and that one that is too large for the file system leaves
 /// nothing.
 fn check_unmade(rt: &impl FileHost) {
     let test = By(rt, rt.alloc());
-    for (row, (journal, homes)) in (0..).zip(&UNMADE) {
-        let answer = made(rt, ImageGeometry::new(BlockSize::OneKib, *journal, *homes));
-        check_at(
-            &test,
-            answer == Err(MakeFault::Geometry),
-            "the answer of row",
-            row,
-        );
-    }
+    check_no_images(rt);
     // most file systems have no file of 2^62 bytes: what was made is there when that is found out, and goes
     let vast = made(rt, ImageGeometry::new(BlockSize::OneKib, 33, 1 << 52)).is_ok();
     check(&test, exists(rt, NAME) == vast, "a vast image");

@@ -170,13 +170,15 @@ fn check_refused(rt: &impl Host, pairs: &Pairs, fault: TouchFault, at: u64) {
     );
 }
 
+/// Checks a change of a row, which is refused.
+fn check_refusal(rt: &impl Host, row: &(u32, u64, TouchFault), at: u64) {
+    let (credits, apart, fault) = *row;
+    check_refused(rt, &Pairs { credits, apart }, fault, at)
+}
+
 fn check_refusals(rt: &impl Host) {
-    for (at, (credits, apart, fault)) in (0..).zip(&REFUSED) {
-        let pairs = Pairs {
-            credits: *credits,
-            apart: *apart,
-        };
-        check_refused(rt, &pairs, *fault, at);
+    for (at, row) in REFUSED.iter().enumerate() {
+        check_refusal(rt, row, at as u64);
     }
 }
 

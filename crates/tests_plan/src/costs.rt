@@ -2,11 +2,11 @@
 ghost use Rattle.jb_handle.specs.Size.{IsWithinSize};
 
 use crate::checks::By;
-use crate::texts::{bytes_of, check_told, queue_of};
+use crate::texts::{check_cost_told, queue_of};
 use jb_block::{BlockSize, Memory, Width};
-use jb_commands::cost_answer;
 use jb_cost::{Footprint, Geometry, LastTouches, group_cost, most_credits, worst_cost};
 use jb_handle::{Payload, Stopped, Word, Words, is_within_size};
+use jb_queue::QueueText;
 use std::alloc::Global;
 use tests_support::{Must, Test, check, check_at};
 
@@ -31,62 +31,91 @@ fn is_added(alloc: Global, handles: &[Stopped], geometry: Geometry) -> bool {
     }
 }
 
-/// Checks the cost of the handles of a text, and what `jb cost` says of it.
-fn check_cost(test: &impl Test, alloc: Global, text: &[u8], cost: u64, status: u8, row: u64) {
-    let queue = queue_of(test, alloc, text);
+/// Checks the cost of the handles of a queue, by each call that counts it.
+fn check_counts(test: &impl Test, alloc: Global, queue: &QueueText, cost: u64, row: u64)
+    requires { IsWithinSize queue.now.handles.items }
+{
     let geometry = Geometry::of(queue.bs, queue.width);
     let whole = group_cost(alloc, &queue.handles, geometry).must(test, "memory");
     check_at(test, whole == cost, "the cost of row", row);
     let footprint = by_footprint(alloc, &queue.handles, geometry).must(test, "memory");
     check_at(test, footprint == cost, "the footprint of row", row);
     let is_added = is_added(alloc, &queue.handles, geometry);
-    check_at(test, is_added, "the last touches of row", row);
-    let (limit, fits) = (queue.limit, if status == 0 { "fits" } else { "over" });
-    let out = format!(in alloc; "cost {cost} limit {limit} {fits}\n").must(test, "memory");
-    let answer = cost_answer(alloc, bytes_of(test, text)).must(test, "memory");
-    let told = (status, out.as_str(), "");
-    check_told(test, &answer, told, "what is said of row", row)
+    check_at(test, is_added, "the last touches of row", row)
 }
 
-/// The text of a queue, its cost, and the status, which is 1 where the cost is over the limit.
-static ROWS: [(&[u8], u64, u8); 7] = [
-    (b"bs 1024\nlimit 7\nh w1 w2 w3\nh w3 w4 w5\nh w1 w2\n", 7, 0),
-    (b"bs 1024\nlimit 6\nh w1 w2 w3\nh w3 w4 w5\nh w1 w2\n", 7, 1),
-    (b"bs 1024\nlimit 3\n", 1, 0),
-    (b"bs 1024\nlimit 3", 1, 0),
-    (b"bs 4096\nlimit 3\nh\nh\n", 1, 0),
-    (b"bs 1024\nlimit 7\nh w1 w4294967295=aBcD", 4, 0),
-    (b"bs 1024 wide\nlimit 7\nh w4294967301 w5\n", 4, 0),
+/// Checks the cost of the handles of a text, and what `jb cost` says of it.
+fn check_cost(test: &impl Test, alloc: Global, text: &[u8], wanted: &Cost, row: u64) {
+    let Cost(cost, status, said) = wanted;
+    let queue = queue_of(test, alloc, text);
+    check_counts(test, alloc, &queue, *cost, row);
+    check_cost_told(test, alloc, text, (*status, said, ""), row)
+}
+
+/// A cost; the status of `jb cost`, which is 1 where it is over the limit; and what it says.
+struct Cost(u64, u8, &'static str);
+
+const COST_1: Cost = Cost(1, 0, "cost 1 limit 3 fits\n");
+
+const COST_4: Cost = Cost(4, 0, "cost 4 limit 7 fits\n");
+
+/// The text of a queue, and its cost.
+struct Row(&'static [u8], Cost);
+
+static ROWS: [Row; 7] = [
+    Row(
+        b"bs 1024\nlimit 7\nh w1 w2 w3\nh w3 w4 w5\nh w1 w2\n",
+        Cost(7, 0, "cost 7 limit 7 fits\n"),
+    ),
+    Row(
+        b"bs 1024\nlimit 6\nh w1 w2 w3\nh w3 w4 w5\nh w1 w2\n",
+        Cost(7, 1, "cost 7 limit 6 over\n"),
+    ),
+    Row(b"bs 1024\nlimit 3\n", COST_1),
+    Row(b"bs 1024\nlimit 3", COST_1),
+    Row(b"bs 4096\nlimit 3\nh\nh\n", COST_1),
+    Row(b"bs 1024\nlimit 7\nh w1 w4294967295=aBcD", COST_4),
+    Row(b"bs 1024 wide\nlimit 7\nh w4294967301 w5\n", COST_4),
 ];
 
-/// A block size, the letter and the number of the words of one handle, its cost, and the status: full blocks end where
-/// the format says.
-static FULL: [(&str, &str, u32, u64, u8); 10] = [
-    ("1024", "w", 124, 126, 0),
-    ("1024", "w", 125, 128, 0),
-    ("1024", "w", 126, 129, 1),
-    ("1024", "r", 252, 2, 0),
-    ("1024", "r", 253, 3, 0),
-    ("1024 wide", "w", 83, 85, 0),
-    ("1024 wide", "w", 84, 87, 0),
-    ("1024 wide", "r", 126, 2, 0),
-    ("2048 wide", "r", 127, 2, 0),
-    ("1024 wide", "r", 127, 3, 0),
+/// The two lines of narrow blocks of 1,024 bytes, and what a handle begins with.
+const NARROW: &str = "bs 1024\nlimit 128\nh";
+
+/// The same of wide ones.
+const WIDE: &str = "bs 1024 wide\nlimit 128\nh";
+
+const COST_2: Cost = Cost(2, 0, "cost 2 limit 128 fits\n");
+
+const COST_3: Cost = Cost(3, 0, "cost 3 limit 128 fits\n");
+
+/// The text of one handle without its words, their letter and their number, and its cost.
+struct Full(&'static str, &'static str, u32, Cost);
+
+/// Full blocks end where the format says.
+static FULL: [Full; 10] = [
+    Full(NARROW, "w", 124, Cost(126, 0, "cost 126 limit 128 fits\n")),
+    Full(NARROW, "w", 125, Cost(128, 0, "cost 128 limit 128 fits\n")),
+    Full(NARROW, "w", 126, Cost(129, 1, "cost 129 limit 128 over\n")),
+    Full(NARROW, "r", 252, COST_2),
+    Full(NARROW, "r", 253, COST_3),
+    Full(WIDE, "w", 83, Cost(85, 0, "cost 85 limit 128 fits\n")),
+    Full(WIDE, "w", 84, Cost(87, 0, "cost 87 limit 128 fits\n")),
+    Full(WIDE, "r", 126, COST_2),
+    Full("bs 2048 wide\nlimit 128\nh", "r", 127, COST_2),
+    Full(WIDE, "r", 127, COST_3),
 ];
 
-/// The text of one handle with these words on the home blocks from 0 on.
+/// The text of one handle, which begins with this and has these words on the home blocks from 0 on.
 pub fn one_handle(
     test: &impl Test,
     alloc: Global,
-    size: &str,
-    limit: u32,
+    front: &str,
     letter: &str,
     count: u32,
 ) -> String {
-    let mut text = format!(in alloc; "bs {size}\nlimit {limit}\nh").must(test, "memory");
+    let mut text = String::from_str(alloc, front).must(test, "memory");
     for home in 0..count {
-        let word = format!(in alloc; " {letter}{home}").must(test, "memory");
-        text.push_str(&word).must(test, "memory")
+        write!(text, " {letter}{home}").must(test, "memory")
     }
     text
 }
@@ -119,30 +148,51 @@ fn choice(test: &impl Test, alloc: Global, number: u32) -> Stopped {
     Stopped { ticket: 0, words }
 }
 
+/// Checks that a footprint agrees on the cost of a queue.
+fn check_footprint(test: &impl Test, alloc: Global, queue: &[Stopped], number: u64) {
+    check(test, is_within_size(queue), "three handles are too many");
+    let geometry = Geometry::of(BlockSize::FourKib, Width::Wide);
+    let whole = group_cost(alloc, queue, geometry).must(test, "memory");
+    let footprint = by_footprint(alloc, queue, geometry).must(test, "memory");
+    check_at(test, footprint == whole, "queue", number)
+}
+
 /// Checks that a footprint agrees on each queue of three of them.
 fn check_choices(test: &impl Test, alloc: Global) {
-    let geometry = Geometry::of(BlockSize::FourKib, Width::Wide);
     for number in 0..729 {
         let queue = [
             choice(test, alloc, number),
             choice(test, alloc, number / 9),
             choice(test, alloc, number / 81),
         ];
-        check(test, is_within_size(&queue), "three handles are too many");
-        let whole = group_cost(alloc, &queue, geometry).must(test, "memory");
-        let footprint = by_footprint(alloc, &queue, geometry).must(test, "memory");
-        check_at(test, footprint == whole, "queue", u64::from(number))
+        check_footprint(test, alloc, &queue, u64::from(number))
+    }
+}
+
+/// Checks the costs of queues.
+fn check_rows(test: &impl Test, alloc: Global) {
+    for (row, wanted) in ROWS.iter().enumerate() {
+        check_cost(test, alloc, wanted.0, &wanted.1, row as u64)
+    }
+}
+
+/// Checks the cost of a handle of so many words.
+fn check_words(test: &impl Test, alloc: Global, wanted: &Full, row: u64) {
+    let Full(front, letter, count, cost) = wanted;
+    let text = one_handle(test, alloc, front, letter, *count);
+    check_cost(test, alloc, text.as_bytes(), cost, row)
+}
+
+/// Checks the costs of handles that fill blocks.
+fn check_full(test: &impl Test, alloc: Global) {
+    for (row, wanted) in FULL.iter().enumerate() {
+        check_words(test, alloc, wanted, (row as u64).saturating_add(10))
     }
 }
 
 fn check_costs(test: &impl Test, alloc: Global) {
-    for (row, (text, cost, status)) in (0..).zip(&ROWS) {
-        check_cost(test, alloc, text, *cost, *status, row)
-    }
-    for (row, (size, letter, count, cost, status)) in (10..).zip(&FULL) {
-        let text = one_handle(test, alloc, size, 128, letter, *count);
-        check_cost(test, alloc, text.as_bytes(), *cost, *status, row)
-    }
+    check_rows(test, alloc);
+    check_full(test, alloc);
     check_credits(test);
     check_choices(test, alloc)
 }

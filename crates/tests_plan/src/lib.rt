@@ -23,3 +23,5 @@ mod runs;
 mod short;
 #[cfg(test)]
 mod texts;
+#[cfg(test)]
+mod verdicts;

@@ -4,7 +4,7 @@ use crate::checks::By;
 use jb_block::{BlockSize, Width};
 use jb_core::{CoreFault, Event, Reply, State, run, step};
 use jb_handle::{Op, Payload, Shape};
-use std::alloc::{AllocError, Global};
+use std::alloc::Global;
 use tests_support::{Must, Test, check_at};
 
 /// What happens in a step: a write is of so many zeros to a home block.
@@ -27,11 +27,11 @@ const DONE: Answer = Ok(Reply::Plain);
 
 /// The most log blocks of a group; the steps, with the answer to each; and what is left: the settled groups, those of
 /// them that earlier lives settled, the taken groups, the queued handles, and the handles of the first group.
-type Row = (u32, &'static [(Step, Answer)], [usize; 5]);
+struct Row(u32, &'static [(Step, Answer)], [usize; 5]);
 
 static ROWS: [Row; 8] = [
     // a crash keeps what was settled
-    (
+    Row(
         8,
         &[
             (Step::Open(1, 1), DONE),
@@ -54,7 +54,7 @@ static ROWS: [Row; 8] = [
         [1, 1, 0, 0, 2],
     ),
     // a life begins with no handle, and its tickets with 0
-    (
+    Row(
         8,
         &[
             (Step::Open(1, 1), DONE),
@@ -68,7 +68,7 @@ static ROWS: [Row; 8] = [
         [0, 0, 0, 1, 0],
     ),
     // groups are of handles in the order of their stops: the first two of these do not fit together
-    (
+    Row(
         5,
         &[
             (Step::Open(1, 3), DONE),
@@ -89,7 +89,7 @@ static ROWS: [Row; 8] = [
         [0, 0, 2, 0, 1],
     ),
     // credits are granted up to the largest log
-    (
+    Row(
         2147483646,
         &[
             (Step::Open(1, 2000000000), DONE),
@@ -99,12 +99,12 @@ static ROWS: [Row; 8] = [
         [0, 0, 0, 0, 0],
     ),
     // the worst cost of 2000000000 credits is 2016129034 log blocks
-    (
+    Row(
         2016129034,
         &[(Step::Open(1, 2000000000), DONE)],
         [0, 0, 0, 0, 0],
     ),
-    (
+    Row(
         2016129033,
         &[(
             Step::Open(1, 2000000000),
@@ -113,7 +113,7 @@ static ROWS: [Row; 8] = [
         [0, 0, 0, 0, 0],
     ),
     // a handle is within its credits and the journal
-    (
+    Row(
         8,
         &[
             (Step::Open(1, 7), Err(CoreFault::TooManyCredits(6))),
@@ -130,7 +130,7 @@ static ROWS: [Row; 8] = [
         [0, 0, 0, 0, 0],
     ),
     // an abandoned handle leaves nothing, and its credits are free again
-    (
+    Row(
         2147483646,
         &[
             (Step::Open(1, 2000000000), DONE),
@@ -162,8 +162,9 @@ fn shape(limit: u32) -> Option<Shape> {
     })
 }
 
-fn event(alloc: Global, step: Step) -> Result<Event, AllocError> {
-    Ok(match step {
+/// The event of a step.
+fn event(test: &impl Test, alloc: Global, step: Step) -> Event {
+    match step {
         Step::Open(seat, credits) => Event::Open { seat, credits },
         Step::Write(seat, home, len) => Event::Touch {
             seat,
@@ -172,13 +173,13 @@ fn event(alloc: Global, step: Step) -> Result<Event, AllocError> {
         Step::Stop(seat) => Event::Stop { seat },
         Step::Abandon(seat) => Event::Abandon { seat },
         Step::Take(bounds) => Event::Take {
-            bounds: bounds.to_vec(alloc)?,
+            bounds: bounds.to_vec(alloc).must(test, "memory"),
         },
         Step::Settle(n) => Event::Settle { n },
         Step::Checkpoint => Event::Checkpoint,
         Step::Crash(n) => Event::Crash { n },
         Step::Restart => Event::Restart,
-    })
+    }
 }
 
 /// What is left, as a row says it.
@@ -193,21 +194,31 @@ fn left(state: &State) -> [usize; 5] {
     ]
 }
 
+/// The events of steps.
+fn events_of(test: &impl Test, alloc: Global, steps: &[(Step, Answer)]) -> Vec<Event> {
+    let mut events = Vec::new(alloc);
+    for (step, _) in steps {
+        events.push(event(test, alloc, *step)).must(test, "memory")
+    }
+    events
+}
+
+/// Checks the answers to steps.
+fn check_answers(test: &impl Test, answers: &[Answer], steps: &[(Step, Answer)], limit: u64) {
+    check_at(test, answers.len() == steps.len(), "how many, limit", limit);
+    for (answer, (_, wanted)) in answers.iter().zip(steps) {
+        check_at(test, answer == wanted, "an answer, limit", limit)
+    }
+}
+
 /// Checks the answers of a run, and what it leaves.
 fn check_run(test: &impl Test, alloc: Global, wanted: &Row) {
-    let (limit, steps, after) = wanted;
-    let mut events = Vec::new(alloc);
-    for (step, _) in *steps {
-        let event = event(alloc, *step).must(test, "memory");
-        events.push(event).must(test, "memory")
-    }
+    let Row(limit, steps, after) = wanted;
+    let events = events_of(test, alloc, steps);
     let shape = shape(*limit).must(test, "a limit");
     let (state, answers) = run(alloc, shape, events).must(test, "memory");
     let at = u64::from(*limit);
-    check_at(test, answers.len() == steps.len(), "how many, limit", at);
-    for (answer, (_, wanted)) in answers.iter().zip(*steps) {
-        check_at(test, answer == wanted, "an answer, limit", at)
-    }
+    check_answers(test, &answers, steps, at);
     let is_left = state.is_up() && left(&state) == *after;
     check_at(test, is_left, "what is left, limit", at)
 }
@@ -226,20 +237,20 @@ fn answers_of_one(state: &mut State, seat: u64) -> [Answer; 3] {
     [opened, touched, stopped]
 }
 
+/// Checks the events of a handle that gets this ticket.
+fn check_handle(test: &impl Test, state: &mut State, ticket: u64) {
+    let answers = answers_of_one(state, ticket);
+    let wanted = [DONE, DONE, Ok(Reply::Ticket(ticket))];
+    check_at(test, answers == wanted, "the answers to handle", ticket)
+}
+
 /// Checks the events of two handles, one after the other.
 fn check_steps(test: &impl Test, alloc: Global) {
     let mut state = State::new(alloc, shape(8).must(test, "a limit"));
-    for ticket in 0..2 {
-        let answers = answers_of_one(&mut state, ticket);
-        let wanted = [DONE, DONE, Ok(Reply::Ticket(ticket))];
-        check_at(test, answers == wanted, "the answers to handle", ticket)
-    }
-    check_at(
-        test,
-        left(&state) == [0, 0, 0, 2, 0],
-        "what is left, limit",
-        8,
-    )
+    check_handle(test, &mut state, 0);
+    check_handle(test, &mut state, 1);
+    let is_left = left(&state) == [0, 0, 0, 2, 0];
+    check_at(test, is_left, "what is left, limit", 8)
 }
 
 fn check_runs(test: &impl Test, alloc: Global) {

@@ -2,13 +2,16 @@
 ghost use Rattle.std.specs.Prelude.{◌≡◌, ◌<◌, ◌^◌, length};
 ghost use Rattle.jb_handle.specs.Size.{IsWithinSize};
 
-use jb_commands::{CommandOutput, check_answer};
+use jb_commands::{CommandOutput, check_answer, cost_answer};
 use jb_handle::is_within_size;
 use jb_queue::{QueueText, read_queue};
 use std::alloc::Global;
 use tests_support::{Must, Test, check, check_at};
 
 pub const GROWING: &str = "bs 1024\nlimit 6\nh w1 w2\nh w3 w4\nh w3 w4\nh w3 w4 w5\n";
+
+/// The certificate of its handles.
+pub const FOUR_HANDLES: &str = "prices 0 4 6 6 9\ncut 0 1 4\ntotal 9\n";
 
 pub const FREEING: &str = "bs 1024\nlimit 5\nh w1 w2 w3 w4\nh r1 r2 r3 r4\n";
 
@@ -49,6 +52,12 @@ pub fn check_told(
     check_at(test, answer.out.as_str() == out, what, row);
     check_at(test, answer.err.as_str() == err, what, row);
     check_at(test, answer.status == status, what, row)
+}
+
+/// Checks what `jb cost` says of a text.
+pub fn check_cost_told(test: &impl Test, alloc: Global, text: &[u8], told: Told<'_>, row: u64) {
+    let answer = cost_answer(alloc, bytes_of(test, text)).must(test, "memory");
+    check_told(test, &answer, told, "what is said of row", row)
 }
 
 /// Checks what `jb check` says of a certificate of a queue.

@@ -112,7 +112,7 @@ fn check_run<D: Disk>(test: &impl Test, disk: &mut D, run: &Run, what: &'static 
 pub fn check_runs<D: Disk>(test: &impl Test, disk: &mut D, what: &'static str) {
     let is_numbered = number(disk).is_ok();
     check_in(test, is_numbered, what, "the blocks are not filled", 0);
-    for (row, run) in (0..).zip(&RUNS) {
-        check_run(test, disk, run, what, row)
+    for (row, run) in RUNS.iter().enumerate() {
+        check_run(test, disk, run, what, row as u64)
     }
 }

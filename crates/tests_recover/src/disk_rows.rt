@@ -54,8 +54,8 @@ fn check_crash(test: &impl Test, disk: &MemoryDisk, crash: &Crash, row: u64) {
 /// Checks the chosen version of each sector; and after a sync only what is written after it.
 fn check_crashes(test: &impl Test, alloc: Global) {
     let mut disk = pending(test, alloc);
-    for (row, crash) in (0..).zip(&CRASHES) {
-        check_crash(test, &disk, crash, row)
+    for (row, crash) in CRASHES.iter().enumerate() {
+        check_crash(test, &disk, crash, row as u64)
     }
     check(test, disk.sync().is_ok(), "a sync");
     put(test, &mut disk, 1, 4);
@@ -154,8 +154,8 @@ fn check_run(test: &impl Test, alloc: Global, of: &Written, row: u64) {
 }
 
 fn check_written(test: &impl Test, alloc: Global) {
-    for (row, of) in (0..).zip(&WRITTEN) {
-        check_run(test, alloc, of, row)
+    for (row, of) in WRITTEN.iter().enumerate() {
+        check_run(test, alloc, of, row as u64)
     }
 }
 

@@ -95,8 +95,8 @@ fn check_run<A: Disk, B: Disk>(
 /// Checks runs that are written by one disk and read by another, which may not write.
 fn check_runs_written(test: &impl Test, disk: &mut FileDisk, reader: &mut FileDisk) {
     check(test, number(disk).is_ok(), "the blocks are not filled");
-    for (row, run) in (0..).zip(&RUNS) {
-        check_run(test, disk, reader, run, row)
+    for (row, run) in RUNS.iter().enumerate() {
+        check_run(test, disk, reader, run, row as u64)
     }
     check(test, fill_run(reader, 0, 3, 7) == Err(Fault), "a reader");
     check(test, look_each(reader) == Ok(LAST), "what is not written");

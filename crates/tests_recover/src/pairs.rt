@@ -109,8 +109,8 @@ fn check_row(test: &impl Bench, of: &Calls, row: u64) {
 }
 
 fn check_calls(test: &impl Bench) {
-    for (row, of) in (0..).zip(&CALLS) {
-        check_row(test, of, row)
+    for (row, of) in CALLS.iter().enumerate() {
+        check_row(test, of, row as u64)
     }
 }
 
@@ -160,8 +160,8 @@ fn check_run(test: &impl Bench, of: &Read, row: u64) {
 
 /// A run of blocks is read from the disk that has them, or from both; and a call of either may fail.
 fn check_read(test: &impl Bench) {
-    for (row, of) in (0..).zip(&READ) {
-        check_run(test, of, row)
+    for (row, of) in READ.iter().enumerate() {
+        check_run(test, of, row as u64)
     }
 }
 
@@ -197,8 +197,8 @@ fn check_run_written(test: &impl Bench, of: &Written, row: u64) {
 
 /// A run of blocks is written to the disk that has them, or to both, the first disk's first.
 fn check_written(test: &impl Bench) {
-    for (row, of) in (0..).zip(&WRITTEN) {
-        check_run_written(test, of, row)
+    for (row, of) in WRITTEN.iter().enumerate() {
+        check_run_written(test, of, row as u64)
     }
 }
 

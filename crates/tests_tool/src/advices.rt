@@ -1,7 +1,9 @@
 //! The line of each hint.
 
+use crate::checks::{check_at, check_text};
 use jb_args::{Hint, OptionName, put_hint};
-use std::test::Fail;
+use std::alloc::Global;
+use std::process::Abort;
 
 /// A hint, and its line.
 type Row = (Hint, &'static str);
@@ -48,12 +50,21 @@ static ROWS: [Row; 9] = [
     ),
 ];
 
-#[test]
-fn each_hint_has_its_line(rt: HostRuntime) -> Result<(), Fail> {
-    for (hint, wanted) in &ROWS {
-        let mut told = Vec::new(rt.alloc());
-        assert!(rt; put_hint(&mut told, *hint).is_ok(), "{wanted}");
-        assert_eq!(rt; told.as_slice(), wanted.as_bytes(), "{wanted}");
+/// Checks the line of each hint.
+fn check_rows(rt: &impl Abort, alloc: Global) {
+    for (row, (hint, wanted)) in ROWS.iter().enumerate() {
+        let mut told = Vec::new(alloc);
+        check_at(
+            rt,
+            put_hint(&mut told, *hint).is_ok(),
+            "the hint of row",
+            row,
+        );
+        check_text(rt, &told, wanted, "the hint of row", row)
     }
-    Ok(())
+}
+
+#[test]
+fn each_hint_has_its_line(rt: HostRuntime) {
+    check_rows(&rt, rt.alloc())
 }

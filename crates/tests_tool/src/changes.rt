@@ -1,10 +1,9 @@
 //! Clean journals that are changed on disks whose calls fail, and home blocks that are shown.
 
 use crate::checks::{check, check_at, check_text, fail};
-use jb_block::{BlockSize, Width};
+use crate::small::formatted;
 use jb_commands::cat_on;
-use jb_disk::{MemoryDisk, OneFaultDisk};
-use jb_format::format;
+use jb_disk::{Disk, MemoryDisk, OneFaultDisk};
 use jb_tool::{CommandFault, renumber_on, widen_on};
 use std::alloc::Global;
 use std::process::Abort;
@@ -13,17 +12,20 @@ use tests_support::{read_block, write_block};
 /// More calls than a change of the small image makes.
 const MOST: usize = 60;
 
-/// Changes a new journal on a disk of which the call of this number fails: whether it met none, and then it writes this
-/// line. Else the fault is answered, and nothing is written.
-fn is_changed(rt: &impl Abort, alloc: Global, widens: bool, call: usize, line: &str) -> bool {
-    let mut disk = MemoryDisk::new(alloc, BlockSize::OneKib, 49).expect(rt, "memory");
-    let made = format(&mut disk, 33, 0, [0; 16], Width::Narrow);
-    check(rt, made.is_ok(), "it is not made");
-    let mut disk = OneFaultDisk::of(disk, call as u64);
+/// Changes the journal of a disk: whether no call has failed, and then the line is written. Else the fault is answered,
+/// and nothing is written.
+fn is_changed<D: Disk>(
+    rt: &impl Abort,
+    alloc: Global,
+    disk: &mut D,
+    widens: bool,
+    call: usize,
+    line: &str,
+) -> bool {
     let answer = if widens {
-        widen_on(&mut disk)
+        widen_on(disk)
     } else {
-        renumber_on(&mut disk)
+        renumber_on(disk)
     };
     let mut out = Vec::new(alloc);
     let answer = match answer {
@@ -40,34 +42,42 @@ fn is_changed(rt: &impl Abort, alloc: Global, widens: bool, call: usize, line: &
 /// Checks how many calls of the disk a change of a new journal makes, each of which may fail, and what it writes then.
 fn check_calls(rt: &impl Abort, alloc: Global, widens: bool, calls: usize, line: &str) {
     for call in 0..MOST {
-        if is_changed(rt, alloc, widens, call, line) {
+        let mut disk = OneFaultDisk::of(formatted(rt, alloc, 0, 1), call as u64);
+        if is_changed(rt, alloc, &mut disk, widens, call, line) {
             return check_at(rt, call == calls, "calls that a change makes:", call);
         }
     }
     fail(rt, "it never ends")
 }
 
-#[test]
-fn a_call_that_fails_is_reported_and_nothing_is_written(rt: HostRuntime) {
-    check_calls(&rt, rt.alloc(), false, 38, "renumbered blocks 0 next 1\n");
-    check_calls(&rt, rt.alloc(), true, 5, "widened limit 8\n")
+/// Checks both changes.
+fn check_changes(rt: &impl Abort, alloc: Global) {
+    check_calls(rt, alloc, false, 38, "renumbered blocks 0 next 1\n");
+    check_calls(rt, alloc, true, 5, "widened limit 8\n")
 }
 
-/// Checks that a home block is shown as it was written last, and that a crash still leaves what it held before: nothing
-/// was synced.
-fn check_unsynced(rt: &impl Abort, alloc: Global) {
-    let mut disk = MemoryDisk::new(alloc, BlockSize::OneKib, 49).expect(rt, "memory");
-    let made = format(&mut disk, 33, 0, [0; 16], Width::Narrow);
-    check(rt, made.is_ok(), "it is not made");
-    let written = write_block(&mut disk, 36, &[7; 1024]);
-    check(rt, written.is_ok(), "it is not written");
+#[test]
+fn a_call_that_fails_is_reported_and_nothing_is_written(rt: HostRuntime) {
+    check_changes(&rt, rt.alloc())
+}
+
+/// Checks that a home block is shown as it was written last.
+fn check_shown(rt: &impl Abort, alloc: Global, disk: &mut MemoryDisk) {
     let mut out = Vec::new(alloc);
-    let shown = cat_on(alloc, &mut disk, 3, 1, false, None, &mut out);
+    let shown = cat_on(alloc, disk, 3, 1, false, None, &mut out);
     let is_shown = shown.is_ok() && out.as_slice() == [7; 1024].as_slice();
-    check(rt, is_shown, "it is not shown");
-    let (mut left, mut block) = (disk.crash(&[]).expect(rt, "memory"), [7; 1024]);
-    let is_read = read_block(&mut left, 36, &mut block).is_ok();
-    check(rt, is_read && block == [0; 1024], "it is synced")
+    check(rt, is_shown, "it is not shown")
+}
+
+/// Checks that a home block that was written and shown is still lost in a crash: nothing was synced.
+fn check_unsynced(rt: &impl Abort, alloc: Global) {
+    let mut disk = formatted(rt, alloc, 0, 1);
+    write_block(&mut disk, 36, &[7; 1024]).expect(rt, "a write");
+    check_shown(rt, alloc, &mut disk);
+    let mut left = disk.crash(&[]).expect(rt, "memory");
+    let mut block = [7; 1024];
+    read_block(&mut left, 36, &mut block).expect(rt, "a read");
+    check(rt, block == [0; 1024], "it is synced")
 }
 
 #[test]

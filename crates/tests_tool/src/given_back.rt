@@ -11,6 +11,9 @@ use jb_tool::{
 
 const NAME: &str = "given.img";
 
+/// How many blocks the image has.
+const ALL: Option<u64> = Some(49);
+
 const NEW: FormatOptions<'static> = FormatOptions {
     bs: 1024,
     journal: 33,
@@ -55,36 +58,49 @@ fn check_done(
     check_text(rt, &out, wanted, "a command that is done", at)
 }
 
-/// Makes an image, recovers it, and changes its journal.
-fn check_changes(rt: &impl Host) {
-    let all = Some(49);
+/// Makes an image, and recovers it.
+fn check_made(rt: &impl Host) {
     let made = format_file(rt, NAME, NEW);
-    check_done(rt, made, all, "formatted limit 8\n", 0);
+    check_done(rt, made, ALL, "formatted limit 8\n", 0);
     check_done(rt, format_file(rt, NAME, NEW), None, "", 1);
     let line = "transactions 0 copies 0 revoked 0 next 2\n";
-    check_done(rt, recover_file(rt, NAME, RECOVER), all, line, 2);
+    check_done(rt, recover_file(rt, NAME, RECOVER), ALL, line, 2)
+}
+
+/// Changes its journal.
+fn check_changes(rt: &impl Host) {
     let line = "renumbered blocks 0 next 1\n";
-    check_done(rt, renumber_file(rt, NAME), all, line, 3);
-    check_done(rt, widen_file(rt, NAME), all, "widened limit 8\n", 4);
+    check_done(rt, renumber_file(rt, NAME), ALL, line, 3);
+    check_done(rt, widen_file(rt, NAME), ALL, "widened limit 8\n", 4)
+}
+
+/// Changes it once more, by the value of the command.
+fn check_again(rt: &impl Host) {
     let (mut out, mut err) = (Vec::new(rt.alloc()), Vec::new(rt.alloc()));
     let widen = Plain::Widen { image: NAME };
     let again = perform(rt, widen, &mut b"".as_slice(), &mut out, &mut err);
-    check_done(rt, again, all, "already wide limit 8\n", 5);
+    check_done(rt, again, ALL, "already wide limit 8\n", 5)
 }
 
-/// Writes a home of that image, and of one that is not there.
-fn check_cat(rt: &impl Host) {
+/// Writes a home of the image of that name: checks how many blocks it has, if there is one, and what is written.
+fn check_cat(rt: &impl Host, blocks: Option<u64>, home: &[u8], at: usize) {
     let mut out = Vec::new(rt.alloc());
-    check_done(rt, cat_file(rt, NAME, CAT, &mut out), Some(49), "", 6);
-    let is_home = out.as_slice() == [0; 1024].as_slice();
-    check_at(rt, is_home, "a home of zeros:", 6);
+    check_done(rt, cat_file(rt, NAME, CAT, &mut out), blocks, "", at);
+    check_at(rt, out.as_slice() == home, "the bytes of a home:", at)
+}
+
+/// Checks each command on one image, which is removed before the last two.
+fn check_commands(rt: &impl Host) {
+    check_made(rt);
+    check_changes(rt);
+    check_again(rt);
+    check_cat(rt, ALL, &[0; 1024], 6);
     remove(rt, NAME);
-    check_done(rt, cat_file(rt, NAME, CAT, &mut out), None, "", 7);
+    check_cat(rt, None, &[], 7);
     check_done(rt, recover_file(rt, NAME, RECOVER), None, "", 8)
 }
 
 #[test]
 fn images_are_given_back(rt: HostRuntime) {
-    check_changes(&rt);
-    check_cat(&rt)
+    check_commands(&rt)
 }

@@ -3,7 +3,7 @@
 use crate::checks::fail;
 use crate::hints::check_hint;
 use crate::runs::Host;
-use jb_args::OptionName;
+use jb_args::{Hint, OptionName};
 use jb_desk::Ended;
 use jb_disk::Unknown;
 use jb_image::{ExtentsFault, FileSystemFault};
@@ -190,10 +190,9 @@ fn more_lines(text: &[u8]) -> &[u8] {
     text
 }
 
-/// Checks what a second line is about after the lines of a load into an image of 16 home blocks: the first of them, or
-/// the one after it.
-fn check_load(rt: &impl Host, load: &Load, stopped: bool, row: usize) {
-    let (refused, commit, checkpoint, beside) = *load;
+/// What a load says of itself that ended so, into an image of 16 home blocks, and what its second line is about.
+fn said(rt: &impl Host, load: &Load) -> (Vec<u8>, Option<Hint>) {
+    let (refused, commit, checkpoint, _) = *load;
     let (mut out, mut err) = (Vec::new(rt.alloc()), Vec::new(rt.alloc()));
     let done = LoadDone::<Unknown, Unknown> {
         image: None,
@@ -201,29 +200,48 @@ fn check_load(rt: &impl Host, load: &Load, stopped: bool, row: usize) {
     };
     let hint = match done.tell(&mut out, &mut err) {
         Ok(ended) => ended.hint,
-        Err(_) => return fail(rt, "a load is told"),
+        Err(_) => fail(rt, "a load is told"),
     };
+    (err, hint)
+}
+
+/// Checks what a second line is about after the lines of a load: the first of them, or the one after it.
+fn check_load(rt: &impl Host, load: &Load, stopped: bool, row: usize) {
+    let (err, hint) = said(rt, load);
     let lines = if stopped {
         more_lines(&err)
     } else {
         err.as_slice()
     };
-    check_hint(rt, hint, lines, beside, "the hint of load", row)
+    check_hint(rt, hint, lines, load.3, "the hint of load", row)
+}
+
+/// Checks each fault.
+fn check_faults(rt: &impl Host) {
+    for (row, (fault, beside)) in FAULTS.iter().enumerate() {
+        check_fault(rt, *fault, beside, row);
+    }
 }
 
 #[test]
 fn a_hint_is_about_the_line_of_its_fault(rt: HostRuntime) {
-    for (row, (fault, beside)) in FAULTS.iter().enumerate() {
-        check_fault(&rt, *fault, beside, row);
+    check_faults(&rt)
+}
+
+/// Checks each of these loads.
+fn check_each(rt: &impl Host, loads: &[Load], stopped: bool) {
+    for (row, load) in loads.iter().enumerate() {
+        check_load(rt, load, stopped, row);
     }
+}
+
+/// Checks all loads.
+fn check_loads(rt: &impl Host) {
+    check_each(rt, &LOADS, false);
+    check_each(rt, &STOPPED, true)
 }
 
 #[test]
 fn a_hint_is_about_the_lines_of_its_load(rt: HostRuntime) {
-    for (row, load) in LOADS.iter().enumerate() {
-        check_load(&rt, load, false, row);
-    }
-    for (row, load) in STOPPED.iter().enumerate() {
-        check_load(&rt, load, true, row);
-    }
+    check_loads(&rt)
 }

@@ -11,6 +11,32 @@ use std::thread;
 use std::time::{Clock, Duration};
 use tests_support::{read_block, write_block};
 
+/// Which calls of a disk fail, of those that read, write or sync: none, the one of a number, or all from there on.
+#[derive(Clone, Copy)]
+pub enum Fails {
+    Never,
+    Once(u64),
+    From(u64),
+}
+
+impl Fails {
+    /// Whether the call of this number fails.
+    fn is_at(self, call: u64) -> bool {
+        match self {
+            Fails::Never => false,
+            Fails::Once(number) => call == number,
+            Fails::From(number) => call >= number,
+        }
+    }
+}
+
+/// Counts a call, and says whether it fails.
+fn is_failing(fails: Fails, calls: &mut u64) -> bool {
+    let call = *calls;
+    *calls = call.saturating_add(1);
+    fails.is_at(call)
+}
+
 /// A disk that somebody else keeps. What it holds is known to nobody, so that no clause on contents speaks of it.
 #[derive(Drop)]
 pub struct LentDisk<'a, R: Wait + Clock> {
@@ -19,13 +45,21 @@ pub struct LentDisk<'a, R: Wait + Clock> {
     size: BlockSize,
     blocks: u64,
     faults: u64,
+    /// how many calls have read, written or synced
+    calls: u64,
+    fails: Fails,
     /// how long a sync takes
     slow: Duration,
 }
 
 impl<'a, R: Wait + Clock> LentDisk<'a, R> {
-    /// The disk that is kept there, of which each sync takes so long.
-    pub fn of(rt: &'a R, disk: &'a Mutex<MemoryDisk>, slow: Duration) -> LentDisk<'a, R> {
+    /// The disk that is kept there, of which these calls fail, and each sync takes so long.
+    pub fn of(
+        rt: &'a R,
+        disk: &'a Mutex<MemoryDisk>,
+        fails: Fails,
+        slow: Duration,
+    ) -> LentDisk<'a, R> {
         let (size, blocks) = {
             let inner = disk.lock(rt);
             (inner.block_size(), inner.blocks())
@@ -36,6 +70,8 @@ impl<'a, R: Wait + Clock> LentDisk<'a, R> {
             size,
             blocks,
             faults: 0,
+            calls: 0,
+            fails,
             slow,
         }
     }
@@ -79,7 +115,9 @@ impl<'a, R: Wait + Clock> Disk for LentDisk<'a, R> {
     }
 
     fn read(&mut self, place: u64, buf: &mut [u8]) -> Result<(), Fault> {
-        let answer = {
+        let answer = if is_failing(self.fails, &mut self.calls) {
+            Err(Fault)
+        } else {
             let mut disk = self.disk.lock(self.rt);
             read_block(&mut *disk, place, buf)
         };
@@ -87,7 +125,9 @@ impl<'a, R: Wait + Clock> Disk for LentDisk<'a, R> {
     }
 
     fn write(&mut self, place: u64, bytes: &[u8]) -> Result<(), Fault> {
-        let answer = {
+        let answer = if is_failing(self.fails, &mut self.calls) {
+            Err(Fault)
+        } else {
             let mut disk = self.disk.lock(self.rt);
             write_block(&mut *disk, place, bytes)
         };
@@ -98,7 +138,11 @@ impl<'a, R: Wait + Clock> Disk for LentDisk<'a, R> {
         if !self.slow.is_zero() {
             thread::sleep(self.rt, self.slow);
         }
-        let answer = self.disk.lock(self.rt).sync();
+        let answer = if is_failing(self.fails, &mut self.calls) {
+            Err(Fault)
+        } else {
+            self.disk.lock(self.rt).sync()
+        };
         settle(answer, &mut self.faults)
     }
 }

@@ -1,11 +1,13 @@
 //! Loads by several threads: what does not depend on their order is as worked out by hand, and the homes are as in some
 //! order of the handles.
 
-use crate::small::{FOUR, HOMES, formatted, load_lent, recovered};
-use jb_tool::{LoadOptions, Loaded, QueueHandleFault, Refused};
+use crate::checks::{check_at, fail};
+use crate::lent::Fails;
+use crate::small::{FOUR, HOMES, Loads, formatted, load_lent, recovered};
+use jb_tool::{LoadOptions, Loaded, QueueHandleFault};
 use std::alloc::Global;
 use std::fmt::Write;
-use std::test::Fail;
+use std::process::Abort;
 use std::time::{Duration, Instant};
 
 /// Whether four handles are loaded and all of them are settled.
@@ -21,84 +23,180 @@ fn is_whole(loaded: &Loaded) -> bool {
 
 /// Whether the homes are those of the four handles in some order, or in their own.
 fn is_serial(homes: [u8; HOMES], in_order: bool) -> bool {
-    let last = [(0x03, 0x04), (0x13, 0x14), (0x23, 0x24)];
-    let pair = (homes[3], homes[4]);
-    let rest = (homes[0], homes[1], homes[2], homes[5]);
-    let fits = if in_order {
-        pair == last[2]
-    } else {
-        last.contains(&pair)
-    };
-    fits && rest == (0, 0x01, 0x02, 0x25) && homes[6..] == [0; 10]
+    for last in [0x23, 0x13, 0x03] {
+        let wanted = [
+            0,
+            0x01,
+            0x02,
+            last,
+            last + 1,
+            0x25,
+            0,
+            0,
+            0,
+            0,
+            0,
+            0,
+            0,
+            0,
+            0,
+            0,
+        ];
+        if homes == wanted {
+            return !in_order || last == 0x23;
+        }
+    }
+    false
 }
 
-#[test]
-fn threads_load_all_in_some_order(rt: HostRuntime) -> Result<(), Fail> {
+/// Checks what this number of threads comes to.
+fn check_order(rt: &impl Loads, alloc: Global, threads: usize, hold: bool, checkpoint: bool) {
+    let options = LoadOptions {
+        threads,
+        hold,
+        checkpoint,
+    };
+    let disk = formatted(rt, alloc, 6, 1);
+    let (mut disk, answer) = load_lent(
+        rt,
+        alloc,
+        disk,
+        Fails::Never,
+        Duration::ZERO,
+        FOUR,
+        options,
+    );
+    let is_all = match &answer {
+        Ok(loaded) => is_whole(loaded),
+        Err(_) => false,
+    };
+    check_at(rt, is_all, "what is loaded, threads", threads);
+    let (_, homes) = recovered(rt, alloc, &mut disk);
+    let is_so = is_serial(homes, threads == 1);
+    check_at(rt, is_so, "the homes, threads", threads)
+}
+
+/// Checks each number of threads in each way to load.
+fn check_orders(rt: &impl Loads, alloc: Global) {
     for threads in [1, 2, 64] {
         for (hold, checkpoint) in [(true, false), (false, false), (true, true), (false, true)] {
-            let options = LoadOptions {
-                threads,
-                hold,
-                checkpoint,
-            };
-            let disk = formatted(rt.alloc(), 6, 1)?;
-            let (mut disk, answer) = load_lent(
-                &rt,
-                rt.alloc(),
-                disk,
-                Duration::ZERO,
-                FOUR,
-                options,
-            )?;
-            let loaded = answer?;
-            assert!(rt; is_whole(&loaded), "{loaded:?}");
-            let (_, homes) = recovered(rt.alloc(), &mut disk)?;
-            assert!(rt; is_serial(homes, threads == 1), "{homes:?}");
+            check_order(rt, alloc, threads, hold, checkpoint);
         }
     }
-    Ok(())
-}
-
-/// The text of so many handles, each of which writes its number to home 1, and zeros to as many further homes.
-fn writers(alloc: Global, handles: u32, more: u32) -> Result<String, Fail> {
-    let mut text = String::new(alloc);
-    text.push_str("bs 1024\nlimit 8\n")?;
-    for number in 1..=handles {
-        write!(text, "h w1={:02x}", number % 256)?;
-        for home in 0..more {
-            write!(text, " w{}", home.saturating_add(2))?;
-        }
-        text.push_str("\n")?;
-    }
-    Ok(text)
 }
 
 #[test]
-fn a_full_journal_is_waited_for(rt: HostRuntime) -> Result<(), Fail> {
-    let rows = [
-        (1, 100, 0, false, 0, None, 100),
-        (64, 200, 2, false, 20, None, 200),
-        (8, 40, 0, true, 0, Some(QueueHandleFault::Full(32)), 32),
-    ];
-    for (threads, handles, more, hold, slow, fault, stopped) in rows {
-        let options = LoadOptions {
-            threads,
-            hold,
-            checkpoint: true,
-        };
-        let text = writers(rt.alloc(), handles, more)?;
-        let disk = formatted(rt.alloc(), 0, 1)?;
-        let start = Instant::now(&rt)?;
-        let slow = Duration::from_millis(slow);
-        let (mut disk, answer) = load_lent(&rt, rt.alloc(), disk, slow, text.as_str(), options)?;
-        let loaded = answer?;
-        let refused = loaded.refused.map(|refused| refused.fault);
-        let counts = (loaded.handles, loaded.settled, refused);
-        assert_eq!(rt; counts, (stopped, stopped, fault));
-        // no more than one of the workers waits in vain
-        assert!(rt; start.elapsed(&rt)?.as_secs() < 20);
-        let (_, homes) = recovered(rt.alloc(), &mut disk)?;
-        assert!(rt; threads > 1 || u64::from(homes[1]) == stopped);
+fn threads_load_all_in_some_order(rt: HostRuntime) {
+    check_orders(&rt, rt.alloc())
+}
+
+/// Adds the line of a handle, which writes its number to home 1, and zeros to so many further homes.
+fn put_handle(rt: &impl Abort, text: &mut String, number: u32, more: u32) {
+    write!(text, "h w1={:02x}", number % 256).expect(rt, "memory");
+    for home in 0..more {
+        write!(text, " w{}", home.saturating_add(2)).expect(rt, "memory");
     }
-    Ok(())
+    text.push_str("\n").expect(rt, "memory")
+}
+
+/// The text of so many handles.
+fn writers(rt: &impl Abort, alloc: Global, handles: u32, more: u32) -> String {
+    let mut text = String::new(alloc);
+    text.push_str("bs 1024\nlimit 8\n").expect(rt, "memory");
+    for number in 1..=handles {
+        put_handle(rt, &mut text, number, more);
+    }
+    text
+}
+
+/// So many threads load so many handles with so many further homes, perhaps before anything is committed, to a disk of
+/// which each sync takes so many milliseconds; why a handle is refused, if one is, and how many stop.
+#[derive(Clone, Copy)]
+struct Waits {
+    threads: usize,
+    handles: u32,
+    more: u32,
+    hold: bool,
+    slow: u64,
+    fault: Option<QueueHandleFault>,
+    stopped: u64,
+}
+
+static WAITS: [Waits; 3] = [
+    Waits {
+        threads: 1,
+        handles: 100,
+        more: 0,
+        hold: false,
+        slow: 0,
+        fault: None,
+        stopped: 100,
+    },
+    Waits {
+        threads: 64,
+        handles: 200,
+        more: 2,
+        hold: false,
+        slow: 20,
+        fault: None,
+        stopped: 200,
+    },
+    Waits {
+        threads: 8,
+        handles: 40,
+        more: 0,
+        hold: true,
+        slow: 0,
+        fault: Some(QueueHandleFault::Full(32)),
+        stopped: 32,
+    },
+];
+
+/// Whether a load stops as many handles as its row says, all of which are settled, and refuses the one that it says.
+fn is_as(loaded: &Loaded, row: &Waits) -> bool {
+    let fault = match loaded.refused {
+        Some(refused) => Some(refused.fault),
+        None => None,
+    };
+    loaded.handles == row.stopped && loaded.settled == row.stopped && fault == row.fault
+}
+
+/// Checks a load of more than the log holds.
+fn check_waits(rt: &impl Loads, alloc: Global, row: &Waits, at: usize) {
+    let options = LoadOptions {
+        threads: row.threads,
+        hold: row.hold,
+        checkpoint: true,
+    };
+    let text = writers(rt, alloc, row.handles, row.more);
+    let disk = formatted(rt, alloc, 0, 1);
+    let slow = Duration::from_millis(row.slow);
+    let (mut disk, answer) = load_lent(rt, alloc, disk, Fails::Never, slow, text.as_str(), options);
+    match &answer {
+        Ok(loaded) => check_at(rt, is_as(loaded, row), "what is loaded, row", at),
+        Err(_) => return fail(rt, "a load is refused"),
+    }
+    let (_, homes) = recovered(rt, alloc, &mut disk);
+    let is_last = row.threads > 1 || u64::from(homes[1]) == row.stopped;
+    check_at(rt, is_last, "the first home, row", at)
+}
+
+/// Checks that a row takes less than so many seconds: no more than one of the workers waits in vain.
+fn check_soon(rt: &impl Loads, alloc: Global, row: &Waits, at: usize) {
+    let start = Instant::now(rt).expect(rt, "a clock");
+    check_waits(rt, alloc, row, at);
+    let took = start.elapsed(rt).expect(rt, "a clock");
+    check_at(rt, took.as_secs() < 20, "the seconds of row", at)
+}
+
+/// Checks each row.
+fn check_all_waits(rt: &impl Loads, alloc: Global) {
+    for (at, row) in WAITS.iter().enumerate() {
+        check_soon(rt, alloc, row, at);
+    }
+}
+
+#[test]
+fn a_full_journal_is_waited_for(rt: HostRuntime) {
+    check_all_waits(&rt, rt.alloc())
 }

@@ -1,46 +1,117 @@
 //! Words that are a command, and what they ask for; and the help that is shown where there are none.
 
-use crate::checks::check_text;
+use crate::checks::{check_text, fail};
 use crate::runs::{Host, words_of};
-use jb_args::{CommandLine, Plain, parse, show_help};
-use std::alloc::Global;
+use jb_args::{
+    CatOptions, CommandLine, DumpOptions, FormatOptions, LoadWords, Plain, RecoverOptions, parse,
+    show_help,
+};
 
-/// What these words ask for, if they are taken: the command, its words and its options, in the order of `Plain` and
-/// `LoadWords`.
-fn asked(alloc: Global, words: &[&str]) -> Option<String> {
-    let asked = match parse(alloc, words).ok()? {
-        CommandLine::Plain(Plain::Cost { file }) => format!(in alloc; "cost {file}"),
-        CommandLine::Plain(Plain::Plan { file }) => format!(in alloc; "plan {file}"),
-        CommandLine::Plain(Plain::Check { file, cert }) => format!(in alloc; "check {file} {cert}"),
-        CommandLine::Plain(Plain::Dump { file, options: of }) => {
-            let (home, last, superblock) = (of.home, of.last, of.superblock);
-            let summary = of.summary;
-            format!(in alloc; "dump {file} {home:?} {last:?} {superblock} {summary}")
-        }
-        CommandLine::Plain(Plain::Format { image, options: of }) => {
-            let (bs, journal, homes, max) = (of.bs, of.journal, of.homes, of.max);
-            let (uuid, wide) = (of.uuid, of.wide);
-            format!(in alloc; "format {image} {bs} {journal} {homes} {max} {uuid} {wide}")
-        }
-        CommandLine::Plain(Plain::Cat { image, options: of }) => {
-            let (home, count, hex) = (of.home, of.count, of.hex);
-            let (journal, extents) = (of.journal.unwrap_or("-"), of.extents.unwrap_or("-"));
-            format!(in alloc; "cat {image} {home} {count} {hex} {journal} {extents}")
-        }
-        CommandLine::Plain(Plain::Recover { image, options: of }) => {
-            let (journal, extents) = (of.journal.unwrap_or("-"), of.extents.unwrap_or("-"));
-            let (force, dry_run, list) = (of.force, of.dry_run, of.list);
-            format!(in alloc; "recover {image} {journal} {extents} {force} {dry_run} {list}")
-        }
-        CommandLine::Plain(Plain::Renumber { image }) => format!(in alloc; "renumber {image}"),
-        CommandLine::Plain(Plain::Widen { image }) => format!(in alloc; "widen {image}"),
-        CommandLine::Load(of) => {
-            let (image, file, threads, stamp) = (of.image, of.file, of.threads, of.stamp);
-            let (hold, checkpoint) = (of.hold, of.checkpoint);
-            format!(in alloc; "load {image} {file} {threads} {stamp} {hold} {checkpoint}")
-        }
-    };
-    asked.ok()
+/// Adds a word to a text.
+fn put(rt: &impl Host, text: &mut String, word: &str) {
+    if !text.is_empty() {
+        text.push_str(" ").expect(rt, "memory")
+    }
+    text.push_str(word).expect(rt, "memory")
+}
+
+/// Adds these words.
+fn put_words(rt: &impl Host, text: &mut String, words: &[&str]) {
+    for word in words {
+        put(rt, text, word)
+    }
+}
+
+/// Adds these numbers.
+fn put_numbers(rt: &impl Host, text: &mut String, numbers: &[u64]) {
+    for number in numbers {
+        let digits = format!(in rt.alloc(); "{number}").expect(rt, "memory");
+        put(rt, text, &digits)
+    }
+}
+
+/// Adds a number that may be missing.
+fn put_some(rt: &impl Host, text: &mut String, number: Option<u64>) {
+    match number {
+        Some(number) => put_numbers(rt, text, &[number]),
+        None => put(rt, text, "-"),
+    }
+}
+
+/// Adds whether each of these is set.
+fn put_flags(rt: &impl Host, text: &mut String, flags: &[bool]) {
+    for flag in flags {
+        put(rt, text, if *flag { "true" } else { "false" })
+    }
+}
+
+/// Adds the words and options of `jb dump`, in the order of `DumpOptions`.
+fn put_dump(rt: &impl Host, text: &mut String, file: &str, of: DumpOptions) {
+    put_words(rt, text, &["dump", file]);
+    put_some(rt, text, of.home);
+    put_some(rt, text, of.last);
+    put_flags(rt, text, &[of.superblock, of.summary])
+}
+
+/// Adds the words and options of `jb format`, in the order of `FormatOptions`.
+fn put_format(rt: &impl Host, text: &mut String, image: &str, of: FormatOptions) {
+    put_words(rt, text, &["format", image]);
+    put_numbers(rt, text, &[of.bs, of.journal, of.homes, of.max]);
+    put(rt, text, of.uuid);
+    put_flags(rt, text, &[of.wide])
+}
+
+/// Adds the words and options of `jb cat`, in the order of `CatOptions`.
+fn put_cat(rt: &impl Host, text: &mut String, image: &str, of: CatOptions) {
+    put_words(rt, text, &["cat", image]);
+    put_numbers(rt, text, &[of.home, of.count]);
+    put_flags(rt, text, &[of.hex]);
+    put(rt, text, of.journal.unwrap_or("-"));
+    put(rt, text, of.extents.unwrap_or("-"))
+}
+
+/// Adds the words and options of `jb recover`, in the order of `RecoverOptions`.
+fn put_recover(rt: &impl Host, text: &mut String, image: &str, of: RecoverOptions) {
+    put_words(rt, text, &["recover", image]);
+    put(rt, text, of.journal.unwrap_or("-"));
+    put(rt, text, of.extents.unwrap_or("-"));
+    put_flags(rt, text, &[of.force, of.dry_run, of.list])
+}
+
+/// Adds the words and options of `jb load`, in the order of `LoadWords`.
+fn put_load(rt: &impl Host, text: &mut String, of: LoadWords) {
+    put_words(rt, text, &["load", of.image, of.file]);
+    put(rt, text, of.journal.unwrap_or("-"));
+    put_numbers(rt, text, &[of.threads]);
+    put_flags(rt, text, &[of.hold]);
+    put_numbers(rt, text, &[of.stamp]);
+    put_flags(rt, text, &[of.checkpoint])
+}
+
+/// Adds a command, its words and its options.
+fn put_plain(rt: &impl Host, text: &mut String, plain: Plain) {
+    match plain {
+        Plain::Cost { file } => put_words(rt, text, &["cost", file]),
+        Plain::Plan { file } => put_words(rt, text, &["plan", file]),
+        Plain::Check { file, cert } => put_words(rt, text, &["check", file, cert]),
+        Plain::Dump { file, options } => put_dump(rt, text, file, options),
+        Plain::Format { image, options } => put_format(rt, text, image, options),
+        Plain::Cat { image, options } => put_cat(rt, text, image, options),
+        Plain::Recover { image, options } => put_recover(rt, text, image, options),
+        Plain::Renumber { image } => put_words(rt, text, &["renumber", image]),
+        Plain::Widen { image } => put_words(rt, text, &["widen", image]),
+    }
+}
+
+/// What these words ask for: the command, its words and its options.
+fn asked(rt: &impl Host, words: &[&str]) -> String {
+    let mut text = String::new(rt.alloc());
+    match parse(rt.alloc(), words) {
+        Ok(CommandLine::Plain(plain)) => put_plain(rt, &mut text, plain),
+        Ok(CommandLine::Load(of)) => put_load(rt, &mut text, of),
+        Err(_) => fail(rt, "words that are refused"),
+    }
+    text
 }
 
 /// Command lines, and what they ask for.
@@ -60,21 +131,18 @@ static ROWS: [(&str, &str); 26] = [
         "format a.img --bs +1024 --journal 033 --homes 16",
         "format a.img 1024 33 16 0 00000000000000000000000000000000 false",
     ),
-    ("dump a", "dump a None None false false"),
-    ("dump --home 5 a", "dump a Some(5) None false false"),
+    ("dump a", "dump a - - false false"),
+    ("dump --home 5 a", "dump a 5 - false false"),
     (
         "dump a --last=18446744073709551615",
-        "dump a None Some(18446744073709551615) false false",
+        "dump a - 18446744073709551615 false false",
     ),
-    ("dump --super a", "dump a None None true false"),
-    ("dump --summary a", "dump a None None false true"),
-    (
-        "dump a --summary --last 2",
-        "dump a None Some(2) false true",
-    ),
+    ("dump --super a", "dump a - - true false"),
+    ("dump --summary a", "dump a - - false true"),
+    ("dump a --summary --last 2", "dump a - 2 false true"),
     (
         "dump --last 0 --super a --home=+07",
-        "dump a Some(7) Some(0) true false",
+        "dump a 7 0 true false",
     ),
     ("cat a.img 5", "cat a.img 5 1 false - -"),
     (
@@ -97,21 +165,21 @@ static ROWS: [(&str, &str); 26] = [
     ),
     (
         "load a.img queue.txt",
-        "load a.img queue.txt 1 0 false false",
+        "load a.img queue.txt - 1 false 0 false",
     ),
     (
         "load --hold a.img --threads 64 queue.txt",
-        "load a.img queue.txt 64 0 true false",
+        "load a.img queue.txt - 64 true 0 false",
     ),
     (
         "load --stamp=18446744073709551615 --checkpoint a.img queue.txt --threads=0",
-        "load a.img queue.txt 0 18446744073709551615 false true",
+        "load a.img queue.txt - 0 false 18446744073709551615 true",
     ),
 ];
 
 /// Checks what these words ask for.
 fn check_asked(rt: &impl Host, words: &[&str], wanted: &str, row: usize) {
-    let asked = asked(rt.alloc(), words).expect(rt, "words that are taken");
+    let asked = asked(rt, words);
     check_text(rt, asked.as_bytes(), wanted, "the command of row", row)
 }
 

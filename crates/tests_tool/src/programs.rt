@@ -34,21 +34,50 @@ static ROWS: [Row; 11] = [
     (Err(OutOfMemory), [true, true], (1, "", NO_MEMORY)),
 ];
 
-/// A run of the program with these words, on these terminals.
-fn check_program(rt: &impl Host, row: &Row, at: usize) {
-    let (line, [input, err], (status, out, told)) = *row;
-    let split = words_of(rt, line.unwrap_or(""));
-    let words = match line {
-        Ok(_) => Ok(split.as_slice()),
-        Err(kind) => Err(kind),
-    };
+/// What the program writes, and its status.
+#[derive(Drop)]
+struct Ended {
+    out: Vec<u8>,
+    err: Vec<u8>,
+    status: u8,
+}
+
+/// A run of the program with these words, on these terminals, over this input.
+fn ran(
+    rt: &impl Host,
+    words: Result<&[&str], ErrorKind>,
+    terminals: Terminals,
+    input: &mut &[u8],
+) -> Ended {
+    let (mut out, mut err) = (Vec::new(rt.alloc()), Vec::new(rt.alloc()));
+    let status = run_program(rt, words, terminals, input, &mut out, &mut err);
+    Ended { out, err, status }
+}
+
+/// The same of a row.
+fn ran_by(rt: &impl Host, row: &Row) -> Ended {
+    let (line, [input, err], _) = *row;
     let terminals = Terminals { input, err };
-    let mut rest = b"bs 1024\nlimit 8\n".as_slice();
-    let (mut is_out, mut is_err) = (Vec::new(rt.alloc()), Vec::new(rt.alloc()));
-    let is = run_program(rt, words, terminals, &mut rest, &mut is_out, &mut is_err);
-    check_text(rt, &is_err, told, "the program", at);
-    check_text(rt, &is_out, out, "the program", at);
-    check_number(rt, u64::from(is), u64::from(status), "the status", at)
+    let mut text = b"bs 1024\nlimit 8\n".as_slice();
+    match line {
+        Ok(line) => ran(rt, Ok(&words_of(rt, line)), terminals, &mut text),
+        Err(kind) => ran(rt, Err(kind), terminals, &mut text),
+    }
+}
+
+/// Checks how the program ends with the words of a row, on its terminals.
+fn check_program(rt: &impl Host, row: &Row, at: usize) {
+    let (status, out, told) = row.2;
+    let is = ran_by(rt, row);
+    check_text(rt, &is.err, told, "the program", at);
+    check_text(rt, &is.out, out, "the program", at);
+    check_number(
+        rt,
+        u64::from(is.status),
+        u64::from(status),
+        "the status",
+        at,
+    )
 }
 
 /// Checks that no words at a terminal are answered by the help, and that nothing is read.
@@ -58,18 +87,26 @@ fn check_help(rt: &impl Host) {
         err: true,
     };
     let mut input = b"bs 1024\nlimit 8\n".as_slice();
-    let (mut out, mut err) = (Vec::new(rt.alloc()), Vec::new(rt.alloc()));
-    let words: Result<&[&str], ErrorKind> = Ok(&[]);
-    let is = run_program(rt, words, terminals, &mut input, &mut out, &mut err);
-    check_at(rt, is == 2 && out.is_empty(), "the status of help", 0);
-    let begins = err.as_slice().starts_with(b"A block journal");
+    let is = ran(rt, Ok(&[]), terminals, &mut input);
+    check_at(
+        rt,
+        is.status == 2 && is.out.is_empty(),
+        "the status of help",
+        0,
+    );
+    let begins = is.err.as_slice().starts_with(b"A block journal");
     check_at(rt, begins && input.len() == 16, "the help", 0)
+}
+
+/// Checks each row, and the help.
+fn check_programs(rt: &impl Host) {
+    for (at, row) in ROWS.iter().enumerate() {
+        check_program(rt, row, at);
+    }
+    check_help(rt)
 }
 
 #[test]
 fn the_second_line_is_for_a_terminal(rt: HostRuntime) {
-    for (at, row) in ROWS.iter().enumerate() {
-        check_program(&rt, row, at);
-    }
-    check_help(&rt)
+    check_programs(&rt)
 }

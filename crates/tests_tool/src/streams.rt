@@ -139,27 +139,35 @@ fn each_line_is_one_write(rt: HostRuntime) {
 }
 
 /// An output that takes nothing, one that takes three bytes, and one that takes all and loses it when it is flushed.
-const TORN: [(usize, bool); 3] = [(0, false), (3, false), (1000, true)];
+static TORN: [(usize, bool); 3] = [(0, false), (3, false), (1000, true)];
+
+/// Checks that a run reports a standard output that fails so.
+fn check_torn_output(rt: &impl Host, line: &str, left: usize, stuck: bool, at: usize) {
+    let mut out = Torn { left, stuck };
+    let mut err = Vec::new(rt.alloc());
+    let mut rest = QUEUE;
+    let ended = run(rt, &words_of(rt, line), &mut rest, &mut out, &mut err);
+    check_status(rt, ended, 1, line, at);
+    check_text(rt, &err, "jb: WriteFault\n", line, at)
+}
 
 /// Checks that a run reports each standard output that fails.
 fn check_torn_outputs(rt: &impl Host, line: &str) {
     for (at, (left, stuck)) in TORN.iter().enumerate() {
-        let (left, stuck) = (*left, *stuck);
-        let mut out = Torn { left, stuck };
-        let mut err = Vec::new(rt.alloc());
-        let mut rest = QUEUE;
-        let ended = run(rt, &words_of(rt, line), &mut rest, &mut out, &mut err);
-        check_status(rt, ended, 1, line, at);
-        check_text(rt, &err, "jb: WriteFault\n", line, at);
+        check_torn_output(rt, line, *left, *stuck, at);
     }
 }
 
 /// Checks a command, help and the version, whose standard output fails.
+fn check_outputs(rt: &impl Host) {
+    for line in ["cost -", "--help", "--version"] {
+        check_torn_outputs(rt, line);
+    }
+}
+
 #[test]
 fn an_output_that_fails_is_reported(rt: HostRuntime) {
-    for line in ["cost -", "--help", "--version"] {
-        check_torn_outputs(&rt, line);
-    }
+    check_outputs(&rt)
 }
 
 /// The command line and the input of a run, and its status and what it writes to standard output.
@@ -171,24 +179,34 @@ static QUIETS: [Quiet; 3] = [
     ("coast", QUEUE, 2, ""),
 ];
 
-/// Checks that a run ends as its row says where standard error fails.
-fn check_torn_errors(rt: &impl Host, of: &Quiet, row: usize) {
+/// Checks that a run ends as its row says where standard error fails so.
+fn check_torn_error(rt: &impl Host, of: &Quiet, left: usize, stuck: bool, row: usize) {
     let (line, input, status, out) = *of;
-    for (left, stuck) in TORN {
-        let mut err = Torn { left, stuck };
-        let mut told = Vec::new(rt.alloc());
-        let mut rest = input;
-        let ended = run(rt, &words_of(rt, line), &mut rest, &mut told, &mut err);
-        check_status(rt, ended, status, line, row);
-        check_text(rt, &told, out, line, row);
+    let mut err = Torn { left, stuck };
+    let mut told = Vec::new(rt.alloc());
+    let mut rest = input;
+    let ended = run(rt, &words_of(rt, line), &mut rest, &mut told, &mut err);
+    check_status(rt, ended, status, line, row);
+    check_text(rt, &told, out, line, row)
+}
+
+/// Checks a run whose standard error fails, in each way.
+fn check_torn_errors(rt: &impl Host, of: &Quiet, row: usize) {
+    for (left, stuck) in &TORN {
+        check_torn_error(rt, of, *left, *stuck, row);
+    }
+}
+
+/// Checks each run whose standard error fails.
+fn check_errors(rt: &impl Host) {
+    for (row, of) in QUIETS.iter().enumerate() {
+        check_torn_errors(rt, of, row);
     }
 }
 
 #[test]
 fn a_failing_standard_error_changes_no_status(rt: HostRuntime) {
-    for (row, of) in QUIETS.iter().enumerate() {
-        check_torn_errors(&rt, of, row);
-    }
+    check_errors(&rt)
 }
 
 /// Checks that a run over this input writes this line, and does not flush an output to which it writes nothing.
@@ -204,11 +222,15 @@ fn check_unwritten<I: Read>(rt: &impl Host, input: &mut I, line: &str, at: usize
 }
 
 /// Checks an input that fails, and one that has nothing.
+fn check_inputs(rt: &impl Host) {
+    check_unwritten(rt, &mut Closed, "jb: cannot read -\n", 0);
+    let mut rest = b"".as_slice();
+    check_unwritten(rt, &mut rest, "jb: queue line 1: BlockSizeLine\n", 1)
+}
+
 #[test]
 fn an_input_that_fails_is_reported_and_an_output_that_is_not_written_is_not_flushed(
     rt: HostRuntime,
 ) {
-    check_unwritten(&rt, &mut Closed, "jb: cannot read -\n", 0);
-    let mut rest = b"".as_slice();
-    check_unwritten(&rt, &mut rest, "jb: queue line 1: BlockSizeLine\n", 1)
+    check_inputs(&rt)
 }

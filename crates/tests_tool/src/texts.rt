@@ -105,29 +105,33 @@ static ROWS: [Row; 24] = [
     ),
 ];
 
+/// A run of this command, which reads from this input.
+fn ran_plain(rt: &impl Host, plain: Plain, text: &[u8]) -> Outcome {
+    let mut rest = text;
+    let (mut out, mut err) = (Vec::new(rt.alloc()), Vec::new(rt.alloc()));
+    let ended = run_plain(rt, plain, &mut rest, &mut out, &mut err);
+    Outcome { ended, out, err }
+}
+
 /// Checks the first row, whose command is given by its value.
 fn check_plain(rt: &impl Host) {
     let (_, text, end) = ROWS[0];
-    let mut input = text;
-    let (mut out, mut err) = (Vec::new(rt.alloc()), Vec::new(rt.alloc()));
-    let cost = Plain::Cost { file: "-" };
-    let ended = run_plain(rt, cost, &mut input, &mut out, &mut err);
-    check_ran(
-        rt,
-        &Outcome { ended, out, err },
-        end,
-        "cost by its value",
-        0,
-    )
+    let ran = ran_plain(rt, Plain::Cost { file: "-" }, text);
+    check_ran(rt, &ran, end, "cost by its value", 0)
 }
 
-/// Checks each row of the table, with its files, and the first one by its value.
+/// Checks each row of the table.
 fn check_rows(rt: &impl Host) {
-    write(rt, "run.txt", QUEUE);
-    write(rt, "run.cert", CERT);
     for (row, (line, input, end)) in ROWS.iter().enumerate() {
         check_over(rt, line, input, *end, row);
     }
+}
+
+/// The same, with its files, and the first row by its value.
+fn check_runs(rt: &impl Host) {
+    write(rt, "run.txt", QUEUE);
+    write(rt, "run.cert", CERT);
+    check_rows(rt);
     remove(rt, "run.txt");
     remove(rt, "run.cert");
     remove(rt, "run.img");
@@ -136,7 +140,7 @@ fn check_rows(rt: &impl Host) {
 
 #[test]
 fn each_run_answers_its_row(rt: HostRuntime) {
-    check_rows(&rt)
+    check_runs(&rt)
 }
 
 /// Checks an input that is so many bytes longer than a text may be: all of them but one are left.
@@ -179,11 +183,16 @@ fn check_refusal(rt: &impl Abort, alloc: Global, kind: ErrorKind, status: u8, li
     check_text(rt, &err, line, "a refusal of status", usize::from(status))
 }
 
+/// Checks words that are no text, and words for which there is no memory.
+fn check_refusals(rt: &impl Abort, alloc: Global) {
+    let no_text = "error: invalid UTF-8 was detected in one or more arguments\n";
+    check_refusal(rt, alloc, ErrorKind::InvalidData, 2, no_text);
+    check_refusal(rt, alloc, ErrorKind::OutOfMemory, 1, "jb: Memory\n")
+}
+
 #[test]
 fn words_that_the_system_cannot_hand_over_are_refused(rt: HostRuntime) {
-    let no_text = "error: invalid UTF-8 was detected in one or more arguments\n";
-    check_refusal(&rt, rt.alloc(), ErrorKind::InvalidData, 2, no_text);
-    check_refusal(&rt, rt.alloc(), ErrorKind::OutOfMemory, 1, "jb: Memory\n")
+    check_refusals(&rt, rt.alloc())
 }
 
 /// Checks that a dump of this file leaves these bytes of this input.

@@ -1,9 +1,11 @@
 //! Loads with the answers that the journal's limits give by hand.
 
-use crate::small::{FOUR, HOMES, formatted, load_lent, recovered, tells};
+use crate::checks::{check_at, fail};
+use crate::lent::Fails;
+use crate::small::{FOUR, HOMES, Loads, check_recovered, check_told, formatted, load_lent};
 use jb_deck::OpenFault;
 use jb_tool::{LoadFault, LoadOptions};
-use std::test::Fail;
+use std::alloc::Global;
 use std::time::Duration;
 
 /// One worker, which ends before anything is committed.
@@ -63,7 +65,7 @@ const NO_HOMES: [u8; HOMES] = [0; HOMES];
 /// The last number but one.
 const LATE: u32 = 0xffff_fffe;
 
-const ROWS: [Row; 12] = [
+static ROWS: [Row; 12] = [
     (
         (0, 1),
         ("bs 1024\nlimit 8\nh w5=c03b399801020304 r7\n", HELD),
@@ -138,38 +140,73 @@ const ROWS: [Row; 12] = [
     ),
 ];
 
-#[test]
-fn loads_answer_as_worked_by_hand(rt: HostRuntime) -> Result<(), Fail> {
-    for ((most, number), (text, options), (out, err), found, homes) in ROWS {
-        let disk = formatted(rt.alloc(), most, number)?;
-        let (mut disk, answer) = load_lent(&rt, rt.alloc(), disk, Duration::ZERO, text, options)?;
-        let loaded = answer?;
-        let status = u8::from(!err.is_empty());
-        assert!(rt; tells(rt.alloc(), &loaded, out, err, status), "{loaded:?}");
-        assert_eq!(rt; recovered(rt.alloc(), &mut disk)?, (found, homes));
+/// Checks how a load ends, and what recovery finds then.
+fn check_load(rt: &impl Loads, alloc: Global, row: &Row, at: usize) {
+    let ((most, number), (text, options), says, found, homes) = *row;
+    let disk = formatted(rt, alloc, most, number);
+    let (mut disk, answer) = load_lent(
+        rt,
+        alloc,
+        disk,
+        Fails::Never,
+        Duration::ZERO,
+        text,
+        options,
+    );
+    match answer {
+        Ok(loaded) => check_told(rt, alloc, &loaded, says, at),
+        Err(_) => return fail(rt, "a load is refused"),
     }
-    Ok(())
+    check_recovered(rt, alloc, &mut disk, (found, homes), at)
+}
+
+/// Checks each row of the table.
+fn check_loads(rt: &impl Loads, alloc: Global) {
+    for (at, row) in ROWS.iter().enumerate() {
+        check_load(rt, alloc, row, at);
+    }
+}
+
+#[test]
+fn loads_answer_as_worked_by_hand(rt: HostRuntime) {
+    check_loads(&rt, rt.alloc())
 }
 
 /// What is loaded after a transaction of this number, and why it is not.
-const REFUSED: [(u32, &str, LoadFault); 2] = [
+static REFUSED: [(u32, &str, LoadFault); 2] = [
     (1, "bs 2048\nlimit 6\nh w1\n", LoadFault::BlockSize),
     (0xffff_ffff, FOUR, LoadFault::Open(OpenFault::NumbersSpent)),
 ];
 
-#[test]
-fn loads_are_refused_and_change_nothing(rt: HostRuntime) -> Result<(), Fail> {
-    for (number, text, fault) in REFUSED {
-        let disk = formatted(rt.alloc(), 6, number)?;
-        let (mut disk, answer) = load_lent(&rt, rt.alloc(), disk, Duration::ZERO, text, HELD)?;
-        assert_eq!(rt; answer, Err(fault));
-        assert_eq!(rt; recovered(rt.alloc(), &mut disk)?, ((0, 0), NO_HOMES));
+/// Checks that a load is refused, and that the journal stays as it was.
+fn check_refused(rt: &impl Loads, alloc: Global, of: &(u32, &'static str, LoadFault), row: usize) {
+    let (number, text, fault) = *of;
+    let disk = formatted(rt, alloc, 6, number);
+    let (mut disk, answer) = load_lent(rt, alloc, disk, Fails::Never, Duration::ZERO, text, HELD);
+    check_at(rt, answer == Err(fault), "the refusal of row", row);
+    check_recovered(rt, alloc, &mut disk, ((0, 0), NO_HOMES), row)
+}
+
+/// Checks that a journal that needs recovery is loaded once.
+fn check_second(rt: &impl Loads, alloc: Global) {
+    let disk = formatted(rt, alloc, 6, 1);
+    let (disk, first) = load_lent(rt, alloc, disk, Fails::Never, Duration::ZERO, FOUR, HELD);
+    check_at(rt, first.is_ok(), "the answer of load", 1);
+    let (mut disk, second) = load_lent(rt, alloc, disk, Fails::Never, Duration::ZERO, FOUR, HELD);
+    let fault = LoadFault::Open(OpenFault::NeedsRecovery);
+    check_at(rt, second == Err(fault), "the answer of load", 2);
+    check_recovered(rt, alloc, &mut disk, ((2, 5), FOUR_HOMES), 2)
+}
+
+/// Checks each refusal.
+fn check_refusals(rt: &impl Loads, alloc: Global) {
+    for (row, of) in REFUSED.iter().enumerate() {
+        check_refused(rt, alloc, of, row);
     }
-    let disk = formatted(rt.alloc(), 6, 1)?;
-    let (disk, first) = load_lent(&rt, rt.alloc(), disk, Duration::ZERO, FOUR, HELD)?;
-    assert!(rt; first.is_ok());
-    let (mut disk, second) = load_lent(&rt, rt.alloc(), disk, Duration::ZERO, FOUR, HELD)?;
-    assert_eq!(rt; second, Err(LoadFault::Open(OpenFault::NeedsRecovery)));
-    assert_eq!(rt; recovered(rt.alloc(), &mut disk)?, ((2, 5), FOUR_HOMES));
-    Ok(())
+    check_second(rt, alloc)
+}
+
+#[test]
+fn loads_are_refused_and_change_nothing(rt: HostRuntime) {
+    check_refusals(&rt, rt.alloc())
 }
