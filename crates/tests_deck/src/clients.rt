@@ -11,7 +11,7 @@ use jb_deck::{Deck, Prepared, laws};
 use jb_disk::{Disk, MemoryDisk};
 use jb_handle::Shape;
 use proof_clients::{Failure, Life, Lived, commit_and_close, commit_three, reuse_home, run_lives};
-use tests_support::{Bench, Must, Test, check, check_at, read_at};
+use tests_support::{Bench, Must, Test, check, check_at, read_at, write_at, zeros};
 
 /// What the handles of a batch for the journal have to fit.
 const SHAPE: Shape = Shape {
@@ -90,10 +90,26 @@ fn check_late(test: &impl Bench) {
     check_recovered(test, &mut disk, (0, 0, 0, 2), [0, 0, 0, 0])
 }
 
+/// Checks a batch for a disk that has no journal: the disk is given back as it was.
+fn check_unopened(test: &impl Bench) {
+    let mut disk = zeros(test, test.alloc(), BlockSize::OneKib, 49);
+    write_at(test, &mut disk, 0, &[0x55; 1024]);
+    let given = commit_and_close(test.alloc(), disk, batch(test, 0, TWO_HANDLES), STAMP).err();
+    let mut disk = given.must(test, "a batch is committed where there is no journal");
+    let mut block = [0; 1024];
+    read_at(test, &mut disk, 0, &mut block);
+    check(
+        test,
+        block == [0x55; 1024],
+        "block 0 of what has no journal",
+    )
+}
+
 fn check_closed(test: &impl Bench) {
     check_three(test);
     check_one(test);
-    check_late(test)
+    check_late(test);
+    check_unopened(test)
 }
 
 #[test]

@@ -14,7 +14,11 @@ mod images;
 #[cfg(test)]
 mod journals;
 #[cfg(test)]
+mod lost;
+#[cfg(test)]
 mod makings;
+#[cfg(test)]
+mod recoveries;
 #[cfg(test)]
 mod telling;
 #[cfg(test)]

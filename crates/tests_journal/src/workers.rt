@@ -5,8 +5,8 @@ ghost use Rattle.jb_journal.specs.Client.{IsClient};
 use crate::checks::{By, Host};
 use crate::journals::{CLOCK, by, formatted, homes};
 use jb_journal::{
-    BlockSize, Client, Clock, Disk, Ended, Handle, HandleFault, MemoryDisk, OpenFault, Options,
-    Origin, Ran, RunFault, TouchFault, WaitFault, Worker, recover, run,
+    BlockSize, Client, Clock, Disk, Ended, Entry, Handle, HandleFault, MemoryDisk, OpenFault,
+    Options, Origin, Ran, RunFault, TouchFault, WaitFault, Worker, recover, run,
 };
 use std::sync::Wait;
 use std::sync::ledger::Ledger;
@@ -14,16 +14,16 @@ use std::time;
 use tests_support::{Must, Test, check, check_at, crashed};
 
 /// What a worker found: what its change answered, how its ticket was waited for, and what its home held then.
-type Found = (
+pub type Found = (
     Result<u8, HandleFault<TouchFault>>,
     Option<Result<u32, WaitFault>>,
     Option<u8>,
 );
 
-/// Each worker writes its place and one to two homes, by one handle of so many credits; the second home is this much
-/// after the first.
+/// Each worker writes one more than its place to two homes, by one handle of so many credits; the second home is this
+/// much after the first.
 #[derive(Drop)]
-struct Pairs {
+pub struct Pairs {
     credits: u32,
     apart: u64,
 }
@@ -38,7 +38,7 @@ impl Worker<Found> for Pairs {
         requires client { IsClient H.begun client.old }
     {
         let (home, apart) = (at as u64 % 8, self.apart % 100);
-        let byte = (at % 200) as u8;
+        let byte = ((at % 200) as u8).saturating_add(1);
         let changed = client.change(
             self.credits,
             |handle: &mut Handle<()>| -> Result<u8, TouchFault> {
@@ -60,13 +60,13 @@ impl Worker<Found> for Pairs {
 }
 
 /// Each worker writes two homes side by side.
-static PAIRS: Pairs = Pairs {
+pub static PAIRS: Pairs = Pairs {
     credits: 2,
     apart: 1,
 };
 
 /// A journal on a disk is run by such workers.
-fn run_on<D: Disk + Drop + Send>(
+pub fn run_on<D: Disk + Drop + Send>(
     rt: &impl Host,
     disk: D,
     options: Options,
@@ -78,7 +78,7 @@ fn run_on<D: Disk + Drop + Send>(
 }
 
 /// A new journal is run by them.
-fn run_new(rt: &impl Host, options: Options, pairs: &Pairs) -> Ran<Found, MemoryDisk>
+pub fn run_new(rt: &impl Host, options: Options, pairs: &Pairs) -> Ran<Found, MemoryDisk>
     requires { (1 ≤ options.workers) × (options.workers ≤ 64) }
 {
     let test = By(rt, rt.alloc());
@@ -100,18 +100,22 @@ fn run_again<D: Disk + Drop + Send>(
     }
 }
 
-/// Checks what four workers found.
-fn check_found(test: &impl Test, answers: &[Found]) {
+/// Whether what a wait has answered is the number of a transaction of the trail.
+fn is_numbered(waited: &Option<Result<u32, WaitFault>>, trail: &[Entry]) -> bool {
+    match waited {
+        Some(Ok(number)) => trail.iter().any(|entry| entry.number == *number),
+        _ => false,
+    }
+}
+
+/// Checks what four workers found, whose handles the transactions of a trail have.
+fn check_found(test: &impl Test, answers: &[Found], trail: &[Entry]) {
     check(test, answers.len() == 4, "how many workers answer");
     for (at, (changed, waited, read)) in answers.iter().enumerate() {
         let worker = at as u64;
-        check_at(
-            test,
-            *changed == Ok(at as u8),
-            "the change of worker",
-            worker,
-        );
-        let is_waited = matches!(waited, Some(Ok(_)));
+        let byte = (at as u8).saturating_add(1);
+        check_at(test, *changed == Ok(byte), "the change of worker", worker);
+        let is_waited = is_numbered(waited, trail);
         check_at(test, is_waited, "the wait of worker", worker);
         check_at(test, read.is_some(), "the read of worker", worker);
     }
@@ -120,11 +124,11 @@ fn check_found(test: &impl Test, answers: &[Found]) {
 /// Checks the homes that four workers have left.
 fn check_homes(test: &impl Test, found: [u8; 10]) {
     // home 0 is of the first worker alone, and home 4 of the last; each other one is of one of two
-    check(test, found[0] == 0, "home 0");
-    check(test, found[1] <= 1, "home 1");
-    check(test, found[2] >= 1, "home 2");
-    check(test, found[3] >= 2, "home 3");
-    check(test, found[4] == 3, "home 4");
+    check(test, found[0] == 1, "home 0");
+    check(test, found[1] == 1 || found[1] == 2, "home 1");
+    check(test, found[2] == 2 || found[2] == 3, "home 2");
+    check(test, found[3] == 3 || found[3] == 4, "home 3");
+    check(test, found[4] == 4, "home 4");
     check(test, found[5] == 0, "home 5");
 }
 
@@ -132,7 +136,7 @@ fn check_homes(test: &impl Test, found: [u8; 10]) {
 fn check_waited(rt: &impl Host) {
     let test = By(rt, rt.alloc());
     let ran = run_new(rt, by(4), &PAIRS);
-    check_found(&test, &ran.answers);
+    check_found(&test, &ran.answers, &ran.trail);
     check(&test, ran.handles == 4, "how many handles stop");
     check(&test, ran.changes == 8, "how many homes are changed");
     check(
