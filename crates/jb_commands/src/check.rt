@@ -1,11 +1,13 @@
-ghost use Rattle.std.specs.Prelude.{◌≡◌, ◌+◌, ◌++◌, IfOk, Some, codes, length, string_bytes};
+ghost use Rattle.std.specs.Prelude.{◌≡◌, ◌+◌, ◌++◌, [], IfOk, None, Some, codes, decimal, length};
 ghost use Rattle.jb_queue.specs.QueueText.{value_of};
 ghost use Rattle.jb_handle.specs.Size.{IsWithinSize};
-ghost use Rattle.jb_price.specs.declared.verdict.Verdict.TheVariants.{Accepted, Refused};
-ghost use Rattle.jb_commands.specs.Check.{IsVerdictOn, SaysCheck, cert_fault, reason_text, verdict_text};
+ghost use Rattle.jb_price.specs.declared.fault.CertFault.TheVariants.{Syntax};
+ghost use Rattle.jb_price.specs.declared.verdict.Verdict.TheVariants.{Refused};
+ghost use Rattle.jb_commands.specs.Check.{IsVerdictOn, SaysCheck, cert_fault, verdict_text};
 ghost use Rattle.jb_commands.specs.AnswerSaid.{said};
 
 use crate::command_output::CommandOutput;
+use itoa::Buffer;
 use jb_args::Hint;
 use jb_block::Memory;
 use jb_cost::Geometry;
@@ -46,70 +48,63 @@ fn verdict_told(alloc: Global, verdict: Verdict) -> Result<CommandOutput, Memory
     ensures said { IfOk result (λ answer. said answer ≡ verdict_text verdict) }
 {
     match verdict {
-        Verdict::Accepted => accepted(alloc),
+        Verdict::Accepted => CommandOutput::told(alloc, 0, &["accepted\n"]),
         Verdict::Refused(reason) => refused(alloc, reason),
     }
 }
 
-/// The line of a certificate that is accepted.
-fn accepted(alloc: Global) -> Result<CommandOutput, Memory>
-    ensures said { IfOk result (λ answer. said answer ≡ verdict_text Accepted) }
-{
-    let out = format!(in alloc; "accepted\n")?;
-    Ok(CommandOutput {
-        status: 0,
-        out,
-        err: String::new(alloc),
-        hint: None,
-    })
-}
-
-/// The line of one that is refused for this.
+/// The line of a certificate that is refused for this.
 fn refused(alloc: Global, reason: Reason) -> Result<CommandOutput, Memory>
     ensures said { IfOk result (λ answer. said answer ≡ verdict_text (Refused reason)) }
 {
-    let out = reason_line(alloc, reason)?;
-    Ok(CommandOutput {
-        status: 1,
-        out,
-        err: String::new(alloc),
-        hint: None,
-    })
+    match reason {
+        Reason::OpeningPrice => CommandOutput::told(alloc, 1, &["refused OpeningPrice\n"]),
+        Reason::Undercut(from, to) => refused_piece(alloc, "refused Undercut ", from, to),
+        Reason::NotACut => CommandOutput::told(alloc, 1, &["refused NotACut\n"]),
+        Reason::OverLimit(from, to) => refused_piece(alloc, "refused OverLimit ", from, to),
+        Reason::TotalDiffers => CommandOutput::told(alloc, 1, &["refused TotalDiffers\n"]),
+        Reason::EndPrice => CommandOutput::told(alloc, 1, &["refused EndPrice\n"]),
+    }
 }
 
-/// The text of that line.
-fn reason_line(alloc: Global, reason: Reason) -> Result<String, Memory>
-    ensures { IfOk result (λ line. string_bytes line ≡ codes "refused " ++ reason_text reason) }
+/// The same with the bounds of a piece after the words.
+fn refused_piece(
+    alloc: Global,
+    words: &str,
+    from: usize,
+    to: usize,
+) -> Result<CommandOutput, Memory>
+    ensures said { IfOk result (λ answer. said answer ≡ record {
+      status = 1;
+      out = words.now ++ (decimal from ++ (codes " " ++ (decimal to ++ codes "\n")));
+      err = [];
+      hint = None;
+    }) }
 {
-    match reason {
-        Reason::OpeningPrice => format!(in alloc; "refused OpeningPrice\n"),
-        Reason::Undercut(from, to) => format!(in alloc; "refused Undercut {from} {to}\n"),
-        Reason::NotACut => format!(in alloc; "refused NotACut\n"),
-        Reason::OverLimit(from, to) => format!(in alloc; "refused OverLimit {from} {to}\n"),
-        Reason::TotalDiffers => format!(in alloc; "refused TotalDiffers\n"),
-        Reason::EndPrice => format!(in alloc; "refused EndPrice\n"),
-    }
+    let (mut first, mut second) = (Buffer::new(), Buffer::new());
+    let parts = [words, first.format(from), " ", second.format(to), "\n"];
+    CommandOutput::told(alloc, 1, &parts)
 }
 
 /// The line for a text that is no certificate of the queue.
 fn cert_fault_told(alloc: Global, fault: CertFault) -> Result<CommandOutput, Memory>
     ensures said { IfOk result (λ answer. cert_fault fault ≡ Some (said answer)) }
 {
-    let (err, hint) = match fault {
-        CertFault::Syntax(line) => (
-            format!(in alloc; "jb: certificate: Syntax {line}\n")?,
-            Hint::CertificateSyntax,
-        ),
-        CertFault::Length => (
-            format!(in alloc; "jb: certificate: Length\n")?,
-            Hint::CertificateLength,
-        ),
-        CertFault::Memory => return Err(Memory),
-    };
-    Ok(CommandOutput {
-        status: 2,
-        out: String::new(alloc),
-        err,
-        hint: Some(hint),
-    })
+    match fault {
+        CertFault::Syntax(line) => syntax_told(alloc, line),
+        CertFault::Length => {
+            let line = ["jb: certificate: Length\n"];
+            CommandOutput::fault(alloc, Hint::CertificateLength, &line)
+        }
+        CertFault::Memory => Err(Memory),
+    }
+}
+
+/// The line for a text whose line of this number breaks the form.
+fn syntax_told(alloc: Global, line: u64) -> Result<CommandOutput, Memory>
+    ensures said { IfOk result (λ answer. cert_fault (Syntax line) ≡ Some (said answer)) }
+{
+    let mut digits = Buffer::new();
+    let parts = ["jb: certificate: Syntax ", digits.format(line), "\n"];
+    CommandOutput::fault(alloc, Hint::CertificateSyntax, &parts)
 }

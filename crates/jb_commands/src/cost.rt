@@ -4,6 +4,7 @@ ghost use Rattle.jb_commands.specs.Cost.{cost_line, cost_said};
 
 use crate::command_output::CommandOutput;
 use crate::queue_fault::fault_answer;
+use itoa::Buffer;
 use jb_block::Memory;
 use jb_cost::{Geometry, group_cost};
 use jb_queue::read_queue;
@@ -32,21 +33,10 @@ pub fn cost_answer(alloc: Global, text: &[u8]) -> Result<CommandOutput, Memory>
 fn cost_told(alloc: Global, cost: u64, limit: u32) -> Result<CommandOutput, Memory>
     ensures said { IfOk result (λ answer. said answer ≡ cost_line cost limit) }
 {
-    if cost <= u64::from(limit) {
-        let out = format!(in alloc; "cost {cost} limit {limit} fits\n")?;
-        Ok(CommandOutput {
-            status: 0,
-            out,
-            err: String::new(alloc),
-            hint: None,
-        })
-    } else {
-        let out = format!(in alloc; "cost {cost} limit {limit} over\n")?;
-        Ok(CommandOutput {
-            status: 1,
-            out,
-            err: String::new(alloc),
-            hint: None,
-        })
+    let (mut costs, mut limits) = (Buffer::new(), Buffer::new());
+    let (costs, limits) = (costs.format(cost), limits.format(limit));
+    if cost > u64::from(limit) {
+        return CommandOutput::told(alloc, 1, &["cost ", costs, " limit ", limits, " over\n"]);
     }
+    CommandOutput::told(alloc, 0, &["cost ", costs, " limit ", limits, " fits\n"])
 }

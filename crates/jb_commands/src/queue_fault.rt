@@ -3,6 +3,7 @@ ghost use Rattle.jb_commands.specs.QueueFaults.{cause_told, queue_fault};
 ghost use Rattle.jb_commands.specs.AnswerSaid.{said};
 
 use crate::command_output::CommandOutput;
+use itoa::Buffer;
 use jb_args::Hint;
 use jb_block::Memory;
 use jb_queue::{Cause, QueueFault};
@@ -15,17 +16,18 @@ use std::alloc::Global;
 pub fn fault_answer(alloc: Global, fault: QueueFault) -> Result<CommandOutput, Memory>
     ensures said { IfOk result (λ answer. queue_fault fault ≡ Some (said answer)) }
 {
-    let line = fault.line;
     let Some((cause, hint)) = told_as(fault.cause) else {
         return Err(Memory);
     };
-    let err = format!(in alloc; "jb: queue line {line}: {cause}\n")?;
-    Ok(CommandOutput {
-        status: 2,
-        out: String::new(alloc),
-        err,
-        hint: Some(hint),
-    })
+    let mut digits = Buffer::new();
+    let parts = [
+        "jb: queue line ",
+        digits.format(fault.line),
+        ": ",
+        cause,
+        "\n",
+    ];
+    CommandOutput::fault(alloc, hint, &parts)
 }
 
 /// The name of what is wrong with a line, and its hint; of memory that ran out there is none.

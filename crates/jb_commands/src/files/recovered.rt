@@ -4,7 +4,7 @@ ghost use Rattle.jb_image.specs.Files.{as_disks};
 ghost use Rattle.jb_args.specs.PlainCommand.{recover_said};
 ghost use Rattle.jb_commands.specs.Foresee.{foreseen_end as foreseen_so, own_checked};
 ghost use Rattle.jb_commands.specs.JournalPlace.{EndsOfRecover, is_apart as stands_apart, is_beside as stands_beside};
-ghost use Rattle.jb_commands.specs.JournalPlace.{ChecksOwn, ForeseesImage, JudgesBeside, RecoversImage, RecoversOpened};
+ghost use Rattle.jb_commands.specs.JournalPlace.{JudgesBeside, RecoversImage, RecoversOpened};
 
 use crate::command_end::CommandEnd;
 use crate::fault::CommandFault;
@@ -82,7 +82,8 @@ fn recover_opened<'a, D: Disk, E: Disk>(
         Err(fault) => return Err(fault),
     }
     if dry_run {
-        foresee_image(alloc, disk, homes, list)
+        let answer = foresee(alloc, disk);
+        foreseen_end(disk, homes, list, answer)
     } else {
         recover_image(alloc, disk, homes)
     }
@@ -130,22 +131,6 @@ fn judge_beside<'a, D: Disk>(
     }
 }
 
-/// Reports what a recovery of an image would do.
-///
-/// # Errors
-/// Those of a recovery; `CommandFault::Extents` where a copy is for a home block that is one of the journal's own.
-fn foresee_image<'a, D: Disk, E: Disk>(
-    alloc: Global,
-    disk: &mut ImageDisk<D, E>,
-    homes: u64,
-    list: bool,
-) -> Result<Report, CommandFault<'a>>
-    ensures foresees { ForeseesImage (as_disks D.Disk E.Disk) homes list disk.old disk.new result }
-{
-    let answer = foresee(alloc, disk);
-    foreseen_end(disk, homes, list, answer)
-}
-
 /// What was foreseen of an image, as the command's end.
 fn foreseen_end<'a, D: Disk, E: Disk>(
     disk: &ImageDisk<D, E>,
@@ -164,10 +149,11 @@ fn foreseen_end<'a, D: Disk, E: Disk>(
     }
 }
 
-/// Recovers an image.
+/// Recovers an image. Where its journal stands within its home blocks, it is foreseen first whether no copy is for one
+/// of those.
 ///
 /// # Errors
-/// Those of `check_own` and of `recover_on`.
+/// Those of `recover_on`, and `CommandFault::Extents` for such a copy: nothing is written then.
 fn recover_image<'a, D: Disk, E: Disk>(
     alloc: Global,
     disk: &mut ImageDisk<D, E>,
@@ -175,30 +161,13 @@ fn recover_image<'a, D: Disk, E: Disk>(
 ) -> Result<Report, CommandFault<'a>>
     ensures recovers { RecoversImage (as_disks D.Disk E.Disk) homes disk.old disk.new result }
 {
-    match check_own(alloc, disk, homes) {
+    if !disk.is_within() {
+        return recover_on(alloc, disk, Some(homes));
+    }
+    let answer = foresee(alloc, disk);
+    match own_end(disk, homes, answer) {
         Ok(()) => recover_on(alloc, disk, Some(homes)),
         Err(fault) => Err(fault),
-    }
-}
-
-/// Where the journal of an image stands within its home blocks: whether no copy is for one of those. Nothing is
-/// written.
-///
-/// # Errors
-/// Those of a recovery that comes before its first write; `CommandFault::Extents` for such a copy.
-fn check_own<'a, D: Disk, E: Disk>(
-    alloc: Global,
-    disk: &mut ImageDisk<D, E>,
-    homes: u64,
-) -> Result<(), CommandFault<'a>>
-    ensures checks { ChecksOwn (as_disks D.Disk E.Disk) homes disk.old disk.new result }
-{
-    let within = disk.is_within();
-    if within {
-        let answer = foresee(alloc, disk);
-        own_end(disk, homes, answer)
-    } else {
-        Ok(())
     }
 }
 

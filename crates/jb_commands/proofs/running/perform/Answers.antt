@@ -27,3 +27,32 @@ returns-in-Renumber-clause-ends g c = rw c.in-Renumber.is (c.renumber_file.ensur
 
 pub returns-in-Widen-clause-ends : goal.returns-in-Widen-clause-ends
 returns-in-Widen-clause-ends g c = rw c.in-Widen.is (c.widen_file.ensures.ends, refl)
+
+-- ---- what is not read stays
+
+pub returns-in-Cost-clause-unread : goal.returns-in-Cost-clause-unread
+returns-in-Cost-clause-unread g c = rw c.in-Cost.is c.perform_cost.ensures.unread
+
+pub returns-in-Plan-clause-unread : goal.returns-in-Plan-clause-unread
+returns-in-Plan-clause-unread g c = rw c.in-Plan.is c.perform_plan.ensures.unread
+
+pub returns-in-Check-clause-unread : goal.returns-in-Check-clause-unread
+returns-in-Check-clause-unread g c = λ _. refl
+
+pub returns-in-Dump-clause-unread : goal.returns-in-Dump-clause-unread
+returns-in-Dump-clause-unread g c = rw c.in-Dump.is c.dump_named.ensures.unread
+
+pub returns-in-Format-clause-unread : goal.returns-in-Format-clause-unread
+returns-in-Format-clause-unread g c = λ _. refl
+
+pub returns-in-Cat-clause-unread : goal.returns-in-Cat-clause-unread
+returns-in-Cat-clause-unread g c = λ _. refl
+
+pub returns-in-Recover-clause-unread : goal.returns-in-Recover-clause-unread
+returns-in-Recover-clause-unread g c = λ _. refl
+
+pub returns-in-Renumber-clause-unread : goal.returns-in-Renumber-clause-unread
+returns-in-Renumber-clause-unread g c = λ _. refl
+
+pub returns-in-Widen-clause-unread : goal.returns-in-Widen-clause-unread
+returns-in-Widen-clause-unread g c = λ _. refl

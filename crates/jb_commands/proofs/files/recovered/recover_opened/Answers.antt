@@ -8,7 +8,16 @@ returns-in-Err g c = record {
 
 pub returns-then-dry_run : goal.returns-then-dry_run
 returns-then-dry_run g c = record {
-  recovers = (c.judge_beside.new.disk, Ok tt, rw (c.is_beside-beside.ensures, c.is_apart-copied.ensures) at c.in-Ok.ensures.judges, rw c.if-dry_run.true c.foresee_image.ensures.foresees);
+  recovers = (
+    c.judge_beside.new.disk,
+    Ok tt,
+    rw (c.is_beside-beside.ensures, c.is_apart-copied.ensures) at c.in-Ok.ensures.judges,
+    rw c.if-dry_run.true (
+      c.foresee-answer.result,
+      record { passed = c.foresee-answer.ensures.passed; foresees = c.foresee-answer.ensures.foresees },
+      c.foreseen_end.ensures,
+    ),
+  );
 }
 
 pub returns-else-dry_run : goal.returns-else-dry_run
