@@ -81,7 +81,8 @@ fn refused_piece(
       hint = None;
     }) }
 {
-    let (mut first, mut second) = (Buffer::new(), Buffer::new());
+    let mut first = Buffer::new();
+    let mut second = Buffer::new();
     let parts = [words, first.format(from), " ", second.format(to), "\n"];
     CommandOutput::told(alloc, 1, &parts)
 }

@@ -33,8 +33,10 @@ pub fn cost_answer(alloc: Global, text: &[u8]) -> Result<CommandOutput, Memory>
 fn cost_told(alloc: Global, cost: u64, limit: u32) -> Result<CommandOutput, Memory>
     ensures said { IfOk result (λ answer. said answer ≡ cost_line cost limit) }
 {
-    let (mut costs, mut limits) = (Buffer::new(), Buffer::new());
-    let (costs, limits) = (costs.format(cost), limits.format(limit));
+    let mut costs = Buffer::new();
+    let mut limits = Buffer::new();
+    let costs = costs.format(cost);
+    let limits = limits.format(limit);
     if cost > u64::from(limit) {
         return CommandOutput::told(alloc, 1, &["cost ", costs, " limit ", limits, " over\n"]);
     }

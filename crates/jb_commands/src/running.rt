@@ -167,8 +167,7 @@ pub fn run_plain<R: Files<File = File> + AllocGlobal, I: Read, O: Write, E: Writ
     ensures unread { reads_input (asks plain.entry) ≡ false → input.new ≡ input.old }
 {
     let done = perform::<Unknown, Unknown, R, I, O, E>(rt, plain, input, out, err);
-    let told = done.tell(out);
-    close(told, files_of(plain), err)
+    close(done.tell(out), files_of(plain), err)
 }
 
 /// The program's end at the end of a command, over these files where they are two; of one that ended without an answer

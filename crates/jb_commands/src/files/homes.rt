@@ -26,10 +26,17 @@ pub fn cat_file<'a, S: Start, T: Start, R: Files<File = File> + AllocGlobal, O: 
     ensures ends { EndsOfCat image.entry.now (cat_said options.entry) (O.contents out.old) (O.contents out.new)
         result.image result.end }
 {
-    let (home, count, hex) = (options.home, options.count, options.hex);
     match open_placed(rt, image, options.journal, options.extents, Opening::Read) {
         Ok((mut disk, homes)) => {
-            let told = show_on(rt.alloc(), &mut disk, home, count, hex, Some(homes), out);
+            let told = show_on(
+                rt.alloc(),
+                &mut disk,
+                options.home,
+                options.count,
+                options.hex,
+                Some(homes),
+                out,
+            );
             CommandEnd {
                 image: Some(disk),
                 end: status_end(told),

@@ -76,14 +76,13 @@ fn recover_opened<'a, D: Disk, E: Disk>(
 {
     let beside = is_beside(options.journal, options.extents);
     let copied = is_apart(options.journal);
-    let (list, dry_run) = (options.list, options.dry_run);
     match judge_beside(disk, beside, copied, options.force) {
         Ok(()) => {}
         Err(fault) => return Err(fault),
     }
-    if dry_run {
+    if options.dry_run {
         let answer = foresee(alloc, disk);
-        foreseen_end(disk, homes, list, answer)
+        foreseen_end(disk, homes, options.list, answer)
     } else {
         recover_image(alloc, disk, homes)
     }

@@ -70,8 +70,10 @@ pub(crate) fn tell_renumbered<O: Write>(
 ) -> Result<ProgramEnd, WriteFault>
     ensures { TellsLine (renumbered_line done) (O.contents out.old) (O.contents out.new) (line_end result) }
 {
-    let (mut blocks, mut next) = (Buffer::new(), Buffer::new());
-    let (blocks, next) = (blocks.format(done.blocks), next.format(done.next));
+    let mut blocks = Buffer::new();
+    let mut next = Buffer::new();
+    let blocks = blocks.format(done.blocks);
+    let next = next.format(done.next);
     tell_line(out, &["renumbered blocks ", blocks, " next ", next, "\n"])
 }
 

@@ -150,13 +150,14 @@ fn put_numbers<W: Write>(writer: &mut W, words: &str, numbers: Numbers, name: Op
     ensures puts { PutsPart (W.contents writer.old) (W.contents writer.new)
         (line_naming (parts_of words.now numbers) (option_map (λ name. name.now) name.entry)) }
 {
-    let (mut first, mut second) = (Buffer::new(), Buffer::new());
+    let mut first = Buffer::new();
+    let mut second = Buffer::new();
     match numbers {
         Numbers::None => put_line(writer, &[words], name),
         Numbers::One(number) => put_line(writer, &[words, first.format(number)], name),
         Numbers::Two(one, two) => {
-            let (one, two) = (first.format(one), second.format(two));
-            put_line(writer, &[words, one, " ", two], name);
+            let one = first.format(one);
+            put_line(writer, &[words, one, " ", second.format(two)], name);
         }
     }
 }

@@ -52,8 +52,10 @@ pub(crate) fn tell_recovered<O: Write>(
 ) -> Result<ProgramEnd, WriteFault>
     ensures { TellsLine (recovered_line done) (O.contents out.old) (O.contents out.new) (line_end result) }
 {
-    let (mut transactions, mut copies) = (Buffer::new(), Buffer::new());
-    let (mut revoked, mut next) = (Buffer::new(), Buffer::new());
+    let mut transactions = Buffer::new();
+    let mut copies = Buffer::new();
+    let mut revoked = Buffer::new();
+    let mut next = Buffer::new();
     let line = [
         "transactions ",
         transactions.format(done.transactions),

@@ -8,9 +8,9 @@ returns-clause-runs g c = (
   record { out = g.O.Write.contents c.perform-done.new.out; err = g.E.Write.contents c.perform-done.new.err },
   c.perform-done.ensures.ends,
   (
-    c.tell-told.result,
-    record { out = g.O.Write.contents c.tell-told.new.out; err = g.E.Write.contents c.perform-done.new.err },
-    (c.tell-told.ensures, refl),
-    rw c.files_of.ensures at c.close.ensures (g.O.Write.contents c.tell-told.new.out),
+    c.tell.result,
+    record { out = g.O.Write.contents c.tell.new.out; err = g.E.Write.contents c.perform-done.new.err },
+    (c.tell.ensures, refl),
+    rw c.files_of.ensures at c.close.ensures (g.O.Write.contents c.tell.new.out),
   ),
 )

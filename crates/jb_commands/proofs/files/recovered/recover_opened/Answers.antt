@@ -6,13 +6,13 @@ returns-in-Err g c = record {
   recovers = (c.judge_beside.new.disk, Err c.in-Err.fault, rw (c.is_beside-beside.ensures, c.is_apart-copied.ensures) at c.in-Err.ensures.judges, (refl, refl));
 }
 
-pub returns-then-dry_run : goal.returns-then-dry_run
-returns-then-dry_run g c = record {
+pub returns-then-options : goal.returns-then-options
+returns-then-options g c = record {
   recovers = (
     c.judge_beside.new.disk,
     Ok tt,
     rw (c.is_beside-beside.ensures, c.is_apart-copied.ensures) at c.in-Ok.ensures.judges,
-    rw c.if-dry_run.true (
+    rw c.if-options.true (
       c.foresee-answer.result,
       record { passed = c.foresee-answer.ensures.passed; foresees = c.foresee-answer.ensures.foresees },
       c.foreseen_end.ensures,
@@ -20,7 +20,7 @@ returns-then-dry_run g c = record {
   );
 }
 
-pub returns-else-dry_run : goal.returns-else-dry_run
-returns-else-dry_run g c = record {
-  recovers = (c.judge_beside.new.disk, Ok tt, rw (c.is_beside-beside.ensures, c.is_apart-copied.ensures) at c.in-Ok.ensures.judges, rw c.if-dry_run.false c.recover_image.ensures.recovers);
+pub returns-else-options : goal.returns-else-options
+returns-else-options g c = record {
+  recovers = (c.judge_beside.new.disk, Ok tt, rw (c.is_beside-beside.ensures, c.is_apart-copied.ensures) at c.in-Ok.ensures.judges, rw c.if-options.false c.recover_image.ensures.recovers);
 }
