@@ -3,11 +3,12 @@ ghost use Rattle.std.specs.Str.{bytes_eq};
 ghost use Rattle.jb_commands.specs.Dump.{DumpsFile, DumpsNamed, choice_of};
 
 use crate::fault::CommandFault;
+use crate::files::texts::unopened;
 use crate::streams::dump_from;
 use jb_args::DumpOptions;
 use jb_dump::DumpFilter;
 use std::fs::File;
-use std::io::{ErrorKind, Read, Write};
+use std::io::{Read, Write};
 use std::rt::Files;
 
 /// The lines that the options ask for.
@@ -60,7 +61,6 @@ fn dump_file<'a, R: Files + AllocGlobal, O: Write>(
 {
     match File::open(rt, file) {
         Ok(mut journal) => dump_from(rt.alloc(), &mut journal, choice, out),
-        Err(error) if error.kind() == ErrorKind::OutOfMemory => Err(CommandFault::Memory),
-        Err(error) => Err(CommandFault::CannotRead(file, error.raw_os_error())),
+        Err(error) => Err(unopened(file, error)),
     }
 }

@@ -1,8 +1,9 @@
 //! Images that are made.
-ghost use Rattle.std.specs.Prelude.{◌≡◌, ◌↔◌, IfSome, IsSome};
+ghost use Rattle.std.specs.Prelude.{◌≡◌, ◌≢◌, ◌↔◌, IfSome, IsSome};
 ghost use Rattle.jb_image.specs.Create.{MakesImage};
+ghost use Rattle.jb_image.specs.declared.fault.MakeFault.TheVariants.{Geometry as NoImage};
 ghost use Rattle.jb_args.specs.PlainCommand.{options_said};
-ghost use Rattle.jb_commands.specs.Files.{EndsOfFormat, EndsOfMaking, IsUnnamed};
+ghost use Rattle.jb_commands.specs.Files.{EndsOfFormat, EndsOfMaking, IsNotMade, IsUnnamed};
 ghost use Rattle.jb_commands.specs.Format.{new_limit_of};
 ghost use Rattle.jb_commands.specs.Options.{IsJournalLength};
 
@@ -85,21 +86,28 @@ fn make_file<'a, S: Start, T: Start, R: Files<File = File> + AllocGlobal>(
     requires limit { limit ≡ new_limit_of geometry }
     ensures ends { EndsOfMaking name.entry.now geometry result.image result.end }
 {
-    let fault = match create_holding(rt, name, geometry) {
-        Ok(disk) => {
-            return CommandEnd {
-                image: Some(ImageDisk::One(disk)),
-                end: Ok(Report::Formatted(limit)),
-            };
-        }
-        Err(MakeFault::Geometry) => unreachable!(),
-        Err(MakeFault::DeviceFault) => CommandFault::DeviceFault,
-        Err(MakeFault::Exists) => CommandFault::CannotMake(name, Some(EXISTS)),
-        Err(MakeFault::Image(fault)) => unnamed(name, fault),
-    };
-    CommandEnd {
-        image: None,
-        end: Err(fault),
+    match create_holding(rt, name, geometry) {
+        Ok(disk) => CommandEnd {
+            image: Some(ImageDisk::One(disk)),
+            end: Ok(Report::Formatted(limit)),
+        },
+        Err(fault) => CommandEnd {
+            image: None,
+            end: Err(unmade(name, fault)),
+        },
+    }
+}
+
+/// Why the image of this name was not made, whose numbers make an image.
+fn unmade<'a>(name: &'a str, fault: MakeFault) -> CommandFault<'a>
+    requires { fault ≢ NoImage }
+    ensures { IsNotMade name.entry.now result }
+{
+    match fault {
+        MakeFault::Geometry => unreachable!(),
+        MakeFault::DeviceFault => CommandFault::DeviceFault,
+        MakeFault::Exists => CommandFault::CannotMake(name, Some(EXISTS)),
+        MakeFault::Image(fault) => unnamed(name, fault),
     }
 }
 

@@ -1,11 +1,12 @@
-ghost use Rattle.std.specs.Prelude.{◌≡◌, ◌<◌, IfErr, IfOk, None, codes, false};
+ghost use Rattle.std.specs.Prelude.{◌≡◌, ◌<◌, ℕ, IfErr, IfOk, None, codes, false};
 ghost use Rattle.std.specs.Str.{bytes_eq};
+ghost use Rattle.jb_commands.specs.Dump.{IsUnopened};
 ghost use Rattle.jb_commands.specs.Texts.{HasNoText, HasNoTextWithin, IsText, IsTextWithin, known_behind};
 
 use crate::fault::CommandFault;
 use crate::streams::{TEXT_LIMIT, read_as};
 use std::fs::File;
-use std::io::{ErrorKind, Read};
+use std::io::{self, ErrorKind, Read};
 use std::rt::Files;
 
 /// The text of the file of this name; `-` is standard input.
@@ -58,7 +59,17 @@ pub(crate) fn read_file_within<'a, R: Files + AllocGlobal>(
 {
     match File::open(rt, name) {
         Ok(mut file) => read_as(rt.alloc(), &mut file, name, limit),
-        Err(error) if error.kind() == ErrorKind::OutOfMemory => Err(CommandFault::Memory),
-        Err(error) => Err(CommandFault::CannotRead(name, error.raw_os_error())),
+        Err(error) => Err(unopened(name, error)),
     }
+}
+
+/// Why the file of this name was not opened.
+pub(crate) fn unopened<'a>(name: &'a str, error: io::Error) -> CommandFault<'a>
+    ensures unopened { IsUnopened name.entry.now result }
+    ensures none { (limit : ℕ) → HasNoTextWithin limit name.entry.now None result }
+{
+    if error.kind() == ErrorKind::OutOfMemory {
+        return CommandFault::Memory;
+    }
+    CommandFault::CannotRead(name, error.raw_os_error())
 }
