@@ -83,6 +83,17 @@ module _ {D : Type 0} (G : Disks D) (first : ℕ) (hex : Bool) where
     text = appends-none out;
   }
 
+  -- all are written
+  pub cats-well : (homes : Option ℕ) (n : ℕ) (old now : D) (out_old out_now : Option (List ℕ)) (i at : ℕ) → Catting old now out_old out_now i at → i ≡ n → CatsOn G homes first n hex old now out_old out_now (Ok 0)
+  cats-well homes n old now out_old out_now i at state whole = record {
+    blocks = state.blocks;
+    kept = kept_as state.kept state.kept.counted;
+    same = state.same;
+    idle = state.idle;
+    peeked = state.peeked;
+    told = (refl, state.done ∙ whole, state.text);
+  }
+
   module _ {counts : ℕ → ℕ → Type 0} (old now next : D) (out_old out_now : Option (List ℕ)) (i at : ℕ) (state : Catting old now out_old out_now i at)
       (kept : KeptOn G counts now next) (same : G.honest next → G.newest next ≡ G.newest now) (idle : G.honest next → Goes G.may_leave G.moment G.left_since Same now next)
       (counts_now : (t : ℕ) (c : Image) → G.honest old → t ≤ G.moment old → G.may_leave old c → G.left_since old t c) where

@@ -1,4 +1,5 @@
-use Rattle.std.proofs.Common.{◌≡◌, ◌∙◌, Some, ap, sym}
+use Rattle.std.proofs.Common.{◌≡◌, ◌∙◌, Some, ap, rules, sym}
+use Rattle.jb_cost.specs.Cost.{cost}
 use Rattle.jb_queue.specs.Queue.{queue_of}
 use Rattle.jb_queue.specs.QueueText.{value_of}
 use Rattle.jb_commands.specs.AnswerSaid.{said}
@@ -10,11 +11,12 @@ use Rattle.jb_commands.proofs.cost.cost_answer.Goals as goal
 pub returns-in_ok-cost-in-Ok : goal.returns-in_ok-cost-in-Ok
 returns-in_ok-cost-in-Ok c =
     let queue = c.in-Ok.queue in
-    let cost : c.in_ok-cost-in-Ok.cost ≡ queue_cost (value_of queue) =
-    rw (c.of-geometry.ensures.tags, c.of-geometry.ensures.entries) at (rw c.as_slice.ensures.value at c.in_ok-cost-in-Ok.ensures.blocks) in
+    let grouped : c.in_ok-cost-in-Ok.cost ≡ cost c.of-geometry.result c.as_slice.result.now = search rules in
+    let whole : c.in_ok-cost-in-Ok.cost ≡ queue_cost (value_of queue) =
+    rw (c.of-geometry.ensures.tags, c.of-geometry.ensures.entries) at (rw c.as_slice.ensures.value at grouped) in
     record {
       said = if_ok_then (λ answer. said answer ≡ cost_line c.in_ok-cost-in-Ok.cost queue.limit) (λ answer. cost_said c.args.text.now ≡ Some (said answer)) c.cost_told.result c.cost_told.ensures.said
-          (λ answer told. ap cost_told c.in-Ok.ensures.ok ∙ ap Some (ap (λ n. cost_line n queue.limit) (sym cost) ∙ sym told));
+          (λ answer told. ap cost_told c.in-Ok.ensures.ok ∙ ap Some (ap (λ n. cost_line n queue.limit) (sym whole) ∙ sym told));
     }
 
 pub returns-in-Err : goal.returns-in-Err

@@ -1,6 +1,6 @@
-use Rattle.std.proofs.Common.{rules, ◌≡◌, ◌+◌, ◌%◌, ◌^◌, length, Err, refl, subst}
+use Rattle.std.proofs.Common.{arith, rules, ◌≡◌, ◌+◌, ◌%◌, ◌^◌, length, Err, refl, subst}
 use Rattle.jb_commands.specs.Cat.{IsUnpeeked}
-use Rattle.jb_commands.proofs.CatBlocks.{catting-start, catting-more, cats-refused, cats-stopped, unpeeked-by}
+use Rattle.jb_commands.proofs.CatBlocks.{catting-start, catting-more, cats-refused, cats-stopped, cats-well, unpeeked-by}
 use Rattle.jb_commands.proofs.streams.catting.cat_on.Goals as goal
 
 pub loop-i-init : goal.loop-i-init
@@ -42,3 +42,9 @@ returns-in-Err g c =
           c.args.homes c.args.count c.in-Err.fault c.in-Err.ensures.kept.counted c.loop-i-test.true
           (λ honest. subst (λ h. IsUnpeeked size count image h c.in-Err.fault) c.saturating_add.ensures (unpeeked-by size count image _ _ _ c.in-Err.fault (c.in-Err.ensures.peeks honest))));
     }
+
+pub returns : goal.returns
+returns g c = record {
+  cats = cats-well g.D.Disk c.args.home c.args.hex c.args.homes c.args.count c.args.disk.now c.loop-i.disk (g.O.Write.contents c.args.out.now) (g.O.Write.contents c.loop-i.out)
+      c.loop-i.i c.loop-i.at c.loop-i.invariant.state (omega (arith, c.loop-i-test.false, c.loop-i.auto.i-end));
+}
