@@ -1,11 +1,13 @@
 //! What commits, and how one round of it ends.
-ghost use Rattle.std.specs.Prelude.{◌≡◌, None, Some};
+ghost use Rattle.std.specs.Prelude.{◌≡◌, None, Some, Ok, Err, OnOk, IfErr};
 
 use crate::held_batch::HeldBatch;
-use crate::queue_state::NothingToTake;
+use crate::queue_state::{BookCounts, NothingToTake};
 use crate::seat::Seat;
-use jb_book::Origin;
-use jb_deck::Done;
+use jb_board::Tickets;
+use jb_book::{Origin, Sights};
+use jb_deck::{Done, Prepared};
+use jb_disk::Disk;
 use std::mem;
 use std::sync::ledger::Ledger;
 use thiserror::Error;
@@ -19,6 +21,9 @@ pub struct Committer<H: Origin, N: Ledger> {
 }
 
 impl<H: Origin, N: Ledger> Committer<H, N> {
+    ghost use Rattle.jb_board.specs.Seats.{given_by};
+    ghost use Rattle.jb_desk.specs.BatchOut.{IsOut};
+
     /// Holds a batch until the next round.
     pub(crate) fn hold(&mut self, batch: HeldBatch<H>)
         requires { self.old.batch ≡ None }
@@ -32,6 +37,21 @@ impl<H: Origin, N: Ledger> Committer<H, N> {
             }
         }
     }
+
+    /// Holds a batch again that the journal hands back.
+    pub(crate) fn hold_again<D: Disk>(
+        &mut self,
+        prepared: Prepared,
+        tickets: Tickets<H>,
+        seen: Sights<D, H>,
+        taken: BookCounts,
+    )
+        requires free { self.old.batch ≡ None }
+        requires out { IsOut H.begun prepared.batch (given_by tickets) seen.stops taken.taken }
+        ensures { (self.new.seat ≡ self.old.seat) × (self.new.batch ≡ Some prepared.batch) }
+    {
+        self.hold(HeldBatch::of(prepared.back(), tickets, seen.stops, taken));
+    }
 }
 
 /// What a round of a committer came to.
@@ -41,6 +61,19 @@ pub enum Round {
     Idle(NothingToTake),
     /// A batch is committed, and its handles are settled.
     Committed(Done),
+}
+
+impl Round {
+    ghost use Rattle.jb_desk.specs.declared.committer.Round.TheVariants.{Committed};
+
+    /// The groups that a round has committed, where they were settled.
+    pub(crate) fn settled(done: Done, settled: Result<(), RoundFault>) -> Result<Round, RoundFault>
+        ensures ok { OnOk settled (result ≡ Ok (Committed done)) }
+        ensures err { IfErr settled (λ fault. result ≡ Err fault) }
+    {
+        settled?;
+        Ok(Round::Committed(done))
+    }
 }
 
 /// Why a round of a committer settles no batch, or not all of it.

@@ -1,5 +1,5 @@
 //! Batches are committed, one in each round of a committer.
-ghost use Rattle.std.specs.Prelude.{◌≡◌, ◌+◌, ◌≤◌, length, None, Some, All, IfErr, OnOk};
+ghost use Rattle.std.specs.Prelude.{◌≡◌, ◌+◌, ◌≤◌, ◌⊎◌, length, None, Some, All, IfErr, OnOk};
 ghost use Rattle.jb_deck.specs.Done.{first_ticket, entries_of, past_after};
 ghost use Rattle.jb_desk.specs.Seats.{view_of};
 
@@ -28,7 +28,7 @@ impl<D: Disk, C: Clock, H: Origin, N: Ledger> Desk<D, C, H, N> {
     ghost use Rattle.jb_desk.specs.Views.{SeesCommit, SeesRound};
     ghost use Rattle.jb_board.specs.Seats.{given_by};
     ghost use Rattle.jb_board.specs.Steps.{raised_settled};
-    ghost use Rattle.jb_desk.specs.declared.committer.RoundFault.TheVariants.{Aborted};
+    ghost use Rattle.jb_desk.specs.declared.committer.RoundFault.TheVariants.{Aborted, DeviceFault};
 
     /// Commits the batch that the committer holds, or else all handles that have stopped since the last batch
     /// was taken (`jbd2_journal_commit_transaction`), and settles them. The book is not locked while the disk is
@@ -108,32 +108,31 @@ impl<D: Disk, C: Clock, H: Origin, N: Ledger> Desk<D, C, H, N> {
         let (result, mut seen) = self.works.lock(rt).commit(prepared, &self.histories, sight);
         match result {
             Ok(done) => {
-                self.settle(rt, &mut committer.seat, &mut seen, &done, end, shape)?;
-                Ok(Round::Committed(done))
+                let settled = self.settle(rt, &mut committer.seat, &mut seen, &done, end, shape);
+                Round::settled(done, settled)
             }
             Err(BatchFault::DeviceFault { settled }) => {
-                self.settle_last(rt, &mut committer.seat, &mut seen, &settled, end, shape)?;
-                Err(RoundFault::DeviceFault)
+                Err(self.settle_last(rt, &mut committer.seat, &mut seen, &settled, end, shape))
             }
             Err(BatchFault::Aborted(prepared)) => {
-                let _lost = prepared.back().end();
+                lose(prepared);
                 self.fail(rt, &mut seen);
                 Err(RoundFault::Aborted)
             }
             Err(BatchFault::Memory(prepared)) => {
-                committer.hold(HeldBatch::of(prepared.back(), tickets, seen.stops, taken));
+                committer.hold_again(prepared, tickets, seen, taken);
                 Err(RoundFault::Memory)
             }
             Err(BatchFault::WrongTicket(prepared, _)) => {
-                committer.hold(HeldBatch::of(prepared.back(), tickets, seen.stops, taken));
+                committer.hold_again(prepared, tickets, seen, taken);
                 Err(RoundFault::Refused)
             }
             Err(BatchFault::OtherShape(prepared)) => {
-                committer.hold(HeldBatch::of(prepared.back(), tickets, seen.stops, taken));
+                committer.hold_again(prepared, tickets, seen, taken);
                 Err(RoundFault::Refused)
             }
             Err(BatchFault::NumbersSpent(prepared)) => {
-                committer.hold(HeldBatch::of(prepared.back(), tickets, seen.stops, taken));
+                committer.hold_again(prepared, tickets, seen, taken);
                 Err(RoundFault::Refused)
             }
         }
@@ -174,7 +173,8 @@ impl<D: Disk, C: Clock, H: Origin, N: Ledger> Desk<D, C, H, N> {
         Ok(())
     }
 
-    /// Settles what was committed of a batch before the journal failed, as was seen at a mark.
+    /// Settles what was committed of a batch before the journal failed, as was seen at a mark, and says how the round
+    /// ends.
     fn settle_last<R: Wait>(
         &self,
         rt: &R,
@@ -183,16 +183,15 @@ impl<D: Disk, C: Clock, H: Origin, N: Ledger> Desk<D, C, H, N> {
         done: &Done,
         end: u64,
         shape: Shape,
-    ) -> Result<(), RoundFault>
+    ) -> RoundFault
         requires desk { desk_of seat.old ≡ desk_id self.now }
         requires settling { IsSettling seen.old.stops end shape done.now }
         requires marked { All (IsMarked seen.old.marks) (entries_of done.now) }
         requires failed { HasFailedMark seen.old.marks }
         requires taken { past_after (first_ticket done.now) (entries_of done.now) ≤ (view_of seat.old).taken }
         ensures seat { KeepsSeat seat.old seat.new }
-        ensures view { OnOk result (view_of seat.new ≡ raised_settled (view_of seat.old)
-            (past_after (first_ticket done.now) (entries_of done.now))) }
-        ensures failed { IfErr result (λ fault. (fault ≡ Aborted) × (seat.new ≡ seat.old)) }
+        ensures view { ((result ≡ DeviceFault) × (view_of seat.new ≡ raised_settled (view_of seat.old)
+            (past_after (first_ticket done.now) (entries_of done.now)))) ⊎ ((result ≡ Aborted) × (seat.new ≡ seat.old)) }
     {
         let mut counter = self.counter.lock(rt);
         let settled = counter.settle_last(&self.histories, seen, done, end, shape);
@@ -201,12 +200,17 @@ impl<D: Disk, C: Clock, H: Origin, N: Ledger> Desk<D, C, H, N> {
         self.signals.tell();
         self.waits.wake_all();
         let Ok(()) = settled else {
-            return Err(RoundFault::Aborted);
+            return RoundFault::Aborted;
         };
         self.board
             .raise_settled(&mut seat.board, end_of(done), &counts);
-        Ok(())
+        RoundFault::DeviceFault
     }
+}
+
+/// A batch is lost.
+fn lose(prepared: Prepared) {
+    let _lost = prepared.back().end();
 }
 
 /// The ticket after those of a batch.

@@ -1,4 +1,6 @@
-use Rattle.std.proofs.Common.{rules, ◌≡◌, refl, arith}
+use Rattle.std.proofs.Common.{rules, ◌≡◌, inl, inr, refl, ap, ◌∙◌, arith}
+use Rattle.jb_board.specs.Steps.{raised_settled}
+use Rattle.jb_desk.specs.Seats.{view_of}
 use Rattle.jb_desk.proofs.SettledBatch.{failed-seen}
 use Rattle.jb_desk.proofs.RoundCounts.{keeps-same}
 use Rattle.jb_desk.proofs.desk.Desk.settle_last.Goals as goal
@@ -14,3 +16,9 @@ returns-clause-seat g c = record { desk = c.raise_settled.ensures.board; number 
 
 pub returns-in_default-clause-seat : goal.returns-in_default-clause-seat
 returns-in_default-clause-seat g c = keeps-same _ _ refl
+
+pub returns-clause-view : goal.returns-clause-view
+returns-clause-view g c = inl (refl, c.raise_settled.ensures.view ∙ ap (raised_settled (view_of c.args.seat.now)) c.end_of.ensures)
+
+pub returns-in_default-clause-view : goal.returns-in_default-clause-view
+returns-in_default-clause-view g c = inr (refl, refl)

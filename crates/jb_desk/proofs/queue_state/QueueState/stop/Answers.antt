@@ -1,8 +1,13 @@
-use Rattle.std.proofs.Common.{◌≡◌, length, rules, refl, ◌∙◌}
+use Rattle.std.proofs.Common.{◌≡◌, ◌+◌, ◌∷◌, [], ◌++◌, length, rules, refl, ap, subst, ◌∙◌}
 use mathlib.Core.HLevel.{is_prop→PathP}
 use native.Mathlib.Nat.{ℕ_set}
 use Rattle.jb_handle.specs.Handle.{changes_of, holder}
+use Rattle.jb_handle.specs.HeldChanges.{Held}
+use Rattle.jb_handle.specs.Word.{WordMap}
 use Rattle.jb_handle.specs.declared.handle.Handle.{Handle}
+use Rattle.jb_book.specs.Account.{CanStop, dropped_of, queued}
+use Rattle.jb_book.specs.CallsToBook.{Registered}
+use Rattle.jb_book.specs.Marks.{SeesStop}
 use Rattle.jb_board.specs.declared.place.Place.{Ghosts as Places}
 use Rattle.jb_book.specs.declared.origin.Origin.{Ghosts}
 use Rattle.jb_desk.specs.declared.seat.Seat.{Seat}
@@ -26,37 +31,94 @@ same-handle : {S : Type 0} (h k : Handle S) → holder h ≡ holder k → change
 same-handle h k seat changes = λ i. record { seat = seat i; changes = changes i }
 
 pub returns-in-Ok-clause-ok : goal.returns-in-Ok-clause-ok
-returns-in-Ok-clause-ok g c = record {
-  same_number = search rules;
-  same_board = search rules;
-  could = search rules;
-  queued_as = search rules;
-  next = search rules;
-  few = search rules;
-  counted = record { stopped = search rules; touched = search rules; made = search rules };
-}
+returns-in-Ok-clause-ok g c =
+    let took = c.with_seat-seat.ensures in
+    let seat = c.with_seat-seat.result.0 in
+    let book = c.args.self.now.register.book in
+    let ticket = c.in-Ok.ticket in
+    let words : (changes_of c.with_seat-seat.result.1).words ≡ (changes_of c.args.handle).words = ap (λ (h : Held). h.words) took.changes in
+    let queues = c.in-Ok.ensures.ok in
+    record {
+      same_number = ap (λ s. s.number) took.old;
+      same_board = ap (λ s. s.board) took.old;
+      could = subst (λ (w : WordMap). CanStop book seat.number w) words queues.could;
+      queued_as = queues.queued_as ∙ ap (λ (w : WordMap). queued seat.number w book) words;
+      next = queues.next;
+      few = queues.few;
+      counted = record {
+        stopped = c.add.ensures.amount ∙ ap (λ s. s.handles.amount + 1) took.old;
+        touched = search rules;
+        made = queues.made_one ∙ ap (λ s. s.made ++ (ticket, (changes_of c.with_seat-seat.result.1).words) ∷ []) took.old ∙ ap (λ (w : WordMap). (holder c.args.handle).made ++ (ticket, w) ∷ []) words;
+      };
+    }
+
+pub returns-in-Ok-clause-sees : goal.returns-in-Ok-clause-sees
+returns-in-Ok-clause-sees g c = subst (SeesStop c.args.seen.now.stops c.stop.new.sight c.in-Ok.ticket) (ap (λ (h : Held). h.words) c.with_seat-seat.ensures.changes) c.in-Ok.ensures.sees
+
+pub returns-in-Ok-clause-blind : goal.returns-in-Ok-clause-blind
+returns-in-Ok-clause-blind g c = tt
+
+pub returns-in-Ok-clause-marks : goal.returns-in-Ok-clause-marks
+returns-in-Ok-clause-marks g c = refl
+
+pub returns-in-Ok-clause-refused : goal.returns-in-Ok-clause-refused
+returns-in-Ok-clause-refused g c = tt
+
+pub returns-in-Err-default-Aborted-clause-ok : goal.returns-in-Err-default-Aborted-clause-ok
+returns-in-Err-default-Aborted-clause-ok g c = tt
+
+pub returns-in-Err-default-Aborted-clause-sees : goal.returns-in-Err-default-Aborted-clause-sees
+returns-in-Err-default-Aborted-clause-sees g c = tt
+
+pub returns-in-Err-default-Aborted-clause-blind : goal.returns-in-Err-default-Aborted-clause-blind
+returns-in-Err-default-Aborted-clause-blind g c = c.in-Err-default-Aborted.ensures.err.2
+
+pub returns-in-Err-default-Aborted-clause-marks : goal.returns-in-Err-default-Aborted-clause-marks
+returns-in-Err-default-Aborted-clause-marks g c = refl
 
 pub returns-in-Err-default-Aborted-clause-refused : goal.returns-in-Err-default-Aborted-clause-refused
 returns-in-Err-default-Aborted-clause-refused g c = (
   search rules,
   same-seat c.with_seat-seat.result.0 _ refl refl refl refl c.in-Err-default-Aborted.ensures.err.1 ∙ c.with_seat-seat.ensures.old,
-  search rules,
+  c.drop_open.ensures.book ∙ ap (λ (r : Registered). dropped_of c.with_seat-seat.result.0.number r.book) c.in-Err-default-Aborted.ensures.err.0,
 )
+
+pub returns-in-Err-default-NotOpen-clause-ok : goal.returns-in-Err-default-NotOpen-clause-ok
+returns-in-Err-default-NotOpen-clause-ok g c = tt
+
+pub returns-in-Err-default-NotOpen-clause-sees : goal.returns-in-Err-default-NotOpen-clause-sees
+returns-in-Err-default-NotOpen-clause-sees g c = tt
+
+pub returns-in-Err-default-NotOpen-clause-blind : goal.returns-in-Err-default-NotOpen-clause-blind
+returns-in-Err-default-NotOpen-clause-blind g c = c.in-Err-default-NotOpen.ensures.err.2
+
+pub returns-in-Err-default-NotOpen-clause-marks : goal.returns-in-Err-default-NotOpen-clause-marks
+returns-in-Err-default-NotOpen-clause-marks g c = refl
 
 pub returns-in-Err-default-NotOpen-clause-refused : goal.returns-in-Err-default-NotOpen-clause-refused
 returns-in-Err-default-NotOpen-clause-refused g c =
-    let changes : changes_of c.with_seat-handle.result.1 ≡ changes_of c.args.handle = search rules in (
+    let changes = c.with_seat-handle.ensures.changes ∙ ap (λ h. changes_of h) c.in-Err-default-NotOpen.ensures.back ∙ c.with_seat-seat.ensures.changes in (
       search rules,
-      same-handle c.with_seat-handle.result.1 c.args.handle
-          (c.with_seat-handle.ensures.seat ∙ same-seat c.with_seat-seat.result.0 _ refl refl refl refl c.in-Err-default-NotOpen.ensures.err.1 ∙ c.with_seat-seat.ensures.old) changes,
-      search rules,
+      same-handle c.with_seat-handle.result.1 c.args.handle (c.with_seat-handle.ensures.seat ∙ same-seat c.with_seat-seat.result.0 _ refl refl refl refl c.in-Err-default-NotOpen.ensures.err.1 ∙ c.with_seat-seat.ensures.old) changes,
+      ap (λ (r : Registered). r.book) c.in-Err-default-NotOpen.ensures.err.0,
     )
+
+pub returns-in-Err-default-Memory-clause-ok : goal.returns-in-Err-default-Memory-clause-ok
+returns-in-Err-default-Memory-clause-ok g c = tt
+
+pub returns-in-Err-default-Memory-clause-sees : goal.returns-in-Err-default-Memory-clause-sees
+returns-in-Err-default-Memory-clause-sees g c = tt
+
+pub returns-in-Err-default-Memory-clause-blind : goal.returns-in-Err-default-Memory-clause-blind
+returns-in-Err-default-Memory-clause-blind g c = c.in-Err-default-Memory.ensures.err.2
+
+pub returns-in-Err-default-Memory-clause-marks : goal.returns-in-Err-default-Memory-clause-marks
+returns-in-Err-default-Memory-clause-marks g c = refl
 
 pub returns-in-Err-default-Memory-clause-refused : goal.returns-in-Err-default-Memory-clause-refused
 returns-in-Err-default-Memory-clause-refused g c =
-    let changes : changes_of c.with_seat-handle-in-Err-default-Memory.result.1 ≡ changes_of c.args.handle = search rules in (
+    let changes = c.with_seat-handle-in-Err-default-Memory.ensures.changes ∙ ap (λ h. changes_of h) c.in-Err-default-Memory.ensures.back ∙ c.with_seat-seat.ensures.changes in (
       search rules,
-      same-handle c.with_seat-handle-in-Err-default-Memory.result.1 c.args.handle
-          (c.with_seat-handle-in-Err-default-Memory.ensures.seat ∙ same-seat c.with_seat-seat.result.0 _ refl refl refl refl c.in-Err-default-Memory.ensures.err.1 ∙ c.with_seat-seat.ensures.old) changes,
-      search rules,
+      same-handle c.with_seat-handle-in-Err-default-Memory.result.1 c.args.handle (c.with_seat-handle-in-Err-default-Memory.ensures.seat ∙ same-seat c.with_seat-seat.result.0 _ refl refl refl refl c.in-Err-default-Memory.ensures.err.1 ∙ c.with_seat-seat.ensures.old) changes,
+      ap (λ (r : Registered). r.book) c.in-Err-default-Memory.ensures.err.0,
     )
