@@ -191,7 +191,8 @@ impl<D: Disk, C: Clock, H: Origin, N: Ledger> Desk<D, C, H, N> {
         requires taken { past_after (first_ticket done.now) (entries_of done.now) ≤ (view_of seat.old).taken }
         ensures seat { KeepsSeat seat.old seat.new }
         ensures view { ((result ≡ DeviceFault) × (view_of seat.new ≡ raised_settled (view_of seat.old)
-            (past_after (first_ticket done.now) (entries_of done.now)))) ⊎ ((result ≡ Aborted) × (seat.new ≡ seat.old)) }
+            (past_after (first_ticket done.now) (entries_of done.now))))
+            ⊎ ((result ≡ Aborted) × (seat.new ≡ seat.old)) }
     {
         let mut counter = self.counter.lock(rt);
         let settled = counter.settle_last(&self.histories, seen, done, end, shape);

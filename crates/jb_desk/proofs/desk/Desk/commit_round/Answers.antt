@@ -3,6 +3,7 @@ use Rattle.jb_plan.specs.Batch.{Gathered}
 use Rattle.jb_board.specs.Seats.{given_by, seat_view}
 use Rattle.jb_board.specs.Steps.{raised_taken}
 use Rattle.jb_board.specs.declared.front.Front.{Front}
+use Rattle.jb_book.specs.Account.{CanTake}
 use Rattle.jb_book.specs.Rounds.{end_of as end_in}
 use Rattle.jb_desk.specs.BatchOut.{IsOut}
 use Rattle.jb_desk.specs.declared.committer.RoundFault.TheVariants.{Aborted}
@@ -11,7 +12,7 @@ use Rattle.jb_desk.specs.Seats.{view_of}
 use Rattle.jb_desk.specs.Views.{TakesUp, with_taken}
 use Rattle.jb_desk.proofs.RoundCounts.{answers-held, answers-up, gives-none, keeps-same, never-idle, reached, round-up, sees-taken, takes-up}
 use Rattle.jb_desk.proofs.desk.Desk.commit_round.Given.{Over}
-use Rattle.jb_desk.proofs.desk.Desk.commit_round.Goals.{After-raise_taken}
+use Rattle.jb_desk.proofs.desk.Desk.commit_round.Goals.{After-from_residual, After-raise_taken}
 use Rattle.jb_desk.proofs.desk.Desk.commit_round.Goals as goal
 
 -- the batch is the one that the round takes up
@@ -47,33 +48,43 @@ raise_taken-requires-clause-seen g c = subst (λ k. k ≤ c.end-batch.result.3.t
 
 -- ---- the batch is committed
 
-pub commit-requires : goal.commit-requires
-commit-requires g c =
-    let at = (goal.at.commit-requires g c).After-raise_taken in
-    let same = c.in-Ok.ensures.batch in
-    record {
-      desk = c.raise_taken.ensures.board ∙ c.raise_stopped.ensures.board ∙ c.requires;
-      free = c.take-held.ensures.after;
-      out = out g at _ same;
-      taken = subst (λ (f : Front). end_in c.in-Ok.prepared.batch ≤ f.taken) (sym (taken g at _ same)) (reached _ (end_in c.in-Ok.prepared.batch));
-    }
+pub commit-requires-clause-desk : goal.commit-requires-clause-desk
+commit-requires-clause-desk g c = c.raise_taken.ensures.board ∙ c.raise_stopped.ensures.board ∙ c.requires
 
-pub returns-in-Ok : goal.returns-in-Ok
-returns-in-Ok g c =
-    let at = (goal.at.returns-in-Ok g c).After-raise_taken in
-    let held = held_by c.args.committer.now in
-    let after = held_by c.commit.new.committer in
-    let now = view_of (seat_of c.commit.new.committer) in
-    let same = c.in-Ok.ensures.batch in
-    let is = up g at _ same in
+pub commit-requires-clause-free : goal.commit-requires-clause-free
+commit-requires-clause-free g c = c.take-held.ensures.after
+
+pub commit-requires-clause-out : goal.commit-requires-clause-out
+commit-requires-clause-out g c = out g (goal.at.commit-requires-clause-out g c).After-raise_taken _ c.in-Ok.ensures.batch
+
+pub commit-requires-clause-taken : goal.commit-requires-clause-taken
+commit-requires-clause-taken g c =
+    let same = taken g (goal.at.commit-requires-clause-taken g c).After-raise_taken _ c.in-Ok.ensures.batch in
+    subst (λ (f : Front). end_in c.in-Ok.prepared.batch ≤ f.taken) (sym same) (reached _ (end_in c.in-Ok.prepared.batch))
+
+pub returns-in-Ok-clause-seat : goal.returns-in-Ok-clause-seat
+returns-in-Ok-clause-seat g c =
     let kept = c.commit.ensures.seat in
-    record {
-      seat = record { desk = kept.desk ∙ c.raise_taken.ensures.board ∙ c.raise_stopped.ensures.board; number = kept.number; counted = kept.counted };
-      answers = answers-up held after c.in-Ok.prepared.batch now.settled c.commit.result is c.commit.ensures.answers;
-      idle = never-idle c.in-Ok.prepared.batch _ now _ _ c.commit.result c.commit.ensures.view;
-      view = sees-taken held after c.in-Ok.prepared.batch (view_of (seat_of c.args.committer.now)) _ now c.commit.result is (taken g at _ same) c.commit.ensures.answers c.commit.ensures.view;
-      round = round-up g.D.Disk g.H.Origin.begun held after c.in-Ok.prepared.batch now.settled c.commit.result is c.commit.ensures.round;
-    }
+    record { desk = kept.desk ∙ c.raise_taken.ensures.board ∙ c.raise_stopped.ensures.board; number = kept.number; counted = kept.counted }
+
+pub returns-in-Ok-clause-answers : goal.returns-in-Ok-clause-answers
+returns-in-Ok-clause-answers g c =
+    let is = up g (goal.at.returns-in-Ok-clause-answers g c).After-raise_taken _ c.in-Ok.ensures.batch in
+    answers-up (held_by c.args.committer.now) (held_by c.commit.new.committer) c.in-Ok.prepared.batch (view_of (seat_of c.commit.new.committer)).settled c.commit.result is c.commit.ensures.answers
+
+pub returns-in-Ok-clause-idle : goal.returns-in-Ok-clause-idle
+returns-in-Ok-clause-idle g c = never-idle c.in-Ok.prepared.batch _ (view_of (seat_of c.commit.new.committer)) _ _ c.commit.result c.commit.ensures.view
+
+pub returns-in-Ok-clause-view : goal.returns-in-Ok-clause-view
+returns-in-Ok-clause-view g c =
+    let at = (goal.at.returns-in-Ok-clause-view g c).After-raise_taken in
+    let same = c.in-Ok.ensures.batch in
+    sees-taken (held_by c.args.committer.now) (held_by c.commit.new.committer) c.in-Ok.prepared.batch (view_of (seat_of c.args.committer.now)) _ (view_of (seat_of c.commit.new.committer)) c.commit.result (up g at _ same) (taken g at _ same) c.commit.ensures.answers c.commit.ensures.view
+
+pub returns-in-Ok-clause-round : goal.returns-in-Ok-clause-round
+returns-in-Ok-clause-round g c =
+    let is = up g (goal.at.returns-in-Ok-clause-round g c).After-raise_taken _ c.in-Ok.ensures.batch in
+    round-up g.D.Disk g.H.Origin.begun (held_by c.args.committer.now) (held_by c.commit.new.committer) c.in-Ok.prepared.batch (view_of (seat_of c.commit.new.committer)).settled c.commit.result is c.commit.ensures.round
 
 -- ---- there is no memory for its plan
 
@@ -83,44 +94,73 @@ of-requires g c = out g (goal.at.of-requires g c).After-raise_taken _ c.in-Err.e
 pub hold-requires : goal.hold-requires
 hold-requires g c = c.take-held.ensures.after
 
-pub returns-in-Memory : goal.returns-in-Memory
-returns-in-Memory g c =
-    let at = (goal.at.returns-in-Memory g c).After-raise_taken in
-    let held = held_by c.args.committer.now in
-    let after = held_by c.hold.new.self in
-    let same = c.in-Err.ensures.back in
-    let is = up g at _ same in
-    let again = c.hold.ensures.1 ∙ ap (λ (x : Gathered). Some x) c.of.ensures in
+pub returns-in-Memory-clause-seat : goal.returns-in-Memory-clause-seat
+returns-in-Memory-clause-seat g c =
     let kept = keeps-same _ _ c.hold.ensures.0 in
-    record {
-      seat = record { desk = kept.desk ∙ c.raise_taken.ensures.board ∙ c.raise_stopped.ensures.board; number = kept.number; counted = kept.counted };
-      answers = answers-held held after c.in-Err.batch (view_of (seat_of c.hold.new.self)).settled is again;
-      idle = tt;
-      view = inr (c.in-Err.batch, is, again, ap (λ s. view_of s) c.hold.ensures.0 ∙ taken g at _ same);
-      round = tt;
-    }
+    record { desk = kept.desk ∙ c.raise_taken.ensures.board ∙ c.raise_stopped.ensures.board; number = kept.number; counted = kept.counted }
+
+pub returns-in-Memory-clause-answers : goal.returns-in-Memory-clause-answers
+returns-in-Memory-clause-answers g c =
+    let is = up g (goal.at.returns-in-Memory-clause-answers g c).After-raise_taken _ c.in-Err.ensures.back in
+    answers-held (held_by c.args.committer.now) (held_by c.hold.new.self) c.in-Err.batch (view_of (seat_of c.hold.new.self)).settled is (c.hold.ensures.1 ∙ ap (λ (x : Gathered). Some x) c.of.ensures)
+
+pub returns-in-Memory-clause-idle : goal.returns-in-Memory-clause-idle
+returns-in-Memory-clause-idle g c = tt
+
+pub returns-in-Memory-clause-view : goal.returns-in-Memory-clause-view
+returns-in-Memory-clause-view g c =
+    let at = (goal.at.returns-in-Memory-clause-view g c).After-raise_taken in
+    let same = c.in-Err.ensures.back in
+    inr (c.in-Err.batch, up g at _ same, c.hold.ensures.1 ∙ ap (λ (x : Gathered). Some x) c.of.ensures, ap (λ s. view_of s) c.hold.ensures.0 ∙ taken g at _ same)
+
+pub returns-in-Memory-clause-round : goal.returns-in-Memory-clause-round
+returns-in-Memory-clause-round g c = tt
 
 -- ---- there is no batch
 
-pub returns-in_default : goal.returns-in_default
-returns-in_default g c = record {
-  seat = keeps-same _ _ refl;
-  answers = (sym c.take-held.ensures.value ∙ gives-none _ _ c.take-held.result c.in_ok-held.field-0 c.in_default.is c.in_ok-held.ensures.batch, c.take-held.ensures.after);
-  idle = refl;
-  view = inl (tt, refl);
-  round = tt;
-}
+pub no_batch-requires-clause-running : goal.no_batch-requires-clause-running
+no_batch-requires-clause-running g c =
+    let none = rw c.in_default.is at c.in_ok-held.ensures.none in
+    ap (λ s. s.register.book.aborted) c.deref.ensures ∙ none.0
+
+pub no_batch-requires-clause-none : goal.no_batch-requires-clause-none
+no_batch-requires-clause-none g c =
+    let none = rw c.in_default.is at c.in_ok-held.ensures.none in
+    subst (λ s. CanTake s.register.book → ⊥) (sym c.deref.ensures) none.1
+
+pub returns-in_default-clause-seat : goal.returns-in_default-clause-seat
+returns-in_default-clause-seat g c = keeps-same _ _ refl
+
+pub returns-in_default-clause-answers : goal.returns-in_default-clause-answers
+returns-in_default-clause-answers g c = (sym c.take-held.ensures.value ∙ gives-none _ _ c.take-held.result c.in_ok-held.field-0 c.in_default.is c.in_ok-held.ensures.batch, c.take-held.ensures.after)
+
+pub returns-in_default-clause-idle : goal.returns-in_default-clause-idle
+returns-in_default-clause-idle g c = refl
+
+pub returns-in_default-clause-view : goal.returns-in_default-clause-view
+returns-in_default-clause-view g c = inl (tt, refl)
+
+pub returns-in_default-clause-round : goal.returns-in_default-clause-round
+returns-in_default-clause-round g c = tt
 
 -- ---- the journal has failed before
 
-pub returns-in_err-held : goal.returns-in_err-held
-returns-in_err-held g c =
+lost : (g : Over) (c : After-from_residual g) → c.from_residual.result ≡ Err Aborted
+lost g c =
     let fails : c.from_residual.result ≡ Err c.in_err-held.field-0.0 = search rules in
-    let lost : c.from_residual.result ≡ Err Aborted = cc (c.in_err-held.ensures.batch.0) in
-    record {
-      seat = keeps-same _ _ refl;
-      answers = rw lost c.take-held.ensures.after;
-      idle = rw lost tt;
-      view = rw lost (inl (tt, refl));
-      round = rw lost tt;
-    }
+    cc (c.in_err-held.ensures.batch.0)
+
+pub returns-in_err-held-clause-seat : goal.returns-in_err-held-clause-seat
+returns-in_err-held-clause-seat g c = keeps-same _ _ refl
+
+pub returns-in_err-held-clause-answers : goal.returns-in_err-held-clause-answers
+returns-in_err-held-clause-answers g c = rw (lost g (goal.at.returns-in_err-held-clause-answers g c).After-from_residual) c.take-held.ensures.after
+
+pub returns-in_err-held-clause-idle : goal.returns-in_err-held-clause-idle
+returns-in_err-held-clause-idle g c = rw (lost g (goal.at.returns-in_err-held-clause-idle g c).After-from_residual) tt
+
+pub returns-in_err-held-clause-view : goal.returns-in_err-held-clause-view
+returns-in_err-held-clause-view g c = rw (lost g (goal.at.returns-in_err-held-clause-view g c).After-from_residual) (inl (tt, refl))
+
+pub returns-in_err-held-clause-round : goal.returns-in_err-held-clause-round
+returns-in_err-held-clause-round g c = rw (lost g (goal.at.returns-in_err-held-clause-round g c).After-from_residual) tt

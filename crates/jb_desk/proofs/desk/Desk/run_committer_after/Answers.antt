@@ -52,3 +52,9 @@ returns-in-Err-Memory g c = let so = on g (goal.at.returns-in-Err-Memory g c).Af
 
 pub returns-in-Err-Refused : goal.returns-in-Err-Refused
 returns-in-Err-Refused g c = let so = on g (goal.at.returns-in-Err-Refused g c).After-commit_round in record { seat = so.0; rises = so.1; held = search rules }
+
+pub loop-preserved : goal.loop-preserved
+loop-preserved g c = let so = on g (goal.at.loop-preserved g c).After-commit_round in (search rules, search rules, so.0, so.1)
+
+pub loop-preserved-after-commit_round-2 : goal.loop-preserved-after-commit_round-2
+loop-preserved-after-commit_round-2 g c = let so = on g (goal.at.loop-preserved-after-commit_round-2 g c).After-commit_round in (search rules, search rules, so.0, so.1)

@@ -52,3 +52,9 @@ returns-clause-came g c =
       run = search rules;
       runs_as = λ known_start held. sym book.same ∙ sym last.same_shape ∙ sym c.shape-shape.ensures.value;
     }
+
+pub returns-clause-tiles : goal.returns-clause-tiles
+returns-clause-tiles g c = c.totals-trail.ensures.tiles
+
+pub returns-clause-refused : goal.returns-clause-refused
+returns-clause-refused g c = tt

@@ -1,4 +1,4 @@
-use Rattle.std.proofs.Common.{◌≡◌, ◌+◌, ◌∷◌, [], ◌++◌, length, rules, refl, ap, subst, ◌∙◌}
+use Rattle.std.proofs.Common.{◌≡◌, ◌+◌, ◌∷◌, [], ◌++◌, length, rules, refl, ap, subst, ◌∙◌, arith, length-append}
 use mathlib.Core.HLevel.{is_prop→PathP}
 use native.Mathlib.Nat.{ℕ_set}
 use Rattle.jb_handle.specs.Handle.{changes_of, holder}
@@ -29,6 +29,18 @@ same-seat s t number board handles changes made = λ i. record {
 -- so are handles
 same-handle : {S : Type 0} (h k : Handle S) → holder h ≡ holder k → changes_of h ≡ changes_of k → h ≡ k
 same-handle h k seat changes = λ i. record { seat = seat i; changes = changes i }
+
+pub invariant_of-seat : goal.invariant_of-seat
+invariant_of-seat g c =
+    let seat = c.with_seat-seat.result.0 in
+    let grown = ap length c.in-Ok.ensures.ok.made_one in
+    let longer = length-append seat.made ((c.in-Ok.ticket, (changes_of c.with_seat-seat.result.1).words) ∷ []) in
+    let counted = seat.all_made in
+    record {
+      part_of_handles = c.add.ensures.parts ∙ seat.part_of_handles;
+      part_of_changes = c.add-in-Ok.ensures.parts ∙ seat.part_of_changes;
+      all_made = omega (arith, grown, longer, counted, c.add.ensures.amount);
+    }
 
 pub returns-in-Ok-clause-ok : goal.returns-in-Ok-clause-ok
 returns-in-Ok-clause-ok g c =

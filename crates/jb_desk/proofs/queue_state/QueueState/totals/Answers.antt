@@ -21,3 +21,9 @@ returns-clause-history g c =
     let number : length c.merged-spare_handles.result.2 ≡ length appender = omega (arith, next, many, none, counted, recorded) in
     all-stopped appender c.audit-3.new.appender c.merged-spare_handles.result.2 (joined (map made_left c.args.lefts.items)) c.next-stops.result c.audit-3.ensures.kept c.merged-spare_handles.ensures.made
     (recorded ∙ sym (c.next-stops.ensures.value ∙ ap (λ (a : Account). a.shadow.next) c.book.ensures.value)) c.audit-3.ensures.stands (c.audit-3.ensures.whole number)
+
+pub returns-clause-tiles : goal.returns-clause-tiles
+returns-clause-tiles g c =
+    let (past, follow, upto) = c.end-trail.ensures.tiles in
+    let stops = c.next-stops.ensures.value ∙ ap (λ (a : Account). a.shadow.next) c.book.ensures.value in
+    (past, follow, omega (arith, upto, stops))
