@@ -1,4 +1,4 @@
-use Rattle.std.proofs.Common.{rules, ◌≡◌, ℕ, ◌+◌, ◌<◌, ◌≤◌, Bool, true, false, if◌then◌else◌, List, Option, Some, None, ok_or, Result, Ok, Err, OnOk, IfOk, IfErr, refl, ap, sym, subst, ◌∙◌, arith}
+use Rattle.std.proofs.Common.{◌≡◌, ℕ, ◌+◌, ◌≤◌, List, Option, Some, None, ok_or, Result, Ok, Err, OnOk, IfOk, IfErr, refl, ap, sym, subst, ◌∙◌, arith}
 use Rattle.jb_board.specs.Seats.{seat_view}
 use Rattle.jb_board.specs.Steps.{raised_settled, raised_taken}
 use Rattle.jb_board.specs.declared.front.Front.{Front}
@@ -11,11 +11,11 @@ use Rattle.jb_desk.specs.Marks.{ShowsTaken}
 use Rattle.jb_desk.specs.Seats.{view_of}
 use Rattle.jb_desk.specs.Views.{RefusesWait, with_settled}
 use Rattle.jb_desk.specs.declared.fault.WaitFault.{WaitFault}
-use Rattle.jb_desk.specs.declared.fault.WaitFault.TheVariants.{Aborted, Taken, Unknown}
+use Rattle.jb_desk.specs.declared.fault.WaitFault.TheVariants.{Taken}
 use Rattle.jb_desk.specs.declared.seat.Seat.{Seat}
 use Rattle.jb_desk.proofs.RoundCounts.{keeps-same, reached, settled-by}
 use Rattle.jb_desk.proofs.desk.Desk.wait.Given.{Over}
-use Rattle.jb_desk.proofs.desk.Desk.wait.Goals.{After-from_residual, After-ok_or}
+use Rattle.jb_desk.proofs.desk.Desk.wait.Goals.{After-ok_or}
 use Rattle.jb_desk.proofs.desk.Desk.wait.Goals as goal
 
 -- what holds whatever was answered
@@ -37,12 +37,6 @@ was-taken : {H N : Type 0} {O : Ghosts H} {P : Places H} (ticket : ℕ) (old new
     → IfErr r (RefusesWait ticket old new)
 was-taken ticket old new None r is view = subst (λ (x : Result ℕ WaitFault). IfErr x (RefusesWait ticket old new)) (sym is) view
 was-taken ticket old new (Some n) r is view = subst (λ (x : Result ℕ WaitFault). IfErr x (RefusesWait ticket old new)) (sym is) tt
-
--- it is not settled
-not-settled : {H N D : Type 0} {O : Ghosts H} {P : Places H} (marks : List (OpenDeck D)) (ticket : ℕ) (seat : Seat H N O P) (failed : Bool) (fault : WaitFault) → fault ≡ (if failed then Aborted else Unknown)
-    → ShowsTaken marks ticket fault × RefusesWait ticket seat seat fault
-not-settled marks ticket seat true fault is = subst (λ (f : WaitFault). ShowsTaken marks ticket f × RefusesWait ticket seat seat f) (sym is) (tt, refl)
-not-settled marks ticket seat false fault is = subst (λ (f : WaitFault). ShowsTaken marks ticket f × RefusesWait ticket seat seat f) (sym is) (tt, refl)
 
 -- what the seat is sure of then
 view : (g : Over) (c : After-ok_or g) → seat_view c.raise_settled.new.seat ≡ with_settled (c.args.ticket + 1) (view_of c.args.seat.now)
@@ -113,21 +107,3 @@ returns-in_err-number-clause-seat g c = keeps-same _ _ refl
 
 pub returns-in_err-number-clause-begins : goal.returns-in_err-number-clause-begins
 returns-in_err-number-clause-begins g c = c.number_of.ensures.begins
-
-fails : (g : Over) (c : After-from_residual g) → c.from_residual.result ≡ Err c.in_err-number.field-0.0
-fails g c = search rules
-
-pub returns-in_err-number-clause-settled : goal.returns-in_err-number-clause-settled
-returns-in_err-number-clause-settled g c = rw (fails g (goal.at.returns-in_err-number-clause-settled g c).After-from_residual) tt
-
-pub returns-in_err-number-clause-shown : goal.returns-in_err-number-clause-shown
-returns-in_err-number-clause-shown g c = rw (fails g (goal.at.returns-in_err-number-clause-shown g c).After-from_residual) tt
-
-pub returns-in_err-number-clause-view : goal.returns-in_err-number-clause-view
-returns-in_err-number-clause-view g c = rw (fails g (goal.at.returns-in_err-number-clause-view g c).After-from_residual) tt
-
-pub returns-in_err-number-clause-taken : goal.returns-in_err-number-clause-taken
-returns-in_err-number-clause-taken g c = rw (fails g (goal.at.returns-in_err-number-clause-taken g c).After-from_residual) ((not-settled c.number_of.new.seen.marks c.args.ticket c.args.seat.now _ c.in_err-number.field-0.0 c.in_err-number.ensures.err.1).0)
-
-pub returns-in_err-number-clause-refused : goal.returns-in_err-number-clause-refused
-returns-in_err-number-clause-refused g c = rw (fails g (goal.at.returns-in_err-number-clause-refused g c).After-from_residual) ((not-settled c.number_of.new.seen.marks c.args.ticket c.args.seat.now _ c.in_err-number.field-0.0 c.in_err-number.ensures.err.1).1)

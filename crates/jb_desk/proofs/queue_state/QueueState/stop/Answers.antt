@@ -67,20 +67,8 @@ returns-in-Ok-clause-ok g c =
 pub returns-in-Ok-clause-sees : goal.returns-in-Ok-clause-sees
 returns-in-Ok-clause-sees g c = subst (SeesStop c.args.seen.now.stops c.stop.new.sight c.in-Ok.ticket) (ap (λ (h : Held). h.words) c.with_seat-seat.ensures.changes) c.in-Ok.ensures.sees
 
-pub returns-in-Ok-clause-blind : goal.returns-in-Ok-clause-blind
-returns-in-Ok-clause-blind g c = tt
-
 pub returns-in-Ok-clause-marks : goal.returns-in-Ok-clause-marks
 returns-in-Ok-clause-marks g c = refl
-
-pub returns-in-Ok-clause-refused : goal.returns-in-Ok-clause-refused
-returns-in-Ok-clause-refused g c = tt
-
-pub returns-in-Err-default-Aborted-clause-ok : goal.returns-in-Err-default-Aborted-clause-ok
-returns-in-Err-default-Aborted-clause-ok g c = tt
-
-pub returns-in-Err-default-Aborted-clause-sees : goal.returns-in-Err-default-Aborted-clause-sees
-returns-in-Err-default-Aborted-clause-sees g c = tt
 
 pub returns-in-Err-default-Aborted-clause-blind : goal.returns-in-Err-default-Aborted-clause-blind
 returns-in-Err-default-Aborted-clause-blind g c = c.in-Err-default-Aborted.ensures.err.2
@@ -95,12 +83,6 @@ returns-in-Err-default-Aborted-clause-refused g c = (
   c.drop_open.ensures.book ∙ ap (λ (r : Registered). dropped_of c.with_seat-seat.result.0.number r.book) c.in-Err-default-Aborted.ensures.err.0,
 )
 
-pub returns-in-Err-default-NotOpen-clause-ok : goal.returns-in-Err-default-NotOpen-clause-ok
-returns-in-Err-default-NotOpen-clause-ok g c = tt
-
-pub returns-in-Err-default-NotOpen-clause-sees : goal.returns-in-Err-default-NotOpen-clause-sees
-returns-in-Err-default-NotOpen-clause-sees g c = tt
-
 pub returns-in-Err-default-NotOpen-clause-blind : goal.returns-in-Err-default-NotOpen-clause-blind
 returns-in-Err-default-NotOpen-clause-blind g c = c.in-Err-default-NotOpen.ensures.err.2
 
@@ -114,12 +96,6 @@ returns-in-Err-default-NotOpen-clause-refused g c =
       same-handle c.with_seat-handle.result.1 c.args.handle (c.with_seat-handle.ensures.seat ∙ same-seat c.with_seat-seat.result.0 _ refl refl refl refl c.in-Err-default-NotOpen.ensures.err.1 ∙ c.with_seat-seat.ensures.old) changes,
       ap (λ (r : Registered). r.book) c.in-Err-default-NotOpen.ensures.err.0,
     )
-
-pub returns-in-Err-default-Memory-clause-ok : goal.returns-in-Err-default-Memory-clause-ok
-returns-in-Err-default-Memory-clause-ok g c = tt
-
-pub returns-in-Err-default-Memory-clause-sees : goal.returns-in-Err-default-Memory-clause-sees
-returns-in-Err-default-Memory-clause-sees g c = tt
 
 pub returns-in-Err-default-Memory-clause-blind : goal.returns-in-Err-default-Memory-clause-blind
 returns-in-Err-default-Memory-clause-blind g c = c.in-Err-default-Memory.ensures.err.2
