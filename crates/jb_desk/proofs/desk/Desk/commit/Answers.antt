@@ -192,9 +192,6 @@ returns-in-Err-DeviceFault-clause-round g c = (last g (goal.at.returns-in-Err-De
 
 -- ---- the journal has failed before
 
-pub fail-requires : goal.fail-requires
-fail-requires g c = falls c.in-Err-Aborted.is c.in-Err-Aborted.field-0-is (MarksSettled c.commit-result.result.1.marks) c.commit-result.ensures.marked
-
 pub returns-in-Err-Aborted-clause-seat : goal.returns-in-Err-Aborted-clause-seat
 returns-in-Err-Aborted-clause-seat g c = keeps-same _ _ refl
 
