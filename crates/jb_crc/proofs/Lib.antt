@@ -1,0 +1,6 @@
+mod Bits
+mod Changes
+mod EightBytes
+pub mod Pieces
+mod Remainders
+mod TableRows

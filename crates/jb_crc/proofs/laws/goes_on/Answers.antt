@@ -1,0 +1,5 @@
+use Rattle.jb_crc.proofs.Pieces.{crc-append}
+use Rattle.jb_crc.proofs.laws.goes_on.Goals as goal
+
+pub returns : goal.returns
+returns c = crc-append
