@@ -1,5 +1,5 @@
 mod Bits
-mod Changes
+pub mod Changes
 mod EightBytes
 pub mod Pieces
 mod Remainders
