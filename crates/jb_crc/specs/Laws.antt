@@ -8,8 +8,8 @@ abbrev pub HasCheckValue : Type 0
 HasCheckValue = bit_not w32 (crc32c 0xFFFFFFFF (49 ∷ 50 ∷ 51 ∷ 52 ∷ 53 ∷ 54 ∷ 55 ∷ 56 ∷ 57 ∷ [])) ≡ 0xE3069283
 
 -- the checksum of bytes that follow others is begun with the checksum of those
-abbrev pub GoesOn : Type 0
-GoesOn = (begun : ℕ) (bytes others : List ℕ) → crc32c begun (bytes ++ others) ≡ crc32c (crc32c begun bytes) others
+abbrev pub TakesPieces : Type 0
+TakesPieces = (begun : ℕ) (bytes others : List ℕ) → crc32c begun (bytes ++ others) ≡ crc32c (crc32c begun bytes) others
 
 -- bytes that differ in one place have different checksums
 abbrev pub SeesOneByte : Type 0

@@ -1,6 +1,6 @@
 //! Laws of the checksum, each the contract of a function that does nothing.
 
-ghost use Rattle.jb_crc.specs.Laws.{GoesOn, HasCheckValue, SeesOneByte};
+ghost use Rattle.jb_crc.specs.Laws.{TakesPieces, HasCheckValue, SeesOneByte};
 
 /// The checksum is CRC-32C, by its check value: that of `123456789` is 0xE3069283, where it is begun with
 /// ones and inverted at the end.
@@ -9,8 +9,8 @@ pub fn has_check_value()
 {}
 
 /// Bytes may be given in pieces: a piece is begun with the checksum of those before it.
-pub fn goes_on()
-    ensures { GoesOn }
+pub fn takes_pieces()
+    ensures { TakesPieces }
 {}
 
 /// One changed byte changes the checksum, wherever the byte is and whatever it becomes.

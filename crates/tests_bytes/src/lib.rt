@@ -1,11 +1,13 @@
-//! Tests of the blocks of a journal: fields, superblocks, descriptor and revoke blocks, groups, logs, and the text of
-//! a journal.
+//! Tests of the blocks of a journal: fields, checksums, superblocks, descriptor and revoke blocks, groups, logs, and
+//! the text of a journal.
 #![tactic(auto)]
 
 #[cfg(test)]
 mod blocks;
 #[cfg(test)]
 mod checks;
+#[cfg(test)]
+mod checksums;
 #[cfg(test)]
 mod choices;
 #[cfg(test)]
