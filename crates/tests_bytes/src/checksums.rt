@@ -96,7 +96,7 @@ static COMMITS: [(&str, bool); 3] = [
 ];
 
 /// Checks the checksums of bytes.
-fn check_sums(test: &impl Test) {
+fn check_rfc_sums(test: &impl Test) {
     for (row, sum) in SUMS.iter().enumerate() {
         let found = !crc32c(u32::MAX, sum.0);
         check_at(test, found == sum.1, "the checksum of row", row as u64)
@@ -104,7 +104,7 @@ fn check_sums(test: &impl Test) {
 }
 
 /// Checks that a descriptor or revoke block has its checksum, and that just this one is written into it.
-fn check_tail(test: &impl Test, seed: Seed, name: &'static str, words: &str) {
+fn check_summed_tail(test: &impl Test, seed: Seed, name: &'static str, words: &str) {
     let wanted = block_of_words(words);
     check_row(test, seed.is_tail_right(&wanted), name, "a right block");
     let mut block = wanted;
@@ -115,7 +115,7 @@ fn check_tail(test: &impl Test, seed: Seed, name: &'static str, words: &str) {
 }
 
 /// The same of a superblock.
-fn check_super(test: &impl Test, name: &'static str, words: &str) {
+fn check_summed_super(test: &impl Test, name: &'static str, words: &str) {
     let wanted = block_of_words(words);
     check_row(test, is_super_right(&wanted), name, "a right superblock");
     let mut block = wanted;
@@ -126,12 +126,12 @@ fn check_super(test: &impl Test, name: &'static str, words: &str) {
 }
 
 /// Checks the blocks of each form.
-fn check_forms(test: &impl Test, seed: Seed) {
+fn check_each_form(test: &impl Test, seed: Seed) {
     for form in &FORMS {
-        check_tail(test, seed, form.name, form.tails[0]);
-        check_tail(test, seed, form.name, form.tails[1]);
-        check_super(test, form.name, form.supers[0]);
-        check_super(test, form.name, form.supers[1])
+        check_summed_tail(test, seed, form.name, form.tails[0]);
+        check_summed_tail(test, seed, form.name, form.tails[1]);
+        check_summed_super(test, form.name, form.supers[0]);
+        check_summed_super(test, form.name, form.supers[1])
     }
 }
 
@@ -143,10 +143,10 @@ fn check_commits(test: &impl Test, seed: Seed) {
     }
 }
 
-fn check_each(test: &impl Test) {
+fn check_checksums(test: &impl Test) {
     let seed = Seed::of(&UUID);
-    check_sums(test);
-    check_forms(test, seed);
+    check_rfc_sums(test);
+    check_each_form(test, seed);
     check_commits(test, seed);
     let data = block_of(&DATA);
     check(test, seed.data_sum(2, &data) == 0x408B_7374, "of the data");
@@ -155,5 +155,5 @@ fn check_each(test: &impl Test) {
 
 #[test]
 fn checksums_of_blocks(rt: HostRuntime) {
-    check_each(&By(&rt))
+    check_checksums(&By(&rt))
 }
