@@ -31,6 +31,8 @@ mod stepped;
 #[cfg(test)]
 mod summaries;
 #[cfg(test)]
+mod summed_supers;
+#[cfg(test)]
 mod superblocks;
 #[cfg(test)]
 mod supers;
