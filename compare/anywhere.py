@@ -16,8 +16,9 @@ def expect(what, is_so, *more):
         print("WRONG:", what, *more)
 
 
-def run(words, closed=(), stdin=b"", before=None, wait=20):
-    """A run of jb: its status (None where it did not end), standard output and standard error, b"" where that is closed."""
+def run(words, closed=(), stdin=b"", before=None, wait=20, by=()):
+    """A run of jb: its status (None where it did not end), standard output and standard error, b"" where that is closed. `by` are the
+    words of a program that runs it."""
 
     def child():
         for fd in closed:
@@ -28,7 +29,7 @@ def run(words, closed=(), stdin=b"", before=None, wait=20):
     with tempfile.TemporaryFile() as given:
         given.write(stdin)
         given.seek(0)
-        p = subprocess.Popen([JB, *words], stdin=given, stdout=subprocess.PIPE, stderr=subprocess.PIPE, preexec_fn=child)
+        p = subprocess.Popen([*by, JB, *words], stdin=given, stdout=subprocess.PIPE, stderr=subprocess.PIPE, preexec_fn=child)
         try:
             out, err = p.communicate(timeout=wait)
             return p.returncode, out, err

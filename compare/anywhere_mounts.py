@@ -1,11 +1,12 @@
 """The parts of safe_anywhere.py that want root: block devices, mounted ones, and a mount to be read alone. Elsewhere they print that they
 were not tried."""
 import os
+import resource
 import shutil
 import subprocess
 import tempfile
 
-from anywhere import QUEUE, expect, fresh, made, run
+from anywhere import JB, QUEUE, expect, fresh, made, run
 
 
 def device():
@@ -75,6 +76,133 @@ def mounted(loaded):
     finally:
         subprocess.run(["losetup", "--detach", name])
     print("a mounted device, and its file: 18 runs")
+
+
+def loop(over, *words):
+    """A loop device over this file or device."""
+    made = subprocess.run(["losetup", *words, "--find", "--show", over], stdout=subprocess.PIPE, check=True)
+    return made.stdout.decode().strip()
+
+
+def stacked():
+    """What is mounted is found through each loop device that stands on another one, and by each of two over one file; a stretch of a file
+    that has no byte in common with what is mounted is changed."""
+    if os.geteuid() != 0:
+        print("loop devices over one file: not tried, as none can be made here")
+        return
+    loaded = made()[1]
+    size = 1 << 20
+    fresh({"backing": bytes(4 * size), "image": loaded})
+    devices = []
+    try:
+        with tempfile.TemporaryDirectory() as room:
+            for words in [[], [], ["--offset", str(size), "--sizelimit", str(size)], ["--offset", str(2 * size)]]:
+                devices.append(loop("backing", *words))
+            first, second, part, behind = devices
+            devices.append(loop(first))
+            upper = devices[-1]
+            for mounted, refused, taken in [
+                (first, [first, second, upper, part, behind, "backing"], []),
+                (upper, [upper, first, second, part, "backing"], []),
+                (part, [part, first, second, upper, "backing"], [behind]),
+            ]:
+                subprocess.run(["mke2fs", "-q", "-F", "-b", "1024", mounted, "1024"], stderr=subprocess.DEVNULL, check=True)
+                subprocess.run(["mount", "-o", "ro", mounted, room], check=True)
+                try:
+                    for image in refused:
+                        got = run(["widen", image])
+                        expect("mounted %s: %s" % (mounted, image), got == (2, b"", b"jb: in use %s\n" % image.encode()), got)
+                    for image in taken + ["image"]:
+                        got = run(["renumber", image])
+                        expect("mounted %s: %s" % (mounted, image), b"in use" not in got[2] and b"unknown" not in got[2], got)
+                finally:
+                    subprocess.run(["umount", room])
+    finally:
+        for name in reversed(devices):
+            subprocess.run(["losetup", "--detach", name])
+    print("loop devices over one file and one another: 18 runs")
+
+
+UNKNOWN = (2, b"", b"jb: mounts unknown image\n")
+
+
+def reads_of(name, words):
+    """The how manyth reads of a run are of this file."""
+    subprocess.run(["strace", "-y", "-e", "trace=read", "-o", "trace", JB, *words], stdout=subprocess.DEVNULL, stderr=subprocess.DEVNULL)
+    calls = [line for line in open("trace") if line.startswith("read(")]
+    found = [number for number, line in enumerate(calls, 1) if "/%s>" % name in line]
+    expect("reads of %s" % name, len(found) > 1, calls)
+    return found
+
+
+def unknown():
+    """Where the system does not say what is mounted, an image is not changed, but by recover --force; it is read."""
+    loaded = made()[1]
+    runs = 0
+    commands = [["recover", "image"], ["renumber", "image"], ["widen", "image"], ["load", "image", "queue"], ["recover", "image", "--extents", "0-32"]]
+    ways = []
+    if shutil.which("strace"):
+        ways.append((["strace", "-o", "/dev/null", "-P", "/proc/self/mountinfo", "-e", "inject=openat:error=EMFILE"], "EMFILE at the list of mounts"))
+        fresh({"image": loaded})
+        for number in reads_of("mountinfo", ["recover", "image"]):
+            ways.append((["strace", "-o", "/dev/null", "-e", "inject=read:error=EIO:when=%d" % number], "EIO at read %d, of the list of mounts" % number))
+    if os.geteuid() == 0 and shutil.which("unshare"):
+        ways.append((["unshare", "-m", "sh", "-c", 'umount -l /proc && exec "$@"', "sh"], "no /proc"))
+        ways.append((["unshare", "-m", "sh", "-c", 'mount --bind /dev/null /proc/$$/mountinfo && exec "$@"', "sh"], "an empty list"))
+        ways.append((["unshare", "-m", "sh", "-c", 'echo 1 2 x >list && mount --bind list /proc/$$/mountinfo && exec "$@"', "sh"], "another list"))
+    for way, what in ways:
+        for words in commands:
+            fresh({"image": loaded, "queue": QUEUE})
+            got = run(words, by=way)
+            expect("%s: %s" % (what, words), got == UNKNOWN and open("image", "rb").read() == loaded, got)
+        for words in [["cat", "image", "1"], ["recover", "image", "--dry-run"], ["recover", "image", "--force"]]:
+            got = run(words, by=way)
+            expect("%s: %s" % (what, words), got[0] == 0 and not got[2], got)
+        runs += len(commands) + 3
+    # as few files as jb can open beside the image, and one fewer: it ends well or is refused, and never writes what it has not looked for
+    for most in range(3, 8):
+        fresh({"image": loaded})
+        got = run(["recover", "image"], before=lambda: resource.setrlimit(resource.RLIMIT_NOFILE, (most, most)))
+        good = got[0] == 0 or (got[0] == 2 and open("image", "rb").read() == loaded)
+        expect("%d files: %s" % (most, got), good and (most != 4 or got == UNKNOWN), got)
+        runs += 1
+    print("mounts that are not known: %d runs" % runs)
+
+
+def no_devices():
+    """The same where the system says what is mounted, and not on what that stands."""
+    if os.geteuid() != 0 or shutil.which("unshare") is None:
+        print("no /sys: not tried, as nothing can be mounted here")
+        return
+    loaded = made()[1]
+    fresh({"backing": bytes(1 << 20), "image": loaded})
+    name = loop("backing")
+    hidden = ["unshare", "-m", "sh", "-c", 'mount -t tmpfs none /sys && exec "$@"', "sh"]
+    try:
+        with tempfile.TemporaryDirectory() as room:
+            subprocess.run(["mke2fs", "-q", "-F", name], stderr=subprocess.DEVNULL, check=True)
+            subprocess.run(["mount", "-o", "ro", name, room], check=True)
+            try:
+                got = run(["recover", "image"], by=hidden)
+                expect("a loop device without /sys", got == UNKNOWN and open("image", "rb").read() == loaded, got)
+                got = run(["widen", name], by=hidden)
+                expect("a mounted device without /sys", got == (2, b"", b"jb: in use %s\n" % name.encode()), got)
+                got = run(["recover", name, "--force"], by=hidden)
+                expect("a mounted device by force", got == (2, b"", b"jb: in use %s\n" % name.encode()), got)
+                got = run(["recover", "image", "--force"], by=hidden)
+                expect("a file by force", got[0] == 0, got)
+                for what in ["loop/backing_file", "loop/offset", "loop/sizelimit"]:
+                    with open("image", "wb") as image:
+                        image.write(loaded)
+                    numbers = os.stat(name).st_rdev
+                    path = "/sys/dev/block/%d:%d/%s" % (os.major(numbers), os.minor(numbers), what)
+                    got = run(["recover", "image"], by=["strace", "-o", "/dev/null", "-P", path, "-e", "inject=openat:error=EIO"])
+                    expect("EIO at %s" % what, got == UNKNOWN and open("image", "rb").read() == loaded, got)
+            finally:
+                subprocess.run(["umount", room])
+    finally:
+        subprocess.run(["losetup", "--detach", name])
+    print("devices that are not known: 7 runs")
 
 
 def read_only():

@@ -4,8 +4,9 @@
 Each command is run with each of the eight sets of closed descriptors 0, 1 and 2, and its image, status and outputs are compared with
 those of a run with all three open: a closed standard input is empty, a closed standard output ends in status 1 and `jb: WriteFault`
 where there is something for it, a closed standard error takes nothing, and the image is the same. Then: files of the wrong kind, a
-device (a loop device where one can be made: as root), files that cannot be made, locks, a limit of the file size, lines that are one
-write (with strace, where it is there), a mount to be read alone (as root). Prints a line for each part, and each run that is not as it must be. Needs Linux."""
+device (a loop device where one can be made: as root), loop devices over one another, a system that does not say what is mounted, files
+that cannot be made, links and locks that are refused, a limit of the file size, lines that are one write (with strace, where it is
+there), a mount to be read alone (as root). Prints a line for each part, and each run that is not as it must be. Needs Linux."""
 import itertools
 import os
 import resource
@@ -17,7 +18,8 @@ import sys
 import tempfile
 
 from anywhere import JB, QUEUE, SIZES, all_files, expect, fresh, made, run, wrong
-from anywhere_mounts import device, read_only
+from anywhere_mounts import device, no_devices, read_only, stacked, unknown
+from anywhere_refusals import links, locks
 
 
 def closed_sets(files, commands):
@@ -237,7 +239,12 @@ with tempfile.TemporaryDirectory() as folder:
     )
     kinds()
     device()
+    stacked()
+    unknown()
+    no_devices()
     making()
+    links()
+    locks()
     locked()
     read_only()
     both_synced()

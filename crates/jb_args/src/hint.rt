@@ -30,6 +30,10 @@ pub enum Hint {
     CannotRead(Option<i32>),
     /// A file is locked by another program, or mounted.
     InUse,
+    /// The system does not say whether a file is mounted.
+    MountsUnknown,
+    /// A file was not made, since its file system has no links.
+    NoLinks,
     /// The image is the file of the journal, too.
     SameFile,
     /// A text is longer than it may be.

@@ -33,6 +33,12 @@ macro_rules! diagnostics {
                 InUse, "in use ", "NAME",
                     "it is mounted, or another jb works on it: unmount it, or run the command again when that one has \
                      ended";
+                MountsUnknown, "mounts unknown ", "NAME",
+                    "the system does not say whether it is mounted: see to /proc, /sys and ulimit -n; recover --force \
+                     goes on, where it is surely not mounted";
+                NoLinks, "no links ", "NAME",
+                    "the file system of its folder has no links, which a new image needs: make it in another one, and \
+                     copy it";
                 SameFile, "same file ", "NAME", "the image and the journal are to be two files";
                 TooLong, "too long ", "NAME", "a queue text has at most 16777216 bytes, and a certificate 150994944";
                 ReadFault, "ReadFault", "",

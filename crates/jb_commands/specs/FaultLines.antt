@@ -2,7 +2,7 @@
 use Rattle.std.specs.Prelude.{ℕ, List, [], ◌∷◌, Option, None, Some, codes, decimal}
 use Rattle.jb_commands.specs.Lines.{Names, image_named, journal_named}
 use Rattle.jb_commands.specs.declared.fault.CommandFault.{CommandFault}
-use Rattle.jb_commands.specs.declared.fault.CommandFault.TheVariants.{CannotRead, InUse, SameFile, CannotMake, TooLong, Super, JournalLength, FileSystem, BadRevoke, HomeOutOfRange, NoHome, NeedsRecovery, NumbersSpent}
+use Rattle.jb_commands.specs.declared.fault.CommandFault.TheVariants.{CannotRead, InUse, MountsUnknown, NoLinks, SameFile, CannotMake, TooLong, Super, JournalLength, FileSystem, BadRevoke, HomeOutOfRange, NoHome, NeedsRecovery, NumbersSpent}
 use Rattle.jb_commands.specs.declared.streams.fault_line.Numbers.{Numbers}
 use Rattle.jb_commands.specs.declared.streams.fault_line.Numbers.TheVariants as numbers
 
@@ -16,6 +16,8 @@ parts_of words (numbers.Two one two) = words ∷ decimal one ∷ codes " " ∷ d
 abbrev pub named : Option Names → CommandFault → Option (List ℕ)
 named names (CannotRead name code) = Some name.now
 named names (InUse name) = Some name.now
+named names (MountsUnknown name) = Some name.now
+named names (NoLinks name) = Some name.now
 named names (SameFile name) = Some name.now
 named names (CannotMake name code) = Some name.now
 named names (TooLong name) = Some name.now

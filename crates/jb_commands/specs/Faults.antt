@@ -20,12 +20,14 @@ use Rattle.jb_super.specs.declared.fault.SuperFault.{SuperFault}
 use Rattle.jb_super.specs.declared.fault.SuperFault.TheVariants as super
 use Rattle.jb_commands.specs.Lines.{Names, image_named, journal_named, line_naming}
 use Rattle.jb_commands.specs.declared.fault.CommandFault.{CommandFault}
-use Rattle.jb_commands.specs.declared.fault.CommandFault.TheVariants.{CannotRead, InUse, SameFile, CannotMake, BadOption, TooLong, ReadFault, Super, JournalLength, FileSystem, Extents, BadRevoke, HomeOutOfRange, NoHome, NeedsRecovery, NumbersSpent, BlockSize, Accounts, Geometry, DeviceFault, Memory, WriteFault}
+use Rattle.jb_commands.specs.declared.fault.CommandFault.TheVariants.{CannotRead, InUse, MountsUnknown, NoLinks, SameFile, CannotMake, BadOption, TooLong, ReadFault, Super, JournalLength, FileSystem, Extents, BadRevoke, HomeOutOfRange, NoHome, NeedsRecovery, NumbersSpent, BlockSize, Accounts, Geometry, DeviceFault, Memory, WriteFault}
 
 -- the exit status
 abbrev pub status_of : CommandFault → ℕ
 status_of (CannotRead name code) = 2
 status_of (InUse name) = 2
+status_of (MountsUnknown name) = 2
+status_of (NoLinks name) = 2
 status_of (SameFile name) = 2
 status_of (CannotMake name code) = 2
 status_of (BadOption option) = 2
@@ -76,6 +78,8 @@ extents_line (extents.Home home) = line_naming (codes "jb: Extents Home " ∷ de
 abbrev pub line_of : Option Names → CommandFault → List ℕ
 line_of names (CannotRead name code) = line_naming (codes "jb: cannot read" ∷ []) (Some name.now)
 line_of names (InUse name) = line_naming (codes "jb: in use" ∷ []) (Some name.now)
+line_of names (MountsUnknown name) = line_naming (codes "jb: mounts unknown" ∷ []) (Some name.now)
+line_of names (NoLinks name) = line_naming (codes "jb: no links" ∷ []) (Some name.now)
 line_of names (SameFile name) = line_naming (codes "jb: same file" ∷ []) (Some name.now)
 line_of names (CannotMake name code) = line_naming (codes "jb: cannot make" ∷ []) (Some name.now)
 line_of names (BadOption option) = line_naming (codes "jb: bad option" ∷ []) None
@@ -127,6 +131,8 @@ extents_hint (extents.Home home) = hint.ExtentsHome
 abbrev pub hint_of : CommandFault → Hint
 hint_of (CannotRead name code) = hint.CannotRead code
 hint_of (InUse name) = hint.InUse
+hint_of (MountsUnknown name) = hint.MountsUnknown
+hint_of (NoLinks name) = hint.NoLinks
 hint_of (SameFile name) = hint.SameFile
 hint_of (CannotMake name code) = hint.CannotMake code
 hint_of (BadOption option) = hint.BadOption option

@@ -21,16 +21,17 @@ use Rattle.jb_commands.specs.Change.{ChangesOn}
 use Rattle.jb_commands.specs.Format.{new_limit_of}
 use Rattle.jb_commands.specs.Options.{AreGood, IsAskedBy, IsFirstBad, IsJournalLength}
 use Rattle.jb_commands.specs.declared.fault.CommandFault.{CommandFault}
-use Rattle.jb_commands.specs.declared.fault.CommandFault.TheVariants.{BadOption, CannotMake, CannotRead, DeviceFault, Geometry as BadGeometry, InUse, JournalLength, Memory, SameFile, Super}
+use Rattle.jb_commands.specs.declared.fault.CommandFault.TheVariants.{BadOption, CannotMake, CannotRead, DeviceFault, Geometry as BadGeometry, InUse, JournalLength, Memory, MountsUnknown, NoLinks, SameFile, Super}
 use Rattle.jb_commands.specs.declared.report.Report.{Report}
 use Rattle.jb_commands.specs.declared.report.Report.TheVariants.{Formatted}
 
 -- ---- images that are opened
 
--- the file of this name was not read, or another program has locked it, or it is that of the journal too, or its first bytes are refused as a superblock
+-- the file of this name was not read, or another program has locked it, or it is not known whether it is mounted, or it is that of the journal too, or its first bytes are refused as a superblock
 abbrev pub IsUnread : List ℕ → CommandFault → Type 0
 IsUnread name (CannotRead told code) = told.now ≡ name
 IsUnread name (InUse told) = told.now ≡ name
+IsUnread name (MountsUnknown told) = told.now ≡ name
 IsUnread name (SameFile told) = told.now ≡ name
 IsUnread name (Super fault) = (front : List ℕ) × (super_in front ≡ Err fault)
 IsUnread name Memory = Unit {0}
@@ -88,9 +89,10 @@ module _ {S T : Type 0} {start : Starts S} {other : Starts T} where
 
 -- ---- images that are made
 
--- the system refuses the file of this name, or memory ran out
+-- the system refuses the file of this name, or memory ran out; or it has no links there
 abbrev pub IsUnnamed : List ℕ → CommandFault → Type 0
 IsUnnamed name (CannotMake told code) = told.now ≡ name
+IsUnnamed name (NoLinks told) = told.now ≡ name
 IsUnnamed name Memory = ⊤
 IsUnnamed name _ = ⊥
 

@@ -19,6 +19,10 @@ pub enum CommandFault<'a> {
     CannotRead(&'a str, Option<i32>),
     /// Another program has locked the image of this name, or it would be changed and is mounted.
     InUse(&'a str),
+    /// The image of this name would be changed, and the system does not say whether it is mounted.
+    MountsUnknown(&'a str),
+    /// The file of this name was not made: its file system has no links.
+    NoLinks(&'a str),
     /// The image of this name is the file of the journal, too.
     SameFile(&'a str),
     /// The file of this name could not be made: it is there already, or the system refuses it; with the number of the
@@ -144,6 +148,7 @@ impl<'a> CommandFault<'a> {
             CommandFault::CannotRead(_, _) | CommandFault::TooLong(_) => 2,
             CommandFault::InUse(_) | CommandFault::SameFile(_) | CommandFault::CannotMake(_, _) =>
                 2,
+            CommandFault::MountsUnknown(_) | CommandFault::NoLinks(_) => 2,
             CommandFault::BadOption(_) => 2,
             CommandFault::ReadFault | CommandFault::Super(_) | CommandFault::BadRevoke(_) => 1,
             CommandFault::HomeOutOfRange(_, _, _)
@@ -191,6 +196,8 @@ impl<'a> CommandFault<'a> {
         match self {
             CommandFault::CannotRead(_, code) => Hint::CannotRead(code),
             CommandFault::InUse(_) => Hint::InUse,
+            CommandFault::MountsUnknown(_) => Hint::MountsUnknown,
+            CommandFault::NoLinks(_) => Hint::NoLinks,
             CommandFault::SameFile(_) => Hint::SameFile,
             CommandFault::CannotMake(_, code) => Hint::CannotMake(code),
             CommandFault::BadOption(option) => Hint::BadOption(option),

@@ -5,6 +5,7 @@ pub mod Disks
 pub mod ExtentImage
 pub mod Fields
 pub mod Files
+pub mod Grounds
 pub mod Images
 pub mod Judge
 pub mod Laws
@@ -13,5 +14,7 @@ pub mod Lists
 pub mod Mounts
 pub mod Pair
 pub mod Past
+pub mod Refusals
+pub mod Stretches
 pub mod System
 pub mod Words

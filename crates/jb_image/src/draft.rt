@@ -6,6 +6,7 @@
 use crate::fault::{ImageFault, MakeFault, SystemFault};
 use crate::left::is_left;
 use crate::opening::{Opening, lock};
+use crate::refusals::link_fault;
 use crate::unfinished::{draft_name, is_named, remove};
 use std::fs;
 use std::fs::{File, OpenOptions};
@@ -69,21 +70,17 @@ impl<'a> Draft<'a> {
     }
 
     /// Gives the file the name that it was made for, which stands after a crash then. A file that has come by this name
-    /// meanwhile stays as it is; where the file system has no links, only one that another program makes in the same
-    /// moment is replaced.
+    /// meanwhile stays as it is: so a link is made, and no rename, which would replace it.
     ///
     /// # Errors
-    /// `Exists` where there is a file of the name; `Image` with `System` where the system refuses a call. The name is
-    /// not given then.
+    /// `Exists` where there is a file of the name; `NoLinks` where the file system has no links; `Image` with `System`
+    /// where the system refuses a call. The name is not given then.
     pub fn publish<R: Files>(&self, rt: &R) -> Result<(), MakeFault>
         ensures only { IfErr result (λ fault. (fault ≡ NoGeometry → ⊥) × (fault ≡ DeviceFault → ⊥)) }
     {
         match fs::hard_link(rt, self.draft.as_str(), self.name) {
             Ok(()) => {}
-            Err(error) if error.kind() == ErrorKind::AlreadyExists => {
-                return Err(MakeFault::Exists);
-            }
-            Err(_) => self.rename(rt)?,
+            Err(error) => return Err(link_fault(error)),
         }
         match self.folder.sync_all() {
             Ok(()) => {
@@ -94,19 +91,6 @@ impl<'a> Draft<'a> {
                 remove(rt, self.name, &self.file.metadata());
                 Err(MakeFault::Image(error.into()))
             }
-        }
-    }
-
-    /// Renames the file, where none has the name.
-    fn rename<R: Files>(&self, rt: &R) -> Result<(), MakeFault>
-        ensures only { IfErr result (λ fault. (fault ≡ NoGeometry → ⊥) × (fault ≡ DeviceFault → ⊥)) }
-    {
-        if is_there(rt, self.name)? {
-            return Err(MakeFault::Exists);
-        }
-        match fs::rename(rt, self.draft.as_str(), self.name) {
-            Ok(()) => Ok(()),
-            Err(error) => Err(MakeFault::Image(error.into())),
         }
     }
 
@@ -142,8 +126,7 @@ fn folder_of(name: &str) -> &str {
 fn make_draft<R: Files<File = File>>(rt: &R, draft: &str) -> Result<File, ImageFault> {
     for _ in 0..TRIES {
         match File::create_new(rt, draft) {
-            Ok(file) if is_locked_as(rt, &file, draft) => return Ok(file),
-            Ok(_) => return Err(ImageFault::InUse),
+            Ok(file) => return locked_as(rt, file, draft),
             Err(error) if error.kind() == ErrorKind::AlreadyExists => {
                 if !remove_left(rt, draft)? {
                     return Err(error.into());
@@ -173,9 +156,7 @@ fn remove_left<R: Files<File = File>>(rt: &R, draft: &str) -> Result<bool, Image
         Err(error) if error.kind() == ErrorKind::NotFound => return Ok(true),
         Err(error) => return Err(error.into()),
     };
-    if !lock(&file, Opening::Change) {
-        return Err(ImageFault::InUse);
-    }
+    lock(&file, Opening::Change)?;
     if !is_left(&file) {
         return Ok(false);
     }
@@ -185,7 +166,17 @@ fn remove_left<R: Files<File = File>>(rt: &R, draft: &str) -> Result<bool, Image
     Ok(true)
 }
 
-/// Locks a file, and says whether it is locked and has this name still.
-fn is_locked_as<R: Files>(rt: &R, file: &File, name: &str) -> bool {
-    lock(file, Opening::Change) && is_named(rt, name, &file.metadata())
+/// A new file, locked, where it has this name still.
+///
+/// # Errors
+/// `InUse` where another process has locked it, or has removed it; those of [`lock`], and the file is removed then.
+fn locked_as<R: Files>(rt: &R, file: File, name: &str) -> Result<File, ImageFault> {
+    match lock(&file, Opening::Change) {
+        Ok(()) if is_named(rt, name, &file.metadata()) => Ok(file),
+        Ok(()) | Err(ImageFault::InUse) => Err(ImageFault::InUse),
+        Err(fault) => {
+            remove(rt, name, &file.metadata());
+            Err(fault)
+        }
+    }
 }

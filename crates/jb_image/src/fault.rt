@@ -39,6 +39,9 @@ pub enum ImageFault {
     /// It is mounted: a block device, or the file of a loop device.
     #[error("the image is mounted")]
     Mounted,
+    /// The system does not say what is mounted: without `/proc` or `/sys`, or with no room for another open file.
+    #[error("the system does not say whether the image is mounted")]
+    MountsUnknown,
     /// It is neither a regular file nor a block device.
     #[error("the image is neither a regular file nor a block device")]
     OtherKind,
@@ -51,13 +54,18 @@ pub enum ImageFault {
 }
 
 impl From<io::Error> for ImageFault {
+    ghost use Rattle.std.specs.Prelude.{◌≡◌};
+    ghost use Rattle.jb_image.specs.Refusals.{fault_of};
+
+    ghost from_gives = { λ error fault. fault ≡ fault_of error };
+
     fn from(error: io::Error) -> ImageFault {
-        if error.kind() == ErrorKind::OutOfMemory {
-            return ImageFault::Memory;
+        match error.kind() {
+            ErrorKind::OutOfMemory => ImageFault::Memory,
+            _ => ImageFault::System(SystemFault {
+                code: error.raw_os_error(),
+            }),
         }
-        ImageFault::System(SystemFault {
-            code: error.raw_os_error(),
-        })
     }
 }
 
@@ -76,6 +84,9 @@ pub enum MakeFault {
     /// There is a file of this name.
     #[error("there is a file of this name already")]
     Exists,
+    /// The file system has no links, so the file cannot get its name without replacing one that comes by it meanwhile.
+    #[error("the file system has no links; make the image on another one, and copy it")]
+    NoLinks,
     /// A file was not opened, made or named.
     #[error(transparent)]
     Image(ImageFault),

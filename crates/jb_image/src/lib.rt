@@ -10,6 +10,7 @@ mod extents_disk;
 mod extents_fault;
 mod fault;
 mod field;
+mod ground;
 mod image;
 mod image_geometry;
 mod judging;
@@ -21,6 +22,8 @@ mod mounted;
 mod opening;
 mod pair;
 mod past;
+mod refusals;
+mod stretch;
 mod system;
 mod unfinished;
 

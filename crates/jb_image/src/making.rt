@@ -25,7 +25,8 @@ use std::rt::Files;
 /// In this order: `Geometry` where a journal may not have so many blocks, a file so many bytes, or the last home blocks
 /// would have no number, before any file is looked at; `Exists` where there is a file of this name; `Image` with
 /// `InUse` where another process makes one, and with `System` or `Memory` where the system refuses a call or memory ran
-/// out; `DeviceFault` where the journal was not written. There is no new file of this name then. `System` has the
+/// out; `DeviceFault` where the journal was not written; `Exists` where a file has come by the name meanwhile, and
+/// `NoLinks` where the file system has no links. There is no new file of this name then. `System` has the
 /// number `EEXIST` where any other file has the other name, which stays as it is, and `ENAMETOOLONG` where that name is
 /// too long: where the file system takes 255 bytes, this one may have 241.
 pub fn create_image<R: Files<File = File> + AllocGlobal>(

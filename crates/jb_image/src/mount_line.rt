@@ -14,7 +14,7 @@ pub(crate) fn device_of(line: &[u8]) -> Option<(u64, u64)>
 }
 
 /// The numbers of a device that is written `A:B`.
-fn numbers(device: &[u8]) -> Option<(u64, u64)>
+pub(crate) fn numbers(device: &[u8]) -> Option<(u64, u64)>
     ensures { result ≡ numbers_in device.now }
 {
     let major = number(part(device, b':').0)?;

@@ -4,10 +4,11 @@ ghost use Rattle.jb_disk.specs.File.{IsMeasured, faults_of, size_of_blocks};
 
 use crate::fault::{ImageFault, SystemFault};
 use crate::mounted::is_mounted;
+use crate::refusals::{lock_answer, may_open};
 use crate::unfinished::forget;
 use jb_block::BlockSize;
 use jb_disk::{FileDisk, Start};
-use std::fs::{File, Metadata, OpenOptions, TryLockError};
+use std::fs::{File, Metadata, OpenOptions};
 use std::os::unix::fs::{FileTypeExt, MetadataExt};
 use std::rt::Files;
 use std::{fs, io};
@@ -19,6 +20,8 @@ pub enum Opening {
     Read,
     /// It is changed: no other program may have it open.
     Change,
+    /// It is changed, even where the system does not say whether it is mounted.
+    Forced,
 }
 
 /// The image of this name as a disk in blocks of this size, locked for as long as the disk is there.
@@ -60,14 +63,15 @@ pub fn open_holding<S: Start, R: Files<File = File> + AllocGlobal>(
 }
 
 /// The regular file or block device of this name, opened for reading, or for writing too, and locked for as long as it
-/// is open: for who changes it alone, or shared by all that read it. A file that the system cannot lock is used without
-/// a lock. The lock is one of `flock`: a program that takes none is not kept out. A file that is opened for change
+/// is open: for who changes it alone, or shared by all that read it. A file on a file system without locks is used
+/// without one. The lock is one of `flock`: a program that takes none is not kept out. A file that is opened for change
 /// loses its other name, of the [making](crate::create_image), which a killed process has left.
 ///
 /// # Errors
-/// In this order: `OtherKind` where it is of another kind; `System` where the system does not open it; `Mounted` where
-/// it is mounted, a file by a loop device, and is opened for change; `InUse` where another process has locked it.
-/// `Memory` where memory ran out.
+/// In this order: `OtherKind` where it is of another kind; `System` where the system does not open it; where it is
+/// opened for change, `Mounted` where it is mounted, a file by a loop device, and unless that is forced `MountsUnknown`
+/// where the system does not say so; `InUse` where another process has locked it, and `System` where the system refuses
+/// the lock for any other reason. `Memory` where memory ran out.
 pub fn open_file<R: Files<File = File> + AllocGlobal>(
     rt: &R,
     name: &str,
@@ -75,16 +79,14 @@ pub fn open_file<R: Files<File = File> + AllocGlobal>(
 ) -> Result<File, ImageFault> {
     // a file of another kind is not even opened: that may wait, or wake another program
     may_be_image(fs::metadata(rt, name))?;
-    let writes = opening == Opening::Change;
+    let writes = opening != Opening::Read;
     let file = OpenOptions::new().read(true).write(writes).open(rt, name)?;
     // the name may be that of another file by now
     let metadata = may_be_image(file.metadata())?;
-    if writes && is_mounted(rt, &metadata)? {
-        return Err(ImageFault::Mounted);
+    if writes {
+        may_open(opening, is_mounted(rt, &metadata))?;
     }
-    if !lock(&file, opening) {
-        return Err(ImageFault::InUse);
-    }
+    lock(&file, opening)?;
     if writes && metadata.nlink() > 1 {
         forget(rt, name, &file)?;
     }
@@ -100,11 +102,13 @@ fn may_be_image(metadata: io::Result<Metadata>) -> Result<Metadata, ImageFault> 
     Err(ImageFault::OtherKind)
 }
 
-/// Locks a file for as long as it is open, and answers false where another process has locked it.
-pub(crate) fn lock(file: &File, opening: Opening) -> bool {
-    let locked = match opening {
-        Opening::Change => file.try_lock(),
+/// Locks a file for as long as it is open, where its file system has locks.
+///
+/// # Errors
+/// `InUse` where another process has locked it; `System` or `Memory` where the system refuses it for another reason.
+pub(crate) fn lock(file: &File, opening: Opening) -> Result<(), ImageFault> {
+    lock_answer(match opening {
+        Opening::Change | Opening::Forced => file.try_lock(),
         Opening::Read => file.try_lock_shared(),
-    };
-    !matches!(locked, Err(TryLockError::WouldBlock))
+    })
 }

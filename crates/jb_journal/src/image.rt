@@ -23,9 +23,9 @@ use std::rt::Files;
 /// [`read_home`]. No other process can open the image so for as long as the disk is there, nor read it by `jb`.
 ///
 /// # Errors
-/// `Image` where there is no such image, another process has it open (`InUse`), it is mounted (`Mounted`), it is
-/// neither a regular file nor a block device, or the system refuses a call; `Recover` where the journal was not
-/// recovered: it has blocks of another size (`Super`), for one.
+/// `Image` where there is no such image, another process has it open (`InUse`), it is mounted (`Mounted`) or the system
+/// does not say whether it is (`MountsUnknown`), it is neither a regular file nor a block device, or the system refuses
+/// a call; `Recover` where the journal was not recovered: it has blocks of another size (`Super`), for one.
 pub fn open<R: Files<File = File> + AllocGlobal>(
     rt: &R,
     name: &str,
@@ -66,8 +66,8 @@ pub fn open_holding<S: Start, R: Files<File = File> + AllocGlobal>(
 ///
 /// # Errors
 /// Those of [`open`], but that there is no such image; `FewerHomes` where the image that is there has fewer homes;
-/// `Make` where it was not made, with `InUse` where another process makes it, and with `System` (`EEXIST`) where a file
-/// that no killed process leaves has the other name.
+/// `Make` where it was not made, with `InUse` where another process makes it, with `NoLinks` where the file system has no
+/// links, and with `System` (`EEXIST`) where a file that no killed process leaves has the other name.
 pub fn open_or_create<R: Files<File = File> + AllocGlobal>(
     rt: &R,
     name: &str,

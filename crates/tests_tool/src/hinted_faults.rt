@@ -11,13 +11,15 @@ use jb_super::SuperFault;
 use jb_tool::{CommandFault, LoadDone, LoadReport, Loaded, QueueHandleFault, Refused};
 
 /// Each fault of a command, with what the second line says beside the words of its row.
-static FAULTS: [(CommandFault<'static>, &str); 39] = [
+static FAULTS: [(CommandFault<'static>, &str); 41] = [
     (
         CommandFault::CannotRead("a", Some(2)),
         ": No such file or directory (os error 2)",
     ),
     (CommandFault::CannotRead("a", None), ""),
     (CommandFault::InUse("a"), ""),
+    (CommandFault::MountsUnknown("a"), ""),
+    (CommandFault::NoLinks("a"), ""),
     (CommandFault::SameFile("a"), ""),
     (
         CommandFault::CannotMake("a", Some(17)),

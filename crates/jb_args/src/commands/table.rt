@@ -222,7 +222,7 @@ pub(super) static RECOVER: CommandRow = CommandRow {
         Word {
             name: "force",
             kind: Kind::Flag,
-            help: "Recovers though the journal seems not to be the file system's own",
+            help: "Recovers though the journal seems not its file system's own, or mounts are unknown",
         },
         Word {
             name: "dry-run",

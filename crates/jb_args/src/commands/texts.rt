@@ -25,7 +25,8 @@ with its journal copied out. renumber and widen take a journal alone as their im
 Locks: load, recover, renumber and widen lock their files while they use them (flock), and format the one
 that it makes. cat shares its lock with others that only read. A file that another program has locked is
 refused at once, with jb: in use NAME and status 2. dump takes no lock. Nothing keeps out a program that
-takes none, as cp, and where the system has no lock for a file jb goes on without.
+takes none, as cp. On a file system without locks jb goes on without; any other fault of the lock is one
+of the file.
 
 Status: 0 where a command is done, and what it judges fits or is accepted; 1 where it is not, or an image
 is refused, or a read, a write or memory failed; 2 where the words, a file or a text cannot be taken. With
@@ -109,7 +110,8 @@ Example:
 pub(crate) const FORMAT: &str =
     "The image is made under another name, with .jb-unfinished after its own, and gets its own when it is whole.
 What a killed run has left under that name is removed, any other file stays, and nothing is made then. So
-a name has 241 bytes at most where the file system takes 255.
+a name has 241 bytes at most where the file system takes 255. It gets its own by a link, which replaces no
+file: on a file system without links, as FAT, nothing is made (jb: no links NAME).
 
 Status: 0 where the image is made, 1 where the numbers make no journal, 2 where an option is bad or the
 file cannot be made.
@@ -139,10 +141,11 @@ Example:
 
 /// Of `jb recover`.
 pub(crate) const RECOVER: &str =
-    "IMAGE is not to be mounted. A block device that is mounted, as far as /proc/self/mountinfo says so, or a
-file that is by a loop device (mount -o loop), is refused (jb: in use NAME); a mount that this process does
-not see, or of another device that stands on it, is not found, and jb cannot keep it from being mounted
-while it writes. So unmount it first.
+    "IMAGE is not to be mounted. A block device that is mounted, as far as /proc/self/mountinfo says so, its
+partitions and loop devices too, or a file that is by a loop device (mount -o loop), is refused (jb: in use
+NAME). Where the system does not say it, as without /proc or /sys, IMAGE is refused too (jb: mounts unknown
+NAME), unless --force is given. A mount that this process does not see, or of a RAID or a mapped device that
+stands on it, is not found, and jb cannot keep it from being mounted while it writes. So unmount it first.
 
 The journal of an ext3 or ext4 file system that is not mounted is recovered where it stands:
   debugfs -R 'stat <8>' fs.img      # lists its blocks after EXTENTS: or BLOCKS:

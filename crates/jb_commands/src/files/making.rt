@@ -28,8 +28,8 @@ const EXISTS: i32 = 17;
 /// `CommandFault::BadOption` where an option is bad, and `CommandFault::Geometry` where a journal may not have so
 /// many blocks, before any file is looked at; `CommandFault::CannotMake` where the file is there already, another
 /// process makes it, another file has its name with `.jb-unfinished` after it, or the system refuses it;
-/// `CommandFault::Memory` where memory ran out; `CommandFault::DeviceFault` where the journal was not written. There is
-/// no new file then.
+/// `CommandFault::NoLinks` where its file system has no links; `CommandFault::Memory` where memory ran out;
+/// `CommandFault::DeviceFault` where the journal was not written. There is no new file then.
 pub fn format_file<'a, S: Start, T: Start, R: Files<File = File> + AllocGlobal>(
     rt: &R,
     image: &'a str,
@@ -75,7 +75,8 @@ fn limit_of(new: ImageGeometry) -> Option<u32>
 ///
 /// # Errors
 /// `CommandFault::CannotMake` where the file is there already, another process makes it, or the system refuses it;
-/// `CommandFault::Memory` where memory ran out; `CommandFault::DeviceFault` where the journal was not written.
+/// `CommandFault::NoLinks` where its file system has no links; `CommandFault::Memory` where memory ran out;
+/// `CommandFault::DeviceFault` where the journal was not written.
 fn make_file<'a, S: Start, T: Start, R: Files<File = File> + AllocGlobal>(
     rt: &R,
     name: &'a str,
@@ -107,6 +108,7 @@ fn unmade<'a>(name: &'a str, fault: MakeFault) -> CommandFault<'a>
         MakeFault::Geometry => unreachable!(),
         MakeFault::DeviceFault => CommandFault::DeviceFault,
         MakeFault::Exists => CommandFault::CannotMake(name, Some(EXISTS)),
+        MakeFault::NoLinks => CommandFault::NoLinks(name),
         MakeFault::Image(fault) => unnamed(name, fault),
     }
 }
@@ -118,8 +120,9 @@ fn unnamed<'a>(name: &'a str, fault: ImageFault) -> CommandFault<'a>
     match fault {
         ImageFault::System(fault) => CommandFault::CannotMake(name, fault.code),
         ImageFault::Memory => CommandFault::Memory,
-        ImageFault::InUse | ImageFault::Mounted | ImageFault::OtherKind => {
-            CommandFault::CannotMake(name, None)
-        }
+        ImageFault::InUse
+        | ImageFault::Mounted
+        | ImageFault::MountsUnknown
+        | ImageFault::OtherKind => CommandFault::CannotMake(name, None),
     }
 }

@@ -31,8 +31,9 @@ const FRONT: usize = 1024;
 ///
 /// # Errors
 /// `CommandFault::CannotRead` where a file is of another kind, or cannot be opened or read; `CommandFault::InUse` where
-/// another program has locked it, or it would be changed and is mounted; `CommandFault::Super`
-/// where its first bytes are no superblock; `CommandFault::Memory` where memory ran out; `CommandFault::SameFile` where
+/// another program has locked it, or it would be changed and is mounted; `CommandFault::MountsUnknown` where it would
+/// be changed, and the system does not say whether it is mounted; `CommandFault::Super` where its first bytes are no
+/// superblock; `CommandFault::Memory` where memory ran out; `CommandFault::SameFile` where
 /// the two are one file; where the journal's own file has fewer blocks than the journal, `CommandFault::Super` with
 /// `Geometry`, and where it has more, `CommandFault::JournalLength`.
 pub fn open_counted<'a, S: Start, T: Start, R: Files<File = File> + AllocGlobal>(
@@ -248,7 +249,8 @@ pub(crate) fn disk_of<S: Start>(file: File, size: BlockSize) -> Result<FileDisk<
 /// # Errors
 /// `FileFault::Unread` where it is of another kind, or cannot be opened so; `FileFault::InUse` where another program
 /// has locked it, or it would be changed and is mounted, a block device or the file of a loop device;
-/// `FileFault::Memory` where memory ran out.
+/// `FileFault::MountsUnknown` where it would be changed, and the system does not say whether it is mounted, but where
+/// the opening is forced; `FileFault::Memory` where memory ran out.
 pub(crate) fn open_image<R: Files<File = File> + AllocGlobal>(
     rt: &R,
     name: &str,
@@ -259,6 +261,7 @@ pub(crate) fn open_image<R: Files<File = File> + AllocGlobal>(
     match open_file(rt, name, opening) {
         Ok(file) => Ok(file),
         Err(ImageFault::InUse | ImageFault::Mounted) => Err(FileFault::InUse),
+        Err(ImageFault::MountsUnknown) => Err(FileFault::MountsUnknown),
         Err(ImageFault::OtherKind) => Err(FileFault::Unread(None)),
         Err(ImageFault::System(fault)) => Err(FileFault::Unread(fault.code)),
         Err(ImageFault::Memory) => Err(FileFault::Memory),

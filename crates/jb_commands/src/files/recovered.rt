@@ -39,7 +39,7 @@ pub fn recover_file<'a, S: Start, T: Start, R: Files<File = File> + AllocGlobal>
             end: Err(CommandFault::BadOption(OptionName::List)),
         };
     }
-    let opening = opening_of(options.dry_run);
+    let opening = opening_of(options.dry_run, options.force);
     match open_placed(rt, image, options.journal, options.extents, opening) {
         Ok((mut disk, homes)) => {
             let end = recover_opened(rt.alloc(), &mut disk, homes, options);
@@ -55,10 +55,12 @@ pub fn recover_file<'a, S: Start, T: Start, R: Files<File = File> + AllocGlobal>
     }
 }
 
-/// How an image is opened that is to be recovered, or only read.
-fn opening_of(dry_run: bool) -> Opening {
+/// How an image is opened that is to be recovered, also by force, or only read.
+fn opening_of(dry_run: bool, force: bool) -> Opening {
     if dry_run {
         Opening::Read
+    } else if force {
+        Opening::Forced
     } else {
         Opening::Change
     }

@@ -17,6 +17,8 @@ pub(crate) enum FileFault {
     Unread(Option<i32>),
     /// Another program has locked it, or it would be changed and is mounted.
     InUse,
+    /// It would be changed, and the system does not say whether it is mounted.
+    MountsUnknown,
     /// Bytes of it are refused as a superblock.
     Super(SuperFault),
     /// Memory ran out.
@@ -100,6 +102,7 @@ fn fault_of<'a>(fault: FileFault, name: &'a str) -> CommandFault<'a>
     match fault {
         FileFault::Unread(code) => CommandFault::CannotRead(name, code),
         FileFault::InUse => CommandFault::InUse(name),
+        FileFault::MountsUnknown => CommandFault::MountsUnknown(name),
         FileFault::Super(fault) => CommandFault::Super(fault),
         FileFault::Memory => CommandFault::Memory,
     }

@@ -46,6 +46,8 @@ fn words_of(fault: CommandFault<'_>) -> (&'static str, Numbers)
         CommandFault::CannotRead(_, _) => ("jb: cannot read", Numbers::None),
         CommandFault::TooLong(_) => ("jb: too long", Numbers::None),
         CommandFault::InUse(_) => ("jb: in use", Numbers::None),
+        CommandFault::MountsUnknown(_) => ("jb: mounts unknown", Numbers::None),
+        CommandFault::NoLinks(_) => ("jb: no links", Numbers::None),
         CommandFault::SameFile(_) => ("jb: same file", Numbers::None),
         CommandFault::CannotMake(_, _) => ("jb: cannot make", Numbers::None),
         CommandFault::BadOption(_) => ("jb: bad option", Numbers::None),
@@ -130,6 +132,8 @@ fn name_after<'a>(fault: CommandFault<'a>, files: Option<TwoFiles<'a>>) -> Optio
     match fault {
         CommandFault::CannotRead(name, _)
         | CommandFault::InUse(name)
+        | CommandFault::MountsUnknown(name)
+        | CommandFault::NoLinks(name)
         | CommandFault::SameFile(name)
         | CommandFault::CannotMake(name, _)
         | CommandFault::TooLong(name) => Some(name),
