@@ -8,7 +8,7 @@ use Rattle.jb_disk.specs.OneCall.{AllMade, AreMade, Called, Reads}
 use Rattle.jb_disk.specs.Image.{Image, block, Same}
 use Rattle.jb_disk.specs.Faults.{CountsNone}
 use Rattle.jb_disk.specs.Kept.{Untouched}
-use Rattle.jb_disk.specs.KeptOn.{KeptOn}
+use Rattle.jb_disk.specs.KeptOn.{KeptOn, ReadsOn}
 use Rattle.jb_disk.specs.Runs.{part, IsRunOn, ReadsRun}
 use Rattle.jb_disk.specs.Time.{Goes}
 use Rattle.jb_disk.specs.declared.disk.Disk.{Ghosts}
@@ -82,6 +82,7 @@ pub record ReadSoFar {D : Type 0} (G : Ghosts D) (place k : ℕ) (old now : D) (
   pub found : G.honest now → ReadsRun (G.size old) k place (G.newest old) buf
   pub same_newest : G.honest now → G.newest now ≡ G.newest old
   pub goes : G.honest now → Goes G.may_leave G.moment G.left_since Same old now
+  pub reads : ReadsOn G old now
   pub untried : k ≡ 0 → now ≡ old
   pub passed : 0 < k → IsTrue (G.fails_next old) → ⊥
 

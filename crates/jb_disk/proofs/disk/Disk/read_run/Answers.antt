@@ -2,7 +2,7 @@ use Rattle.std.proofs.Common.{◌≡◌, ◌<◌, ◌≤◌, ◌*◌, ◌+◌, l
 use Rattle.std.proofs.lemmas.Result.{IfOk-from_err}
 use Rattle.jb_disk.specs.OneCall.{AllMade, Reads}
 use Rattle.jb_disk.specs.Image.{block}
-use Rattle.jb_disk.proofs.KeptOverCalls.{kept_ok}
+use Rattle.jb_disk.proofs.KeptOverCalls.{kept_ok, reads_on}
 use Rattle.jb_disk.proofs.RunReads.{made-more, not_spent, reads-more, refused-first}
 use Rattle.jb_disk.proofs.CallSteps.{goes-on}
 use Rattle.jb_disk.proofs.disk.Disk.read_run.Goals as goal
@@ -22,6 +22,9 @@ returns-in_err-read-clause-goes g c = λ honest.
     let was = c.read.ensures.kept.was_honest honest in
     let so = c.loop-k.invariant in
     goes-on _ _ _ _ _ _ _ (λ t d earlier left. g.met.Self.Disk.counts_now c.args.self.now t d (so.kept.was_honest was) earlier left) (so.goes was) (c.read.ensures.goes honest)
+
+pub returns-in_err-read-clause-unsynced : goal.returns-in_err-read-clause-unsynced
+returns-in_err-read-clause-unsynced g c = reads_on c.loop-k.invariant.reads c.read.ensures.unsynced
 
 pub returns-clause-own : goal.returns-clause-own
 returns-clause-own g c = λ _.
@@ -53,6 +56,7 @@ loop-k-preserved g c =
       goes = λ honest.
           let was = c.read.ensures.kept.was_honest honest in
           goes-on _ _ _ _ _ _ _ (λ t d earlier left. g.met.Self.Disk.counts_now old t d (so.kept.was_honest was) earlier left) (so.goes was) (c.read.ensures.goes honest);
+      reads = reads_on so.reads c.read.ensures.unsynced;
       untried = λ none. absurd (let h : ⊥ = omega (arith, none) in h);
       passed = λ some. not_spent G k old now c.read.result so.untried so.passed (λ burnt. (c.read.ensures.spent burnt).0) (subst IsOk (sym c.in_ok-read.was) refl);
     }
