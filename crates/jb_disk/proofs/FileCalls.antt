@@ -1,10 +1,10 @@
 -- A call of a file that is noted: what it means for a block or a run, and for what a crash may leave.
-use Rattle.std.proofs.Common.{◌≡◌, ◌≢◌, ◌<◌, ℕ, zero, suc, ◌*◌, ◌+◌, ◌-◌, ◌^◌, min, Bool, true, false, List, [], ◌∷◌, length, take, drop, set, refl, sym, ◌∙◌, subst, inl, inr, ⊎_elim, ap, add-zero, arith, take_all, Result, Ok, Err, is_ok, OnOk}
+use Rattle.std.proofs.Common.{◌≡◌, ◌≢◌, ◌<◌, ℕ, zero, suc, ◌*◌, Bool, true, false, List, [], ◌∷◌, length, take, drop, set, refl, sym, ◌∙◌, subst, inl, inr, ⊎_elim, ap, add-zero, arith, take_all, Result, Ok, Err, is_ok, OnOk}
 use Rattle.std.proofs.lemmas.Result.{on_ok_weaker}
 use Rattle.jb_disk.specs.Image.{Image, block, Torn, HasShape}
 use Rattle.jb_disk.specs.Runs.{IsOutside, ReadsRun, WroteRun, TornRun, part}
 use Rattle.jb_disk.specs.Time.{Goes}
-use Rattle.jb_disk.specs.Events.{Event, InBlocks, Makes, Agree, LeftBy, Leaves, LeftFrom, IsHonestFile, IsNoted, NoneAfter, NoneFailed, Passed, read, write_event, sync_event}
+use Rattle.jb_disk.specs.Events.{Event, InBlocks, Makes, Agree, LeftBy, Leaves, LeftFrom, IsHonestFile, NoneAfter, NoneFailed, Passed, read, write_event, sync_event}
 use Rattle.jb_disk.specs.Faults.{CountsFault, CountsOne, most_faults}
 use Rattle.jb_disk.specs.Kept.{Kept, OnlyReads}
 use Rattle.jb_disk.specs.RecordLaws.{torn_of_wrote, newest_left}

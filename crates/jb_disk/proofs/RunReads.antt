@@ -1,5 +1,5 @@
 -- Blocks in a row, read one after the other.
-use Rattle.std.proofs.Common.{◌≡◌, ◌<◌, ◌≤◌, ℕ, zero, suc, ◌+◌, ◌-◌, ◌*◌, ◌^◌, Bool, true, false, IsTrue, List, ◌++◌, length, take, drop, ⊎_elim, ap, refl, sym, ◌∙◌, subst, arith, Result, Ok, Err, IsOk, IsErr}
+use Rattle.std.proofs.Common.{◌≡◌, ◌<◌, ◌≤◌, ℕ, zero, suc, ◌+◌, ◌-◌, ◌*◌, ◌^◌, Bool, true, false, IsTrue, List, ◌++◌, length, take, drop, ⊎_elim, ap, refl, sym, ◌∙◌, subst, arith, Result, Ok, Err, is_ok, IsOk, IsErr}
 use Rattle.std.proofs.lemmas.Bool.{cases_lt}
 use Rattle.std.proofs.lemmas.List.{drop-take, take-append-le, take-take}
 use Rattle.std.proofs.lemmas.Slice.{take-put_mid_below, between-put_mid}
@@ -85,6 +85,11 @@ pub record ReadSoFar {D : Type 0} (G : Ghosts D) (place k : ℕ) (old now : D) (
   pub reads : ReadsOn G old now
   pub untried : k ≡ 0 → now ≡ old
   pub passed : 0 < k → IsTrue (G.fails_next old) → ⊥
+
+-- a call that failed did not succeed
+pub err_is : (r : Result Unit Fault) → IsErr r → is_ok r ≡ false
+err_is (Ok done) failed = absurd (let h : ⊥ = cc in h)
+err_is (Err fault) failed = refl
 
 -- where the first call had to fail, the one that failed was the first
 pub refused-first : {D : Type 0} (G : Ghosts D) (k : ℕ) (old now new : D) → (k ≡ 0 → now ≡ old) → (0 < k → IsTrue (G.fails_next old) → ⊥)

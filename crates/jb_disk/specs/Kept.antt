@@ -24,3 +24,8 @@ pub record Untouched {D : Type 0} (newest : D → Image) (may_leave : D → Imag
 pub record OnlyReads {D : Type 0} (may_leave : D → Image → Type 0) (may_go_on : D → Type 0) (old new : D) : Type 0 where
   pub pending : (c : Image) → may_leave old c → may_leave new c
   pub going : may_go_on old → may_go_on new
+
+-- a call that reads does what its kind of disk says of one, and reads alone
+pub record ReadsAs {D : Type 0} (may_leave : D → Image → Type 0) (may_go_on : D → Type 0) (made : Type 0) (old new : D) : Type 0 where
+  pub own : made
+  pub unsynced : OnlyReads may_leave may_go_on old new

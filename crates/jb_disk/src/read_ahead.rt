@@ -3,7 +3,7 @@ ghost use Rattle.std.specs.Prelude.{◌≡◌, ◌<◌, ◌≤◌, ℕ, length, 
 ghost use Rattle.jb_block.specs.Size.{bytes_of};
 ghost use Rattle.jb_disk.specs.Faults.{CountsFault};
 ghost use Rattle.jb_disk.specs.Image.{Image, block, Same};
-ghost use Rattle.jb_disk.specs.KeptOn.{KeptOn, ReadsOn};
+ghost use Rattle.jb_disk.specs.KeptOn.{KeptOn};
 ghost use Rattle.jb_disk.specs.ReadAhead.{size_ahead, AreAhead, FitsAhead, IsAhead, IsAheadOf};
 ghost use Rattle.jb_disk.specs.Time.{Goes};
 
@@ -48,7 +48,6 @@ impl ReadAhead {
         ensures held { IsAhead self.old place → (disk.new ≡ disk.old) × (self.new ≡ self.old) }
         ensures holds { OnOk result (IsAhead self.new place) }
         ensures ahead { IsAheadOf D.Disk place end self.new disk.new }
-        ensures unsynced { ReadsOn D.Disk disk.old disk.new }
         ensures newest { D.honest disk.new → D.newest disk.new ≡ D.newest disk.old }
         ensures goes { D.honest disk.new → Goes D.may_leave D.moment D.left_since Same disk.old disk.new }
     {

@@ -16,14 +16,12 @@ returns-clause-kept g c =
     kept_event (λ d. bytes_of (size_of_blocks d)) count_of faults_of g.S.Start.content events_of c.args.self.now _ c.settle.result 0 c.offset_of-at.result c.read_at-succeeded.result c.read_at-succeeded.new.buf refl refl
     c.read_at-succeeded.ensures c.settle.ensures.faults c.settle.ensures.one
 
-pub returns-clause-unsynced : goal.returns-clause-unsynced
-returns-clause-unsynced g c =
-    reads_event (λ d. bytes_of (size_of_blocks d)) g.S.Start.content events_of c.args.self.now _ c.offset_of-at.result c.read_at-succeeded.result c.read_at-succeeded.new.buf refl
-    c.read_at-succeeded.ensures
-
 pub returns-clause-own : goal.returns-clause-own
 returns-clause-own g c = record {
-  counted = subst (λ ok. CountsOne ok c.args.self.now.faults c.settle.new.faults) (sym c.settle.ensures.variant) c.settle.ensures.one;
-  noted = subst (λ ok. NotesCall (Reads c.args.place) ok c.args.self.now.host.log.events c.read_at-succeeded.new.self.log.events) (sym c.settle.ensures.variant)
-      (inl (c.offset_of-at.result, c.read_at-succeeded.new.buf, c.read_at-succeeded.ensures));
+  own = record {
+    counted = subst (λ ok. CountsOne ok c.args.self.now.faults c.settle.new.faults) (sym c.settle.ensures.variant) c.settle.ensures.one;
+    noted = subst (λ ok. NotesCall (Reads c.args.place) ok c.args.self.now.host.log.events c.read_at-succeeded.new.self.log.events) (sym c.settle.ensures.variant)
+        (inl (c.offset_of-at.result, c.read_at-succeeded.new.buf, c.read_at-succeeded.ensures));
+  };
+  unsynced = reads_event (λ d. bytes_of (size_of_blocks d)) g.S.Start.content events_of c.args.self.now _ c.offset_of-at.result c.read_at-succeeded.result c.read_at-succeeded.new.buf refl c.read_at-succeeded.ensures;
 }
