@@ -1,10 +1,12 @@
 -- A call of a file that is noted: what it means for a block or a run, and for what a crash may leave.
-use Rattle.std.proofs.Common.{◌≡◌, ◌≢◌, ◌<◌, ℕ, ◌*◌, Bool, true, false, List, [], ◌∷◌, length, take, drop, set, refl, sym, ◌∙◌, subst, inl, inr, ⊎_elim, ap, add-zero, arith, take_all, Result, Ok, Err, is_ok, OnOk}
+use Rattle.std.proofs.Common.{◌≡◌, ◌≢◌, ◌<◌, ℕ, zero, suc, ◌*◌, Bool, true, false, List, [], ◌∷◌, length, take, drop, set, refl, sym, ◌∙◌, subst, inl, inr, ⊎_elim, ap, add-zero, arith, take_all, Result, Ok, Err, is_ok, OnOk}
 use Rattle.std.proofs.lemmas.Result.{on_ok_weaker}
 use Rattle.jb_disk.specs.Image.{Image, block, Torn, HasShape}
 use Rattle.jb_disk.specs.Runs.{IsOutside, ReadsRun, WroteRun, TornRun, part}
 use Rattle.jb_disk.specs.Time.{Goes}
-use Rattle.jb_disk.specs.Events.{Event, InBlocks, Makes, Agree, LeftBy, Leaves, LeftFrom, IsHonestFile, read, write_event, sync_event}
+use Rattle.jb_disk.specs.Events.{Event, InBlocks, Makes, Agree, LeftBy, Leaves, LeftFrom, IsHonestFile, NoneAfter, NoneFailed, Passed, read, write_event, sync_event}
+use Rattle.jb_disk.specs.Faults.{CountsFault, CountsOne, most_faults}
+use Rattle.jb_disk.specs.Kept.{Kept, OnlyReads}
 use Rattle.jb_disk.specs.RecordLaws.{torn_of_wrote, newest_left}
 use Rattle.jb_disk.specs.declared.fault.Fault.{Fault}
 use Rattle.jb_disk.proofs.RunWrites.{wrote_run-more, wrote_run-none, wrote_run-one}
@@ -54,6 +56,34 @@ module _ {D : Type 0} (size : D → ℕ) (content : ℕ → Image) (events : D �
     keeps = λ t c earlier left. rw (same, noted) (inr left);
   }
 
+-- a call that succeeded was no write or sync that failed
+passed-ok : (kind : ℕ) (ok : Bool) (old new : ℕ) → CountsOne ok old new → old < most_faults → new ≡ old → Passed kind ok
+passed-ok zero ok old new counted few same = tt
+passed-ok (suc kind) true old new counted few same = tt
+passed-ok (suc kind) false old new counted few same = omega (arith, counted, few, same)
+
+-- what a call keeps, counts and leaves to be asked
+pub kept_event : {D : Type 0} (size count faults : D → ℕ) (content : ℕ → Image) (events : D → List Event) (old new : D) (r : Result Unit Fault) (kind at : ℕ) (ok : Bool) (bytes : List ℕ)
+    → size new ≡ size old → count new ≡ count old → events new ≡ (kind, at, ok, bytes) ∷ events old → CountsFault r (faults old) (faults new) → CountsOne ok (faults old) (faults new)
+    → Kept size count faults (λ d. IsHonestFile (size d) (count d) content (events d)) (λ d. NoneFailed (events d)) (λ d. NoneAfter (events d)) (CountsFault r) old new
+kept_event size count faults content events old new r kind at ok bytes same_size same_count noted counted one = record {
+  same_size = same_size;
+  same_count = same_count;
+  was_honest = λ honest. let told = rw (same_size, same_count, noted) at honest in (told.0, told.1.0);
+  counted = counted;
+  asked = λ few go well. subst NoneAfter (sym noted) go;
+  going = λ few go same. subst NoneFailed (sym noted) (passed-ok kind ok (faults old) (faults new) one few same, go);
+}
+
+-- a read leaves all that could be left, and no write or sync fails by it
+pub reads_event : {D : Type 0} (size : D → ℕ) (content : ℕ → Image) (events : D → List Event) (old new : D) (at : ℕ) (ok : Bool) (bytes : List ℕ)
+    → size new ≡ size old → events new ≡ read at ok bytes ∷ events old
+    → OnlyReads (λ d. Leaves (size d) content (events d)) (λ d. NoneFailed (events d)) old new
+reads_event size content events old new at ok bytes same_size noted = record {
+  pending = λ c left. rw (same_size, noted) left;
+  going = λ go. subst NoneFailed (sym noted) (tt, go);
+}
+
 -- ---- the newest call of a record
 
 -- what holds of a call that succeeded
@@ -72,7 +102,7 @@ module _ (size count : ℕ) (content : ℕ → Image) (older events : List Event
   -- what the newest call made
   made : (kind at : ℕ) (ok : Bool) (bytes : List ℕ) → events ≡ (kind, at, ok, bytes) ∷ older → IsHonestFile size count content events → Makes size kind at ok bytes old new
   made kind at ok bytes are honest =
-      subst (λ es. Makes size kind at ok bytes old (content (length es))) (sym are) (subst (Agree size content) are honest.1).2
+      subst (λ es. Makes size kind at ok bytes old (content (length es))) (sym are) (subst (Agree size content) are honest.1).1
 
   -- the record before it
   agreed : (e : Event) → events ≡ e ∷ older → IsHonestFile size count content events → Agree size content older

@@ -1,37 +1,63 @@
 -- What is kept over several calls, and how their faults are counted.
-use Rattle.std.proofs.Common.{ℕ, Result, Ok, Err, refl, ◌∙◌, subst, IsErr}
-use Rattle.jb_disk.specs.Faults.{CountsFault, CountsNone, MoreFaults}
-use Rattle.jb_disk.specs.Kept.{Kept}
+use Rattle.std.proofs.Common.{ℕ, Result, Ok, Err, refl, sym, ◌∙◌, subst, IsErr, ◌<◌}
+use Rattle.jb_disk.specs.Faults.{CountsFault, CountsNone, MoreFaults, most_faults}
+use Rattle.jb_disk.specs.Image.{Image}
+use Rattle.jb_disk.specs.Kept.{Kept, OnlyReads}
 
--- no call at all
-pub kept_same : {D : Type 0} {size count faults : D → ℕ} {honest : D → Type 0} {counts : ℕ → ℕ → Type 0} (disk : D)
-    → counts (faults disk) (faults disk) → Kept size count faults honest counts disk disk
-kept_same disk counted = record { same_size = refl; same_count = refl; was_honest = λ is. is; counted = counted }
+module _ {D : Type 0} {size count faults : D → ℕ} {honest may_go_on well_asked : D → Type 0} where
+  -- no call at all
+  pub kept_same : {counts : ℕ → ℕ → Type 0} (disk : D) → counts (faults disk) (faults disk) → Kept size count faults honest may_go_on well_asked counts disk disk
+  kept_same disk counted = record {
+    same_size = refl;
+    same_count = refl;
+    was_honest = λ is. is;
+    counted = counted;
+    asked = λ few go well. well;
+    going = λ few go same. go;
+  }
 
--- one call after another: what both of them count is told anew
-pub kept_on : {D : Type 0} {size count faults : D → ℕ} {honest : D → Type 0} {counts next both : ℕ → ℕ → Type 0} {old mid new : D}
-    → Kept size count faults honest counts old mid → Kept size count faults honest next mid new → both (faults old) (faults new)
-    → Kept size count faults honest both old new
-kept_on first second counted = record {
-  same_size = second.same_size ∙ first.same_size;
-  same_count = second.same_count ∙ first.same_count;
-  was_honest = λ is. first.was_honest (second.was_honest is);
-  counted = counted;
-}
+  -- a call after calls that succeeded: what all of them count is told anew
+  pub kept_on : {next both : ℕ → ℕ → Type 0} {old mid new : D} → Kept size count faults honest may_go_on well_asked CountsNone old mid
+      → Kept size count faults honest may_go_on well_asked next mid new → both (faults old) (faults new) → Kept size count faults honest may_go_on well_asked both old new
+  kept_on {old = old} {mid = mid} first second counted =
+      let still : faults old < most_faults → faults mid < most_faults = λ few. subst (λ n. n < most_faults) (sym first.counted) few in
+      record {
+        same_size = second.same_size ∙ first.same_size;
+        same_count = second.same_count ∙ first.same_count;
+        was_honest = λ is. first.was_honest (second.was_honest is);
+        counted = counted;
+        asked = λ few go well. second.asked (still few) (first.going few go first.counted) (first.asked few go well);
+        going = λ few go same. second.going (still few) (first.going few go first.counted) (same ∙ sym first.counted);
+      }
 
--- two calls that succeeded
-pub kept_ok : {D : Type 0} {size count faults : D → ℕ} {honest : D → Type 0} {old mid new : D}
-    → Kept size count faults honest CountsNone old mid → Kept size count faults honest CountsNone mid new → Kept size count faults honest CountsNone old new
-kept_ok first second = kept_on first second (second.counted ∙ first.counted)
+  -- calls that succeeded
+  pub kept_ok : {old mid new : D} → Kept size count faults honest may_go_on well_asked CountsNone old mid
+      → Kept size count faults honest may_go_on well_asked CountsNone mid new → Kept size count faults honest may_go_on well_asked CountsNone old new
+  kept_ok first second = kept_on first second (second.counted ∙ first.counted)
 
--- one that failed, after calls that succeeded, and what called it fails too
-pub kept_err : {T E D : Type 0} {size count faults : D → ℕ} {honest : D → Type 0} {old mid new : D} (result : Result T E)
-    → IsErr result → Kept size count faults honest CountsNone old mid → Kept size count faults honest MoreFaults mid new
-    → Kept size count faults honest (CountsFault result) old new
-kept_err {faults = faults} {new = new} (Ok value) failed first second = absurd (let h : ⊥ = cc in h)
-kept_err {faults = faults} {new = new} (Err fault) failed first second = kept_on first second (subst (λ n. MoreFaults n (faults new)) first.counted second.counted)
+  -- one that failed, after calls that succeeded, and what called it fails too
+  pub kept_err : {T E : Type 0} {old mid new : D} (result : Result T E) → IsErr result → Kept size count faults honest may_go_on well_asked CountsNone old mid
+      → Kept size count faults honest may_go_on well_asked MoreFaults mid new → Kept size count faults honest may_go_on well_asked (CountsFault result) old new
+  kept_err {new = new} (Ok value) failed first second = absurd (let h : ⊥ = cc in h)
+  kept_err {new = new} (Err fault) failed first second = kept_on first second (subst (λ n. MoreFaults n (faults new)) first.counted second.counted)
 
--- what is counted is told in another way
-pub kept_as : {D : Type 0} {size count faults : D → ℕ} {honest : D → Type 0} {counts other : ℕ → ℕ → Type 0} {old new : D}
-    → Kept size count faults honest counts old new → other (faults old) (faults new) → Kept size count faults honest other old new
-kept_as kept counted = record { same_size = kept.same_size; same_count = kept.same_count; was_honest = kept.was_honest; counted = counted }
+  -- what is counted is told in another way
+  pub kept_as : {counts other : ℕ → ℕ → Type 0} {old new : D} → Kept size count faults honest may_go_on well_asked counts old new → other (faults old) (faults new)
+      → Kept size count faults honest may_go_on well_asked other old new
+  kept_as kept counted = record {
+    same_size = kept.same_size;
+    same_count = kept.same_count;
+    was_honest = kept.was_honest;
+    counted = counted;
+    asked = kept.asked;
+    going = kept.going;
+  }
+
+module _ {D : Type 0} {may_leave : D → Image → Type 0} {may_go_on : D → Type 0} where
+  -- no read at all
+  pub reads_none : (disk : D) → OnlyReads may_leave may_go_on disk disk
+  reads_none disk = record { pending = λ c left. left; going = λ go. go }
+
+  -- reads after reads
+  pub reads_on : {old mid new : D} → OnlyReads may_leave may_go_on old mid → OnlyReads may_leave may_go_on mid new → OnlyReads may_leave may_go_on old new
+  reads_on first second = record { pending = λ c left. second.pending c (first.pending c left); going = λ go. second.going (first.going go) }

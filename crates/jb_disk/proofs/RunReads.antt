@@ -1,5 +1,5 @@
 -- Blocks in a row, read one after the other.
-use Rattle.std.proofs.Common.{◌≡◌, ◌<◌, ◌≤◌, ℕ, zero, suc, ◌+◌, ◌-◌, ◌*◌, ◌^◌, Bool, true, false, IsTrue, List, ◌++◌, length, take, drop, ⊎_elim, ap, refl, sym, ◌∙◌, subst, arith, Result, Ok, Err, IsOk, IsErr}
+use Rattle.std.proofs.Common.{◌≡◌, ◌<◌, ◌≤◌, ℕ, zero, suc, ◌+◌, ◌-◌, ◌*◌, ◌^◌, Bool, true, false, IsTrue, List, ◌++◌, length, take, drop, ⊎_elim, ap, refl, sym, ◌∙◌, subst, arith, Result, Ok, Err, is_ok, IsOk, IsErr}
 use Rattle.std.proofs.lemmas.Bool.{cases_lt}
 use Rattle.std.proofs.lemmas.List.{drop-take, take-append-le, take-take}
 use Rattle.std.proofs.lemmas.Slice.{take-put_mid_below, between-put_mid}
@@ -8,7 +8,7 @@ use Rattle.jb_disk.specs.OneCall.{AllMade, AreMade, Called, Reads}
 use Rattle.jb_disk.specs.Image.{Image, block, Same}
 use Rattle.jb_disk.specs.Faults.{CountsNone}
 use Rattle.jb_disk.specs.Kept.{Untouched}
-use Rattle.jb_disk.specs.KeptOn.{KeptOn}
+use Rattle.jb_disk.specs.KeptOn.{KeptOn, ReadsOn}
 use Rattle.jb_disk.specs.Runs.{part, IsRunOn, ReadsRun}
 use Rattle.jb_disk.specs.Time.{Goes}
 use Rattle.jb_disk.specs.declared.disk.Disk.{Ghosts}
@@ -82,8 +82,14 @@ pub record ReadSoFar {D : Type 0} (G : Ghosts D) (place k : ℕ) (old now : D) (
   pub found : G.honest now → ReadsRun (G.size old) k place (G.newest old) buf
   pub same_newest : G.honest now → G.newest now ≡ G.newest old
   pub goes : G.honest now → Goes G.may_leave G.moment G.left_since Same old now
+  pub reads : ReadsOn G old now
   pub untried : k ≡ 0 → now ≡ old
   pub passed : 0 < k → IsTrue (G.fails_next old) → ⊥
+
+-- a call that failed did not succeed
+pub err_is : (r : Result Unit Fault) → IsErr r → is_ok r ≡ false
+err_is (Ok done) failed = absurd (let h : ⊥ = cc in h)
+err_is (Err fault) failed = refl
 
 -- where the first call had to fail, the one that failed was the first
 pub refused-first : {D : Type 0} (G : Ghosts D) (k : ℕ) (old now new : D) → (k ≡ 0 → now ≡ old) → (0 < k → IsTrue (G.fails_next old) → ⊥)

@@ -46,16 +46,32 @@ Makes size (suc zero) at false bytes old new = InBlocks size at bytes (λ place 
 Makes size (suc (suc zero)) at ok bytes old new = new ≡ old
 Makes size (suc (suc (suc more))) at ok bytes old new = (new ≡ old) × (length old ≡ at / size)
 
--- A call may follow these: the newest of them is no sync that failed. After such a sync the system may have dropped what was
--- written and still call the next sync a success, so of a file that is asked anything more nothing is known.
-abbrev pub MayGoOn : List Event → Type 0
-MayGoOn [] = Unit {0}
-MayGoOn (e ∷ older) = e.0 ≡ 2 → e.2 ≡ true
+-- a read, or a call that succeeded
+abbrev pub Passed : ℕ → Bool → Type 0
+Passed zero ok = Unit {0}
+Passed (suc kind) true = Unit {0}
+Passed (suc kind) false = ⊥
 
--- the answers are those of a file that had this content after each so many calls, and nothing was asked after a sync that failed
+-- No write and no sync has failed. After a sync that failed the system may have dropped what was written and still call the next sync a
+-- success, so nothing may be asked then.
+abbrev pub NoneFailed : List Event → Type 0
+NoneFailed [] = Unit {0}
+NoneFailed (e ∷ older) = Passed e.0 e.2 × NoneFailed older
+
+-- no call came after a write or a sync that failed
+abbrev pub NoneAfter : List Event → Type 0
+NoneAfter [] = Unit {0}
+NoneAfter (e ∷ older) = NoneFailed older
+
+-- One call noted no more than one event of this kind, with this answer: where it failed it noted one. (A run of blocks is one call of the
+-- system, and the calls of its other blocks note nothing.)
+abbrev pub IsNoted : ℕ → Bool → List Event → List Event → Type 0
+IsNoted kind ok old new = ((at : ℕ) × (bytes : List ℕ) × (new ≡ (kind, at, ok, bytes) ∷ old)) ⊎ ((ok ≡ true) × (new ≡ old))
+
+-- the answers are those of a file that had this content after each so many calls
 abbrev pub Agree : ℕ → (ℕ → Image) → List Event → Type 0
 Agree size content [] = Unit {0}
-Agree size content (e ∷ older) = Agree size content older × MayGoOn older × Makes size e.0 e.1 e.2 e.3 (content (length older)) (content (length (e ∷ older)))
+Agree size content (e ∷ older) = Agree size content older × Makes size e.0 e.1 e.2 e.3 (content (length older)) (content (length (e ∷ older)))
 
 -- what a crash may leave after a call, from what it could leave before it and the content
 abbrev pub LeftBy : ℕ → ℕ → ℕ → Bool → List ℕ → Image → (Image → Type 0) → Image → Type 0

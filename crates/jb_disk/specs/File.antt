@@ -1,9 +1,11 @@
 -- What a file as a disk shows of its fields, and what its record says of what it holds.
-use Rattle.std.specs.Prelude.{◌≡◌, ◌/◌, ℕ, List, [], ◌∷◌, length}
+use Rattle.std.specs.Prelude.{◌≡◌, ◌/◌, ℕ, Bool, List, [], ◌∷◌, length}
 use Rattle.jb_block.specs.Size.{bytes_of}
 use Rattle.jb_block.specs.declared.size.BlockSize.{BlockSize}
-use Rattle.jb_disk.specs.Events.{Event, measured, IsHonestFile, Leaves, LeftFrom}
+use Rattle.jb_disk.specs.Events.{Event, measured, sync_event, IsHonestFile, IsNoted, Leaves, LeftFrom, NoneAfter, NoneFailed}
+use Rattle.jb_disk.specs.Faults.{CountsOne}
 use Rattle.jb_disk.specs.Image.{Image}
+use Rattle.jb_disk.specs.OneCall.{Called, Reads, Writes, Syncs}
 use Rattle.jb_disk.specs.contracts.start.UnknownStart.TheImpl.{ghosts as unknown}
 use Rattle.jb_disk.specs.declared.file.FileDisk.{FileDisk}
 use Rattle.jb_disk.specs.declared.start.Start.{Ghosts}
@@ -12,6 +14,12 @@ use Rattle.jb_disk.specs.declared.start.Unknown.{Unknown}
 -- a file of which nothing is supposed
 abbrev pub UnknownFile : Type 0
 UnknownFile = FileDisk Unknown unknown
+
+-- what one call of a disk notes of a file: a sync its one event, with the answer that it gives
+abbrev pub NotesCall : Called → Bool → List Event → List Event → Type 0
+NotesCall (Reads place) ok old new = IsNoted 0 ok old new
+NotesCall (Writes place bytes) ok old new = IsNoted 1 ok old new
+NotesCall Syncs ok old new = new ≡ sync_event ok ∷ old
 
 module _ {S : Type 0} {start : Ghosts S} where
   -- the size of its blocks
@@ -34,7 +42,7 @@ module _ {S : Type 0} {start : Ghosts S} where
   abbrev pub IsMeasured : FileDisk S start → Type 0
   IsMeasured f = (len : ℕ) × (events_of f ≡ measured len ∷ []) × (count_of f ≡ len / bytes_of (size_of_blocks f))
 
-  -- its answers so far are those of an honest file that had the contents of `S`, and it was asked nothing after a sync that failed
+  -- its answers so far are those of an honest file that had the contents of `S`
   abbrev pub IsHonest : FileDisk S start → Type 0
   IsHonest f = IsHonestFile (bytes_of (size_of_blocks f)) (count_of f) start.content (events_of f)
 
@@ -49,3 +57,16 @@ module _ {S : Type 0} {start : Ghosts S} where
   -- what a crash may have left of it when so many calls had been made, or later, if it is honest
   abbrev pub FileLeft : FileDisk S start → ℕ → Image → Type 0
   FileLeft f = LeftFrom (bytes_of (size_of_blocks f)) start.content (events_of f)
+
+  -- no write and no sync of it has failed
+  abbrev pub MayGoOn : FileDisk S start → Type 0
+  MayGoOn f = NoneFailed (events_of f)
+
+  -- nothing was asked of it after a write or a sync that failed
+  abbrev pub IsWellAsked : FileDisk S start → Type 0
+  IsWellAsked f = NoneAfter (events_of f)
+
+  -- a call is one of the system at most, with the answer that it gives, and one that fails counts one fault
+  pub record IsOneCall (call : Called) (old new : FileDisk S start) (ok : Bool) : Type 0 where
+    pub counted : CountsOne ok (faults_of old) (faults_of new)
+    pub noted : NotesCall call ok (events_of old) (events_of new)

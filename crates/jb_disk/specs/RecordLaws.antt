@@ -62,7 +62,7 @@ module _ (count size : ℕ) (content : ℕ → Image) (shapes : (t : ℕ) → Ha
   newest_left [] agree = refl
   newest_left (e ∷ older) agree =
       newest_by count size e.0 e.1 e.2 e.3 (content (length older)) (content (length (e ∷ older))) (Leaves size content older)
-      (shapes (length older)) (shapes (length (e ∷ older))) (newest_left older agree.0) agree.2
+      (shapes (length older)) (shapes (length (e ∷ older))) (newest_left older agree.0) agree.1
 
   -- what a crash may leave has the shape of the disk
   pub left_shape : (events : List Event) (c : Image) → Leaves size content events c → HasShape count size c

@@ -5,7 +5,7 @@ ghost use Rattle.jb_disk.specs.Image.{Image, block, Torn, Same, Only, HasShape};
 ghost use Rattle.jb_disk.specs.Time.{Goes};
 ghost use Rattle.jb_disk.specs.OneCall.{AreMade, Called, Reads, Writes, Syncs};
 ghost use Rattle.jb_disk.specs.Faults.{CountsFault};
-ghost use Rattle.jb_disk.specs.Kept.{Kept, Untouched};
+ghost use Rattle.jb_disk.specs.Kept.{Kept, ReadsAs, Untouched};
 ghost use Rattle.jb_disk.specs.Runs.{part, IsRunOn, ReadsRun, TornRun, WroteRun};
 ghost use Rattle.jb_disk.specs.Steps.{Steps};
 
@@ -44,6 +44,12 @@ pub trait Disk {
     /// The next read, write or sync fails and is not tried.
     ghost fails_next: { Self → Bool } = { λ _. false };
 
+    /// No write and no sync has failed, so a call may follow; nothing is said unless a disk says it.
+    ghost may_go_on: { Self → Type 0 } = { λ _. Unit {0} };
+
+    /// No call came after a write or a sync that failed; nothing is said unless a disk says it.
+    ghost well_asked: { Self → Type 0 } = { λ _. Unit {0} };
+
     /// What one call does to the state of this kind of disk, by whether it succeeds; nothing is said
     /// unless a disk says it.
     ghost own: { Called → Self → Self → Bool → Type 0 } = { λ _ _ _ _. Unit {0} };
@@ -65,10 +71,11 @@ pub trait Disk {
     fn read(&mut self, place: u64, buf: &mut [u8]) -> Result<(), Fault>
         requires place { place < count self.old }
         requires block { length buf.old ≡ size self.old }
-        ensures kept { Kept size count faults honest (CountsFault result) self.old self.new }
+        ensures kept { Kept size count faults honest may_go_on well_asked (CountsFault result) self.old self.new }
         ensures spent { IsTrue (fails_next self.old) → IsErr result
             × Untouched newest may_leave moment self.old self.new }
-        ensures own { own (Reads place) self.old self.new (is_ok result) }
+        ensures own { ReadsAs may_leave may_go_on (own (Reads place) self.old self.new (is_ok result))
+            self.old self.new }
         ensures found { honest self.new → OnOk result (buf.new ≡ block (newest self.old) place) }
         ensures newest { honest self.new → newest self.new ≡ newest self.old }
         ensures goes { honest self.new → Goes may_leave moment left_since Same self.old self.new };
@@ -79,7 +86,7 @@ pub trait Disk {
     fn write(&mut self, place: u64, bytes: &[u8]) -> Result<(), Fault>
         requires place { place < count self.old }
         requires block { length bytes.now ≡ size self.old }
-        ensures kept { Kept size count faults honest (CountsFault result) self.old self.new }
+        ensures kept { Kept size count faults honest may_go_on well_asked (CountsFault result) self.old self.new }
         ensures spent { IsTrue (fails_next self.old) → IsErr result
             × Untouched newest may_leave moment self.old self.new }
         ensures own { own (Writes place bytes.now) self.old self.new (is_ok result) }
@@ -90,7 +97,7 @@ pub trait Disk {
     /// Makes the newest content the only one that a crash may leave. A sync that fails promises nothing
     /// of what was written before it, and of a file nothing is known once anything is asked of it then.
     fn sync(&mut self) -> Result<(), Fault>
-        ensures kept { Kept size count faults honest (CountsFault result) self.old self.new }
+        ensures kept { Kept size count faults honest may_go_on well_asked (CountsFault result) self.old self.new }
         ensures spent { IsTrue (fails_next self.old) → IsErr result
             × Untouched newest may_leave moment self.old self.new }
         ensures own { own Syncs self.old self.new (is_ok result) }
@@ -102,11 +109,11 @@ pub trait Disk {
     /// disks make one call of `read` for each of them. After a fault `buf` may hold anything.
     fn read_run(&mut self, place: u64, blocks: usize, buf: &mut [u8]) -> Result<(), Fault>
         requires run { IsRunOn (size self.old) (count self.old) place blocks (length buf.old) }
-        ensures kept { Kept size count faults honest (CountsFault result) self.old self.new }
+        ensures kept { Kept size count faults honest may_go_on well_asked (CountsFault result) self.old self.new }
         ensures spent { IsTrue (fails_next self.old) → IsErr result
             × Untouched newest may_leave moment self.old self.new }
-        ensures own { IsTrue runs_as_calls
-            → AreMade own (λ k. Reads (place + k)) blocks self.old self.new (is_ok result) }
+        ensures own { ReadsAs may_leave may_go_on (IsTrue runs_as_calls
+            → AreMade own (λ k. Reads (place + k)) blocks self.old self.new (is_ok result)) self.old self.new }
         ensures found { honest self.new → OnOk result
             (ReadsRun (size self.old) blocks place (newest self.old) buf.new) }
         ensures newest { honest self.new → newest self.new ≡ newest self.old }
@@ -125,7 +132,7 @@ pub trait Disk {
     /// find either, too.
     fn write_run(&mut self, place: u64, blocks: usize, bytes: &[u8]) -> Result<(), Fault>
         requires run { IsRunOn (size self.old) (count self.old) place blocks (length bytes.now) }
-        ensures kept { Kept size count faults honest (CountsFault result) self.old self.new }
+        ensures kept { Kept size count faults honest may_go_on well_asked (CountsFault result) self.old self.new }
         ensures spent { IsTrue (fails_next self.old) → IsErr result
             × Untouched newest may_leave moment self.old self.new }
         ensures own { IsTrue runs_as_calls

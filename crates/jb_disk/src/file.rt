@@ -76,7 +76,7 @@ impl<S: Start> FileDisk<S> {
 /// It is an honest disk where its answers so far are those of an honest file that held what `S` says. The record of
 /// its calls has them, for clauses alone: no code can know it.
 impl<S: Start> Disk for FileDisk<S> {
-    ghost use Rattle.jb_disk.specs.File.{IsHonest, content_of, FileLeaves, FileLeft};
+    ghost use Rattle.jb_disk.specs.File.{IsHonest, content_of, FileLeaves, FileLeft, IsOneCall, IsWellAsked, MayGoOn};
     ghost use Rattle.jb_disk.specs.RecordLaws.{newest_left, left_shape, from_shape, left_from_now, left_from_only};
 
     ghost size = { λ f. bytes_of f.size };
@@ -95,7 +95,11 @@ impl<S: Start> Disk for FileDisk<S> {
 
     ghost left_since = { FileLeft };
 
-    ghost own = { λ _ old new ok. CountsOne ok old.faults new.faults };
+    ghost may_go_on = { MayGoOn };
+
+    ghost well_asked = { IsWellAsked };
+
+    ghost own = { IsOneCall };
 
     ghost has_size = { λ f. bytes_are_block_size f.size };
 

@@ -1,4 +1,4 @@
-use Rattle.std.proofs.Common.{◌≡◌, ℕ, zero, suc, List, [], ◌∷◌, ◌++◌, length, Vec, Global, Bor, refl, sym, ◌∙◌, ap, arith, length-append}
+use Rattle.std.proofs.Common.{◌≡◌, ℕ, zero, suc, List, [], ◌∷◌, ◌++◌, Vec, Global, Bor, refl, ap, arith}
 use Rattle.std.proofs.lemmas.Result.{IfOk-from_err}
 use Rattle.jb_block.proofs.Refusals.{on-refusal}
 use Rattle.jb_disk.specs.CrashWrites.{bytes_of_writes, table_of, writes_at}

@@ -1,9 +1,9 @@
 use Rattle.std.proofs.Common.{◌≡◌, ◌<◌, ◌≤◌, ◌*◌, ◌+◌, length, refl, ◌∙◌, sym, ap, subst, rules, arith, IsOk}
 use Rattle.std.proofs.lemmas.Result.{IfOk-from_err}
-use Rattle.jb_disk.specs.OneCall.{AllMade, Reads}
+use Rattle.jb_disk.specs.OneCall.{AllMade, AreMade, Reads}
 use Rattle.jb_disk.specs.Image.{block}
-use Rattle.jb_disk.proofs.KeptOverCalls.{kept_ok}
-use Rattle.jb_disk.proofs.RunReads.{made-more, not_spent, reads-more, refused-first}
+use Rattle.jb_disk.proofs.KeptOverCalls.{kept_ok, reads_on}
+use Rattle.jb_disk.proofs.RunReads.{err_is, made-more, not_spent, reads-more, refused-first}
 use Rattle.jb_disk.proofs.CallSteps.{goes-on}
 use Rattle.jb_disk.proofs.disk.Disk.read_run.Goals as goal
 
@@ -23,10 +23,20 @@ returns-in_err-read-clause-goes g c = λ honest.
     let so = c.loop-k.invariant in
     goes-on _ _ _ _ _ _ _ (λ t d earlier left. g.met.Self.Disk.counts_now c.args.self.now t d (so.kept.was_honest was) earlier left) (so.goes was) (c.read.ensures.goes honest)
 
+pub returns-in_err-read-clause-own : goal.returns-in_err-read-clause-own
+returns-in_err-read-clause-own g c = record {
+  own = λ _. subst (AreMade g.Self.Disk.own (λ j. Reads (c.args.place + j)) c.args.blocks c.args.self.now c.read.new.self) (sym (err_is c.from_residual.result c.from_residual.ensures.0))
+      (c.loop-k.k, omega (arith, c.loop-k-test.true), c.loop-k.self, c.loop-k.invariant.made, c.in_err-read.ensures.own.own);
+  unsynced = reads_on c.loop-k.invariant.reads c.read.ensures.own.unsynced;
+}
+
 pub returns-clause-own : goal.returns-clause-own
-returns-clause-own g c = λ _.
-    subst (λ n. AllMade g.Self.Disk.own (λ j. Reads (c.args.place + j)) n c.args.self.now c.loop-k.self)
-    (let all : c.loop-k.k ≡ c.args.blocks = omega arith in all) c.loop-k.invariant.made
+returns-clause-own g c = record {
+  own = λ _.
+      subst (λ n. AllMade g.Self.Disk.own (λ j. Reads (c.args.place + j)) n c.args.self.now c.loop-k.self)
+      (let all : c.loop-k.k ≡ c.args.blocks = omega arith in all) c.loop-k.invariant.made;
+  unsynced = c.loop-k.invariant.reads;
+}
 
 pub loop-k-preserved : goal.loop-k-preserved
 loop-k-preserved g c =
@@ -44,7 +54,7 @@ loop-k-preserved g c =
     let within : bytes * k + bytes ≤ length buf = grind (arith, room, below) in
     record {
       kept = kept_ok so.kept c.in_ok-read.ensures.kept;
-      made = made-more G.own (λ j. Reads (c.args.place + j)) k old now c.read.new.self so.made c.in_ok-read.ensures.own;
+      made = made-more G.own (λ j. Reads (c.args.place + j)) k old now c.read.new.self so.made c.in_ok-read.ensures.own.own;
       found = λ honest.
           let was = c.read.ensures.kept.was_honest honest in
           rw (← size) (reads-more bytes k c.args.place _ (G.newest old) buf c.read.new.buf (omega arith) long within (rw (← size) at so.found was)
@@ -53,6 +63,7 @@ loop-k-preserved g c =
       goes = λ honest.
           let was = c.read.ensures.kept.was_honest honest in
           goes-on _ _ _ _ _ _ _ (λ t d earlier left. g.met.Self.Disk.counts_now old t d (so.kept.was_honest was) earlier left) (so.goes was) (c.read.ensures.goes honest);
+      reads = reads_on so.reads c.read.ensures.own.unsynced;
       untried = λ none. absurd (let h : ⊥ = omega (arith, none) in h);
       passed = λ some. not_spent G k old now c.read.result so.untried so.passed (λ burnt. (c.read.ensures.spent burnt).0) (subst IsOk (sym c.in_ok-read.was) refl);
     }

@@ -1,9 +1,10 @@
-use Rattle.std.proofs.Common.{◌≡◌, ◌+◌, ◌*◌, length, refl, sym, subst, rules, is_ok}
+use Rattle.std.proofs.Common.{◌≡◌, ◌+◌, ◌*◌, inl, inr, length, refl, sym, subst, rules, is_ok}
 use Rattle.jb_block.specs.Size.{bytes_of}
 use Rattle.jb_disk.specs.OneCall.{Reads}
 use Rattle.jb_disk.specs.Faults.{CountsOne}
-use Rattle.jb_disk.specs.File.{faults_of}
-use Rattle.jb_disk.proofs.FileCalls.{found_run}
+use Rattle.jb_disk.specs.Events.{IsNoted}
+use Rattle.jb_disk.specs.File.{IsOneCall, count_of, events_of, faults_of, size_of_blocks}
+use Rattle.jb_disk.proofs.FileCalls.{found_run, kept_event, reads_event}
 use Rattle.jb_disk.proofs.RunReads.{made-once}
 use Rattle.jb_disk.proofs.file.FileDiskDisk.read_run.Goals as goal
 
@@ -13,7 +14,20 @@ returns-clause-found g c = λ honest.
     found_run _ _ _ _ _ c.args.place _ _ _ c.offset_of-at.ensures honest c.args._blocks _ c.settle.ensures.variant long c.read_at-succeeded.ensures
 
 pub returns-clause-own : goal.returns-clause-own
-returns-clause-own g c = λ _.
-    let old = c.args.self.now in
-    let one : CountsOne (is_ok c.settle.result) old.faults c.settle.new.faults = subst (λ ok. CountsOne ok old.faults c.settle.new.faults) (sym c.settle.ensures.variant) c.settle.ensures.one in
-    made-once (λ _ old new ok. CountsOne ok (faults_of old) (faults_of new)) (λ k. Reads (c.args.place + k)) c.args._blocks old _ (is_ok c.settle.result) c.requires.run.some (λ k. refl) (λ k. one)
+returns-clause-own g c = record {
+  own = λ _.
+      let old = c.args.self.now in
+      let counted : CountsOne (is_ok c.settle.result) old.faults c.settle.new.faults
+      = subst (λ ok. CountsOne ok old.faults c.settle.new.faults) (sym c.settle.ensures.variant) c.settle.ensures.one in
+      let noted : IsNoted 0 (is_ok c.settle.result) old.host.log.events c.read_at-succeeded.new.self.log.events
+      = subst (λ ok. IsNoted 0 ok old.host.log.events c.read_at-succeeded.new.self.log.events) (sym c.settle.ensures.variant)
+      (inl (c.offset_of-at.result, c.read_at-succeeded.new.buf, c.read_at-succeeded.ensures)) in
+      made-once IsOneCall (λ k. Reads (c.args.place + k)) c.args._blocks old _ (is_ok c.settle.result) c.requires.run.some
+      (λ k. record { counted = refl; noted = inr (refl, refl) }) (λ k. record { counted = counted; noted = noted });
+  unsynced = reads_event (λ d. bytes_of (size_of_blocks d)) g.S.Start.content events_of c.args.self.now _ c.offset_of-at.result c.read_at-succeeded.result c.read_at-succeeded.new.buf refl c.read_at-succeeded.ensures;
+}
+
+pub returns-clause-kept : goal.returns-clause-kept
+returns-clause-kept g c =
+    kept_event (λ d. bytes_of (size_of_blocks d)) count_of faults_of g.S.Start.content events_of c.args.self.now _ c.settle.result 0 c.offset_of-at.result c.read_at-succeeded.result c.read_at-succeeded.new.buf refl refl
+    c.read_at-succeeded.ensures c.settle.ensures.faults c.settle.ensures.one

@@ -1,12 +1,12 @@
-use Rattle.std.proofs.Common.{◌+◌, length, refl, sym, subst, is_ok}
+use Rattle.std.proofs.Common.{◌+◌, inl, inr, length, refl, sym, subst, is_ok}
 use Rattle.jb_block.specs.Size.{bytes_of}
 use Rattle.jb_disk.specs.RecordLaws.{left_from_only}
 use Rattle.jb_disk.specs.OneCall.{Writes}
-use Rattle.jb_disk.specs.Events.{Leaves, LeftFrom, write_event}
+use Rattle.jb_disk.specs.Events.{IsNoted, Leaves, LeftFrom, write_event}
 use Rattle.jb_disk.specs.Faults.{CountsOne}
-use Rattle.jb_disk.specs.File.{faults_of, size_of_blocks, events_of}
+use Rattle.jb_disk.specs.File.{IsOneCall, count_of, events_of, faults_of, size_of_blocks}
 use Rattle.jb_disk.specs.Runs.{part, TornRun}
-use Rattle.jb_disk.proofs.FileCalls.{goes_event, torn_file}
+use Rattle.jb_disk.proofs.FileCalls.{goes_event, kept_event, torn_file}
 use Rattle.jb_disk.proofs.RunWrites.{torn_run-same}
 use Rattle.jb_disk.proofs.RunReads.{made-once}
 use Rattle.jb_disk.proofs.CallSteps.{steps-goes}
@@ -35,5 +35,15 @@ returns-clause-torn g c = λ honest. torn_file _ _ _ _ _ c.args.place _ _ _ c.of
 pub returns-clause-own : goal.returns-clause-own
 returns-clause-own g c = λ _.
     let old = c.args.self.now in
-    let one : CountsOne (is_ok c.settle.result) old.faults c.settle.new.faults = subst (λ ok. CountsOne ok old.faults c.settle.new.faults) (sym c.settle.ensures.variant) c.settle.ensures.one in
-    made-once (λ _ old new ok. CountsOne ok (faults_of old) (faults_of new)) (λ k. Writes (c.args.place + k) (part (bytes_of old.size) k c.args.bytes.now)) c.args._blocks old _ (is_ok c.settle.result) c.requires.run.some (λ k. refl) (λ k. one)
+    let counted : CountsOne (is_ok c.settle.result) old.faults c.settle.new.faults
+    = subst (λ ok. CountsOne ok old.faults c.settle.new.faults) (sym c.settle.ensures.variant) c.settle.ensures.one in
+    let noted : IsNoted 1 (is_ok c.settle.result) old.host.log.events c.write_at-succeeded.new.self.log.events
+    = subst (λ ok. IsNoted 1 ok old.host.log.events c.write_at-succeeded.new.self.log.events) (sym c.settle.ensures.variant)
+    (inl (c.offset_of-at.result, c.args.bytes.now, c.write_at-succeeded.ensures)) in
+    made-once IsOneCall (λ k. Writes (c.args.place + k) (part (bytes_of old.size) k c.args.bytes.now)) c.args._blocks old _ (is_ok c.settle.result) c.requires.run.some
+    (λ k. record { counted = refl; noted = inr (refl, refl) }) (λ k. record { counted = counted; noted = noted })
+
+pub returns-clause-kept : goal.returns-clause-kept
+returns-clause-kept g c =
+    kept_event (λ d. bytes_of (size_of_blocks d)) count_of faults_of g.S.Start.content events_of c.args.self.now _ c.settle.result 1 c.offset_of-at.result c.write_at-succeeded.result c.args.bytes.now refl refl
+    c.write_at-succeeded.ensures c.settle.ensures.faults c.settle.ensures.one
