@@ -21,6 +21,7 @@ mod mounted;
 mod opening;
 mod pair;
 mod past;
+mod shared;
 mod system;
 mod unfinished;
 
