@@ -103,7 +103,7 @@ Options:
   -n <N>                How many home blocks [default: 1]
       --hex             Writes lines of hexadecimal digits, as xxd does
       --journal <FILE>  The file with the journal; IMAGE has the home blocks alone then
-      --extents <LIST>  Where the journal stands within IMAGE, as debugfs lists its blocks
+      --extents <LIST>  Where the journal stands within IMAGE, as debugfs lists its blocks; - or @FILE has it
   -h, --help            Print help (see more with '--help')
 """,
     "format -h": """Makes an image: a new journal, and home blocks of zeros after it
@@ -146,7 +146,7 @@ Arguments:
   <IMAGE>  A file or block device with a journal at its front, and the home blocks after it
 
 Options:
-      --extents <LIST>  Where the journal stands within IMAGE, as debugfs lists its blocks
+      --extents <LIST>  Where the journal stands within IMAGE, as debugfs lists its blocks; - or @FILE has it
       --journal <FILE>  The file with the journal; IMAGE has the home blocks alone then
       --force           Recovers though the journal seems not to be the file system's own
       --dry-run         Says what would be done, and writes nothing

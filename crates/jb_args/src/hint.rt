@@ -68,10 +68,20 @@ pub enum Hint {
     ExtentsPastEnd,
     /// The extents have fewer blocks than the journal.
     ExtentsShort,
+    /// The extents have more blocks than the journal.
+    ExtentsLong,
     /// No journal begins in the extents.
     ExtentsNoJournal,
-    /// A copy is for a home block that holds the journal.
+    /// A journal begins in the extents in blocks of two sizes.
+    ExtentsBlockSizes,
+    /// The extents have the block of a file system's superblock.
+    ExtentsFront,
+    /// A home block holds the journal.
     ExtentsHome,
+    /// The log of a journal in extents begins with no committed transaction.
+    ExtentsNothing,
+    /// The log of a journal in extents ends inside a transaction, at a block that is none of a journal.
+    ExtentsBroken,
     /// A journal may not have so many blocks.
     Geometry,
     /// A revoke block is damaged.

@@ -77,11 +77,28 @@ macro_rules! diagnostics {
                     "this block of the extents is not in the image: give the list of this image";
                 ExtentsShort, "Extents Short ", "#",
                     "the extents have so many blocks, and the journal more: give all of them";
+                ExtentsLong, "Extents Long ", "#",
+                    "the extents have so many blocks, and the journal fewer: give those of the journal alone, without \
+                     those of its block map, as debugfs -R 'stat <8>' prints them";
                 ExtentsNoJournal, "Extents NoJournal", "",
                     "no journal begins at the first of the extents: give the list as debugfs -R 'stat <8>' prints it";
+                ExtentsBlockSizes, "Extents BlockSizes ", "# #",
+                    "a journal begins at the first of the extents in blocks of either size, and no superblock of ext2, \
+                     ext3 or ext4 says which is right: copy the journal out, and give it by --journal";
+                ExtentsFront, "Extents Front ", "#",
+                    "this block of the extents has byte 1024 of the image, where a superblock is: give the list of \
+                     this image's journal";
                 ExtentsHome, "Extents Home ", "#",
-                    "a copy is for this home block, which holds the journal itself: the extents are not the journal's, \
-                     or it is damaged; the image is as it was";
+                    "this home block holds the journal itself: where it is a copy's, the extents are not the \
+                     journal's, or it is damaged; the image is as it was";
+                ExtentsNothing, "Extents Nothing", "",
+                    "the log is not clean, and begins with no committed transaction: the extents are not the \
+                     journal's, or nothing was committed since it was last emptied; the image is as it was; recover \
+                     --force empties it all the same";
+                ExtentsBroken, "Extents Broken ", "#",
+                    "the log ends at this block of the journal, inside a transaction, and the block is none of a \
+                     journal: the extents are not the journal's, or a crash was in the midst of a commit; the image \
+                     is as it was; recover --force recovers what is before it";
                 Geometry, "Geometry", "", "--journal is 9 at least and 2147483647 at most";
                 BadRevoke, "BadRevoke ", "#", "this block of the journal is damaged; the image is as it was";
                 HomeOutOfRange, "HomeOutOfRange ", "# #",
@@ -131,7 +148,8 @@ macro_rules! diagnostics {
                 Homes, "--homes",
                     "a number with which the image has less than 2^63 bytes; without --wide 4294967296 at most";
                 Extents, "--extents",
-                    "a list as debugfs prints it, as (0-1023):8193-9216, (1024):9300; not with --journal";
+                    "a list as debugfs prints it, as (0-1023):8193-9216, (1024):9300, or - or @FILE for its text; not \
+                     with --journal";
                 List, "--list", "for --dry-run alone";
                 Threads, "--threads", "1 to 64";
             }

@@ -71,8 +71,13 @@ abbrev pub extents_line : ExtentsFault → List ℕ
 extents_line (extents.Overlap block) = line_naming (codes "jb: Extents Overlap " ∷ decimal block ∷ []) None
 extents_line (extents.PastEnd block) = line_naming (codes "jb: Extents PastEnd " ∷ decimal block ∷ []) None
 extents_line (extents.Short blocks) = line_naming (codes "jb: Extents Short " ∷ decimal blocks ∷ []) None
+extents_line (extents.Long blocks) = line_naming (codes "jb: Extents Long " ∷ decimal blocks ∷ []) None
 extents_line extents.NoJournal = line_naming (codes "jb: Extents NoJournal" ∷ []) None
+extents_line (extents.BlockSizes one other) = line_naming (codes "jb: Extents BlockSizes " ∷ decimal one ∷ codes " " ∷ decimal other ∷ []) None
+extents_line (extents.Front block) = line_naming (codes "jb: Extents Front " ∷ decimal block ∷ []) None
 extents_line (extents.Home home) = line_naming (codes "jb: Extents Home " ∷ decimal home ∷ []) None
+extents_line extents.Nothing = line_naming (codes "jb: Extents Nothing" ∷ []) None
+extents_line (extents.Broken place) = line_naming (codes "jb: Extents Broken " ∷ decimal place ∷ []) None
 
 -- the line on standard error. Of a command over two files it ends with the name of the one that it is about, where that is known
 abbrev pub line_of : Option Names → CommandFault → List ℕ
@@ -124,8 +129,13 @@ abbrev pub extents_hint : ExtentsFault → Hint
 extents_hint (extents.Overlap block) = hint.ExtentsOverlap
 extents_hint (extents.PastEnd block) = hint.ExtentsPastEnd
 extents_hint (extents.Short blocks) = hint.ExtentsShort
+extents_hint (extents.Long blocks) = hint.ExtentsLong
 extents_hint extents.NoJournal = hint.ExtentsNoJournal
+extents_hint (extents.BlockSizes one other) = hint.ExtentsBlockSizes
+extents_hint (extents.Front block) = hint.ExtentsFront
 extents_hint (extents.Home home) = hint.ExtentsHome
+extents_hint extents.Nothing = hint.ExtentsNothing
+extents_hint (extents.Broken place) = hint.ExtentsBroken
 
 -- what a second line is about after the line of a fault
 abbrev pub hint_of : CommandFault → Hint

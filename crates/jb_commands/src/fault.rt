@@ -256,7 +256,12 @@ fn extents_hint(fault: ExtentsFault) -> Hint
         ExtentsFault::Overlap(_) => Hint::ExtentsOverlap,
         ExtentsFault::PastEnd(_) => Hint::ExtentsPastEnd,
         ExtentsFault::Short(_) => Hint::ExtentsShort,
+        ExtentsFault::Long(_) => Hint::ExtentsLong,
         ExtentsFault::NoJournal => Hint::ExtentsNoJournal,
+        ExtentsFault::BlockSizes(_, _) => Hint::ExtentsBlockSizes,
+        ExtentsFault::Front(_) => Hint::ExtentsFront,
         ExtentsFault::Home(_) => Hint::ExtentsHome,
+        ExtentsFault::Nothing => Hint::ExtentsNothing,
+        ExtentsFault::Broken(_) => Hint::ExtentsBroken,
     }
 }

@@ -10,7 +10,7 @@ use Rattle.jb_disk.specs.Time.{Goes}
 use Rattle.jb_disk.specs.declared.disk.Disk.{Ghosts}
 use Rattle.jb_image.specs.Blocks.{extent_count}
 use Rattle.jb_image.specs.Disks.{at_block, spread_count, whole_disk}
-use Rattle.jb_image.specs.Lists.{holds_in, list_of, meets_in, or_else, place_within, shared_in}
+use Rattle.jb_image.specs.Lists.{AreDisjoint, AreForward, holds_in, list_of, place_within, times}
 use Rattle.jb_image.specs.ExtentImage.{AreApart, at_block-is, block_given, block-spread, length-spread, spread, within, WithinLeaves, WithinLeft}
 use Rattle.jb_image.specs.declared.extents_disk.ExtentsDisk.{ExtentsDisk}
 use Rattle.jb_image.specs.declared.extent.Extent.{Extent}
@@ -18,33 +18,30 @@ use Rattle.jb_image.specs.declared.extents.Extents.{Extents}
 
 -- ---- no two places are one block
 
--- neither of two values is there
-or_else-none : (a b : Option ℕ) → or_else a b ≡ None → (a ≡ None) × (b ≡ None)
-or_else-none None b is = (refl, is)
-or_else-none (Some x) b is = absurd (none-some x (sym is))
-
--- a block that an extent has is in no other that does not meet it
-meets-held : (e : Extent) (es : List Extent) (b : ℕ) → e.first ≤ b → b ≤ e.last → holds_in es b ≡ true → meets_in e es ≡ None → ⊥
-meets-held e [] b past behind held apart = true≢false (sym held)
-meets-held e (f ∷ fs) b past behind held apart = grind (arith, nat_tests, meets-held e fs b past behind)
-
--- ---- the blocks of the journal
-
 -- the blocks of the journal stand in the extents
-place-held : (es : List Extent) → All (λ e. e.first ≤ e.last) es → (i b : ℕ) → place_within es i ≡ Some b → holds_in es b ≡ true
+place-held : (es : List Extent) → AreForward es → (i b : ℕ) → place_within es i ≡ Some b → holds_in es b ≡ true
 place-held [] forward i b is = absurd (none-some b is)
 place-held (e ∷ es) forward i b is =
     grind (arith, nat_tests, All-head (λ e. e.first ≤ e.last) e es forward, place-held es (All-tail (λ e. e.first ≤ e.last) e es forward) (i - extent_count e) b)
 
+-- each in one of them at least
+place-times : (es : List Extent) → AreForward es → (i b : ℕ) → place_within es i ≡ Some b → 1 ≤ times es b
+place-times [] forward i b is = absurd (none-some b is)
+place-times (e ∷ es) forward i b is =
+    grind (arith, nat_tests, All-head (λ e. e.first ≤ e.last) e es forward, place-times es (All-tail (λ e. e.first ≤ e.last) e es forward) (i - extent_count e) b)
+
+-- those of some of the extents are in no two of them
+tail-disjoint : (e : Extent) (es : List Extent) → AreDisjoint (e ∷ es) → AreDisjoint es
+tail-disjoint e es apart = λ b. grind (arith, apart b)
+
 -- and each in one of its own
-place-apart : (es : List Extent) → All (λ e. e.first ≤ e.last) es → shared_in es ≡ None → (i j b : ℕ) → place_within es i ≡ Some b → place_within es j ≡ Some b → i ≡ j
+place-apart : (es : List Extent) → AreForward es → AreDisjoint es → (i j b : ℕ) → place_within es i ≡ Some b → place_within es j ≡ Some b → i ≡ j
 place-apart [] forward apart i j b one other = absurd (none-some b one)
 place-apart (e ∷ es) forward apart i j b one other =
     let n = extent_count e in
     let head = All-head (λ e. e.first ≤ e.last) e es forward in
     let tail = All-tail (λ e. e.first ≤ e.last) e es forward in
-    let none = or_else-none (meets_in e es) (shared_in es) apart in
-    grind (arith, nat_tests, head, meets-held e es b, place-held es tail (i - n) b, place-held es tail (j - n) b, place-apart es tail none.1 (i - n) (j - n) b, none.0)
+    grind (arith, nat_tests, head, apart b, place-times es tail (i - n) b, place-times es tail (j - n) b, place-apart es tail (tail-disjoint e es apart) (i - n) (j - n) b)
 
 -- so no two places are one block of the image
 pub at_block-apart : (extents : Extents) (journal blocks p q b : ℕ) → AreApart (list_of extents) → at_block extents journal blocks p ≡ Some b → at_block extents journal blocks q ≡ Some b → p ≡ q

@@ -1,8 +1,10 @@
+pub mod Attached
 pub mod ExtentPlaces
 mod ImageCalls
 mod JoinedImages
 pub mod OpenedFile
 mod PairCalls
 mod PairKept
+pub mod SharedBlocks
 pub mod TakenWords
 pub mod WordBytes

@@ -1,8 +1,9 @@
 -- A journal and the file system that it stands in, as one disk.
-use Rattle.std.specs.Prelude.{◌≡◌, ℕ, ◌+◌, ◌-◌, ◌^◌, Bool, false, if◌then◌else◌, List, [], ◌∷◌, min, nat_lt, Option, Some, None, option_and_then}
+use Rattle.std.specs.Prelude.{◌≡◌, ℕ, ◌+◌, ◌-◌, ◌^◌, Bool, false, if◌then◌else◌, List, [], ◌∷◌, max, min, nat_lt, Option, Some, None, option_and_then}
 use Rattle.jb_disk.specs.OneCall.{Called, Reads, Writes, Syncs}
 use Rattle.jb_disk.specs.Faults.{CountsCall, CountsOne}
-use Rattle.jb_image.specs.Lists.{holds_in, list_of, place_within}
+use Rattle.jb_image.specs.Lists.{holds_in, list_of, meets_in, place_within}
+use Rattle.jb_image.specs.declared.extent.Extent.{Extent}
 use Rattle.jb_image.specs.declared.extents_disk.ExtentsDisk.{ExtentsDisk}
 use Rattle.jb_image.specs.declared.extents.Extents.{Extents}
 
@@ -42,6 +43,14 @@ at_block extents journal blocks place =
 abbrev pub own_in : Extents → List ℕ → Option ℕ
 own_in extents [] = None
 own_in extents (home ∷ homes) = if holds_in (list_of extents) home then Some home else own_in extents homes
+
+-- so many home blocks from this one on, up to the largest number; of none, as of one
+abbrev pub asked_homes : ℕ → ℕ → Extent
+asked_homes home count = record { first = home; last = min (home + (max count 1 - 1)) (2 ^ 64 - 1) }
+
+-- one of these that is one of the journal's own, of the first extent that has one
+abbrev pub own_among : Extents → ℕ → ℕ → Option ℕ
+own_among extents home count = meets_in (asked_homes home count) (list_of extents)
 
 -- the extents and the journal's length stay
 pub record KeepsExtents {D : Type 0} (old new : ExtentsDisk D) : Type 0 where

@@ -9,15 +9,15 @@ use Rattle.std.proofs.lemmas.Option.{cond_some, none-some, option_and_then_some}
 use Rattle.jb_disk.specs.Image.{Image, block, HasShape}
 use Rattle.jb_disk.specs.declared.disk.Disk.{Ghosts}
 use Rattle.jb_image.specs.Disks.{at_block, extents_of, in_image, journal_blocks, spread_count, whole_disk}
-use Rattle.jb_image.specs.Lists.{holds_in, list_of, place_within, shared_in}
+use Rattle.jb_image.specs.Lists.{AreDisjoint, AreForward, holds_in, list_of, place_within}
 use Rattle.jb_image.specs.declared.extents_disk.ExtentsDisk.{ExtentsDisk}
 use Rattle.jb_image.specs.declared.extent.Extent.{Extent}
 use Rattle.jb_image.specs.declared.extents.Extents.{Extents}
 
 -- no block is in two of the extents, and none of them ends before it begins
 pub record AreApart (es : List Extent) : Type 0 where
-  pub unshared : shared_in es ≡ None
-  pub forward : All (λ e. e.first ≤ e.last) es
+  pub unshared : AreDisjoint es
+  pub forward : AreForward es
 
 -- what is at a place: the block of the image that it is; zeros at one that is none, of which each read fails
 abbrev pub block_given : ℕ → Image → Option ℕ → List ℕ

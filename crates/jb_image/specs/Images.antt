@@ -5,7 +5,7 @@ use Rattle.jb_disk.specs.OneCall.{Called}
 use Rattle.jb_disk.specs.Faults.{counted}
 use Rattle.jb_disk.specs.Image.{Image, HasShape}
 use Rattle.jb_disk.specs.declared.disk.Disk.{Ghosts}
-use Rattle.jb_image.specs.Disks.{ExtentsCalled, extents_of, refused_calls, journal_blocks, own_in, spread_count, whole_disk}
+use Rattle.jb_image.specs.Disks.{ExtentsCalled, extents_of, refused_calls, journal_blocks, own_among, own_in, spread_count, whole_disk}
 use Rattle.jb_image.specs.ExtentImage.{IsHonestWithin, WithinLeaves, WithinLeft, within, within-shape}
 use Rattle.jb_image.specs.Laws.{counts_both, has_both_shapes, leaves_newest, only_both, since_has_both_shapes}
 use Rattle.jb_image.specs.Pair.{back_disk, front_disk, joined_count, past_states, IsHonestPair, PairCalled, PairLeaves, PairLeftSince}
@@ -23,6 +23,12 @@ abbrev pub own_home : {D E : Type 0} → ImageDisk D E → List ℕ → Option �
 own_home (One disk) homes = None
 own_home (Two pair) homes = None
 own_home (Within disk) homes = own_in (extents_of disk) homes
+
+-- one of so many home blocks from this one on that is one of the journal's own
+abbrev pub own_asked : {D E : Type 0} → ImageDisk D E → ℕ → ℕ → Option ℕ
+own_asked (One disk) home count = None
+own_asked (Two pair) home count = None
+own_asked (Within disk) home count = own_among (extents_of disk) home count
 
 module _ {D E : Type 0} (G : Ghosts D) (H : Ghosts E) where
   -- the bytes of its blocks: of two disks, of those of the journal's

@@ -1,5 +1,5 @@
 -- A list of extents: what a text lists, and which blocks it has.
-use Rattle.std.specs.Prelude.{◌≡◌, ℕ, ◌+◌, ◌-◌, ◌^◌, ◌==◌, ◌&&◌, ◌||◌, not, Bool, true, false, if◌then◌else◌, List, [], ◌∷◌, ◌++◌, min, max, nat_lt, Option, Some, None, option_and_then, Result, Ok, Err}
+use Rattle.std.specs.Prelude.{◌≡◌, ℕ, ◌+◌, ◌-◌, ◌^◌, ◌<◌, ◌≤◌, ◌==◌, ◌&&◌, ◌||◌, not, Bool, true, false, if◌then◌else◌, List, [], ◌∷◌, ◌++◌, All, min, max, nat_lt, Option, Some, None, option_and_then, Result, Ok, Err}
 use Rattle.jb_text.specs.Parts.{grow}
 use Rattle.jb_image.specs.Blocks.{extent_count, has_block}
 use Rattle.jb_image.specs.Words.{named_in}
@@ -12,9 +12,9 @@ use Rattle.jb_image.specs.declared.list_word.Named.TheVariants.{Nothing, Blocks}
 
 -- ---- the words of a text
 
--- a byte is between two words: a space or a comma
+-- a byte is between two words: white space, of which five kinds are 9 to 13 and a space is 32, or a comma
 abbrev pub is_between : ℕ → Bool
-is_between b = b == 32 || b == 44
+is_between b = b == 32 || (b == 44 || (not (nat_lt b 9) && not (nat_lt 13 b)))
 
 -- the words of a text; two such bytes in a row have an empty word between them
 unfoldable pub listed : List ℕ → List (List ℕ)
@@ -57,30 +57,55 @@ meets_in e [] = None
 meets_in e (f ∷ fs) =
     if not (nat_lt f.last e.first) && not (nat_lt e.last f.first) then Some (max e.first f.first) else meets_in e fs
 
--- the first value that is there
-abbrev pub or_else : Option ℕ → Option ℕ → Option ℕ
-or_else (Some x) other = Some x
-or_else None other = other
+-- how many of the extents have this block
+abbrev pub times : List Extent → ℕ → ℕ
+times [] block = 0
+times (e ∷ es) block = (if has_block e block then 1 else 0) + times es block
 
--- a block that stands in two of them
-abbrev pub shared_in : List Extent → Option ℕ
-shared_in [] = None
-shared_in (e ∷ es) = or_else (meets_in e es) (shared_in es)
+-- no block stands in two of them
+abbrev pub AreDisjoint : List Extent → Type 0
+AreDisjoint es = (block : ℕ) → times es block ≤ 1
+
+-- no block stands in two of them; or this is the lowest that does
+abbrev pub SharesFirst : List Extent → Option ℕ → Type 0
+SharesFirst es None = AreDisjoint es
+SharesFirst es (Some block) = (2 ≤ times es block) × ((lower : ℕ) → lower < block → times es lower ≤ 1)
 
 -- the last block of the first of them that is not whole in an image of so many blocks
 abbrev pub past_in : ℕ → List Extent → Option ℕ
 past_in count [] = None
 past_in count (e ∷ es) = if nat_lt e.last count then past_in count es else Some e.last
 
--- a stretch that begins there comes next; one that does not say where it begins does
-abbrev pub follows_at : List Extent → Option ℕ → Bool
-follows_at es None = true
-follows_at es (Some at) = at == extents_count es
+-- none of them ends before it begins
+abbrev pub AreForward : List Extent → Type 0
+AreForward es = All (λ e. e.first ≤ e.last) es
+
+-- an extent goes on where the last of others ends
+abbrev pub is_attached : List Extent → Extent → Bool
+is_attached [] e = false
+is_attached (f ∷ []) e = f.last + 1 == e.first
+is_attached (f ∷ g ∷ fs) e = is_attached (g ∷ fs) e
+
+-- an extent after others: one that goes on where the last of them ends is one with it
+abbrev pub attached : List Extent → Extent → List Extent
+attached [] e = e ∷ []
+attached (f ∷ []) e = if f.last + 1 == e.first then record { first = f.first; last = e.last } ∷ [] else f ∷ e ∷ []
+attached (f ∷ g ∷ fs) e = f ∷ attached (g ∷ fs) e
+
+-- what was before, where there is anything, does not end before this block
+abbrev pub reaches_to : Option Extent → ℕ → Bool
+reaches_to None block = false
+reaches_to (Some e) block = not (nat_lt e.last block)
+
+-- a stretch that begins there comes next after so many blocks; one that does not say where it begins does
+abbrev pub follows_at : ℕ → Option ℕ → Bool
+follows_at blocks None = true
+follows_at blocks (Some at) = at == blocks
 
 -- the extents with the blocks that a word says, where they come next
 abbrev pub with_named : List Extent → Named → Option (List Extent)
 with_named es Nothing = Some es
-with_named es (Blocks at e) = if follows_at es at then Some (es ++ e ∷ []) else None
+with_named es (Blocks at e) = if follows_at (extents_count es) at then Some (attached es e) else None
 
 -- the extents after one more word
 abbrev pub with_word : List Extent → List ℕ → Option (List Extent)
@@ -95,16 +120,17 @@ with_words es (word ∷ more) = option_and_then (λ now. with_words now more) (w
 abbrev pub extents_in : List ℕ → Option (List Extent)
 extents_in text = with_words [] (listed text)
 
--- memory may run out at a word: it says blocks of the journal, and they come next
+-- memory may run out at a word: it says blocks of the journal, they come next, and are a further stretch
 pub record MayKeep (es : List Extent) (word : List ℕ) : Type 0 where
   pub at : Option ℕ
   pub blocks : Extent
   pub says : named_in word ≡ Some (Blocks at blocks)
-  pub next : follows_at es at ≡ true
+  pub next : follows_at (extents_count es) at ≡ true
+  pub further : is_attached es blocks ≡ false
 
 -- a word was taken up: the extents are those with it; or they cannot be
-abbrev pub TakesWord : List ℕ → List Extent → List Extent → Result Unit ListFault → Type 0
-TakesWord word old new (Ok done) = with_word old word ≡ Some new
+abbrev pub TakesWord : List ℕ → List Extent → List Extent → Result ℕ ListFault → Type 0
+TakesWord word old new (Ok blocks) = with_word old word ≡ Some new
 TakesWord word old new (Err Syntax) = with_word old word ≡ None
 TakesWord word old new (Err Memory) = MayKeep old word
 

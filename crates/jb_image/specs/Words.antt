@@ -1,5 +1,5 @@
 -- One stretch of a list of extents.
-use Rattle.std.specs.Prelude.{ℕ, ◌^◌, ◌==◌, ◌&&◌, ◌||◌, not, Bool, if◌then◌else◌, List, length, drop, slice_index, nat_lt, Option, Some, None, option_and_then}
+use Rattle.std.specs.Prelude.{ℕ, ⊤, ◌≤◌, ◌^◌, ◌==◌, ◌&&◌, ◌||◌, not, Bool, if◌then◌else◌, List, length, drop, slice_index, nat_lt, Option, Some, None, option_and_then}
 use Rattle.jb_text.specs.Parts.{before, onward, number_of}
 use Rattle.jb_image.specs.Blocks.{extent_count}
 use Rattle.jb_image.specs.declared.extent.Extent.{Extent}
@@ -19,6 +19,11 @@ range_from rest first =
 -- the numbers that `C-D` or `C` says
 abbrev pub range_in : List ℕ → Option Extent
 range_in text = option_and_then (λ first. range_from (onward 45 text) first) (number_of (before 45 text))
+
+-- the blocks that a word says, where it says some, do not end before they begin
+abbrev pub IsForward : Named → Type 0
+IsForward Nothing = ⊤
+IsForward (Blocks at e) = e.first ≤ e.last
 
 -- blocks of the journal that stand in as many of the image
 abbrev pub stretch_in : Extent → Extent → Option Named

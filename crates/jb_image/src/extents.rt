@@ -1,16 +1,17 @@
-ghost use Rattle.std.specs.Prelude.{◌≡◌, ◌++◌, ◌∷◌, ◌<◌, [], IfSome, OnOk, length};
+ghost use Rattle.std.specs.Prelude.{◌≡◌, ◌∷◌, ◌<◌, false, IfErr, IfOk, IfSome, OnOk, length};
 ghost use Rattle.std.specs.Option.{option_copied};
-ghost use Rattle.jb_image.specs.Lists.{extents_count, follows_at, is_between as stands_between, listed, listed_in};
-ghost use Rattle.jb_image.specs.Lists.{meets_in};
-ghost use Rattle.jb_image.specs.Lists.{TakesWord};
+ghost use Rattle.jb_image.specs.Lists.{AreForward, attached, extents_count, follows_at, is_attached};
+ghost use Rattle.jb_image.specs.Lists.{is_between as stands_between, listed, listed_in, TakesWord};
 
 use crate::extent::Extent;
 use crate::extents_fault::ListFault;
 use crate::list_word::{Named, read_word};
+use crate::shared::lowest_shared;
 use jb_block::Memory;
 use std::alloc::Global;
 
-/// Where the blocks of a journal stand in an image: in stretches, one after the other.
+/// Where the blocks of a journal stand in an image: in stretches, one after the other, none of which goes on where the
+/// one before it ends.
 #[derive(Drop)]
 pub struct Extents {
     list: Vec<Extent>,
@@ -18,24 +19,27 @@ pub struct Extents {
 
 impl Extents {
     ghost use Rattle.std.specs.Prelude.{◌≡◌};
-    ghost use Rattle.jb_image.specs.Lists.{ReadsList, extents_count, holds_in, list_of, past_in, place_within};
-    ghost use Rattle.jb_image.specs.Lists.{shared_in};
+    ghost use Rattle.std.specs.Prelude.{IfOk};
+    ghost use Rattle.jb_image.specs.Lists.{ReadsList, SharesFirst, extents_count, holds_in, list_of, meets_in};
+    ghost use Rattle.jb_image.specs.Lists.{past_in, place_within};
 
     /// The extents that a text lists, as `stat` of debugfs does: `(0-1023):8193-9216, (1024):9300, (IND):8192`. Words
-    /// are separated by spaces, commas or both. A stretch without a place, as `8193-9216`, has the next blocks of the
-    /// journal.
+    /// are separated by white space, commas or both. A stretch without a place, as `8193-9216`, has the next blocks of
+    /// the journal; so has a block without one. What goes on where the stretch before it ends is one stretch with it:
+    /// a list of single blocks in a row is one stretch.
     ///
     /// # Errors
     /// `ListFault::Syntax` where a word is of another form, or the stretches are not in the journal's order;
-    /// `ListFault::Memory` where memory ran out for a stretch: the words up to it are of the form.
+    /// `ListFault::Memory` where memory ran out for a further stretch: the words up to it are of the form.
     pub fn read(alloc: Global, text: &[u8]) -> Result<Extents, ListFault>
         ensures { ReadsList text.now result }
     {
         let mut list = Vec::new(alloc);
+        let mut blocks = 0;
         let mut left = Some(text);
         while let Some(words) = left {
             let (word, rest) = next_listed(words);
-            take_word(&mut list, word)?;
+            blocks = take_word(&mut list, blocks, word)?;
             left = rest;
         }
         Ok(Extents { list })
@@ -75,14 +79,23 @@ impl Extents {
         false
     }
 
-    /// A block that stands in two of them: the first of the first two that share one.
-    pub fn shared(&self) -> Option<u64>
-        ensures { result ≡ shared_in (list_of self.now) }
+    /// The lowest block that stands in two of them.
+    ///
+    /// # Errors
+    /// `Memory` where a growth was refused: they are copied, and sorted.
+    pub fn shared(&self, alloc: Global) -> Result<Option<u64>, Memory>
+        ensures { IfOk result (SharesFirst (list_of self.now)) }
     {
-        let list = self.list.as_slice();
-        for k in 0..list.len() {
-            if let Some(block) = shared_with(list[k], &list[k + 1..]) {
-                return Some(block);
+        lowest_shared(alloc, self.list.as_slice())
+    }
+
+    /// A block that they share with an extent, as with home blocks in a row: of the first of them that has one.
+    pub fn meets(&self, extent: Extent) -> Option<u64>
+        ensures { result ≡ meets_in extent (list_of self.now) }
+    {
+        for other in &self.list {
+            if extent.first <= other.last && other.first <= extent.last {
+                return Some(extent.first.max(other.first));
             }
         }
         None
@@ -101,18 +114,6 @@ impl Extents {
     }
 }
 
-/// The first block that an extent shares with the first of others that has one of its blocks.
-fn shared_with(extent: Extent, others: &[Extent]) -> Option<u64>
-    ensures { result ≡ meets_in extent others.now }
-{
-    for other in others {
-        if extent.first <= other.last && other.first <= extent.last {
-            return Some(extent.first.max(other.first));
-        }
-    }
-    None
-}
-
 /// How many blocks extents have; 2^64 - 1 for more.
 fn total(list: &[Extent]) -> u64
     ensures { result ≡ extents_count list.now }
@@ -124,7 +125,7 @@ fn total(list: &[Extent]) -> u64
     sum
 }
 
-/// The first word of a text, and what is after the space or comma that follows it, where there is one.
+/// The first word of a text, and what is after the byte that ends it, where there is one.
 fn next_listed(text: &[u8]) -> (&[u8], Option<&[u8]>)
     ensures words { listed text.now ≡ result.0.now ∷ listed_in (option_copied result.1) }
     ensures shorter { IfSome result.1 (λ rest. length rest.now < length text.now) }
@@ -137,44 +138,66 @@ fn next_listed(text: &[u8]) -> (&[u8], Option<&[u8]>)
     (text, None)
 }
 
-/// Whether a byte is between two words.
+/// Whether a byte is between two words: white space (space, tab, line feed, vertical tab, form feed or carriage return)
+/// or a comma.
 fn is_between(byte: u8) -> bool
     ensures { result ≡ stands_between byte }
 {
-    matches!(byte, b' ' | b',')
+    matches!(byte, b' ' | b',' | 9..=13)
 }
 
-/// Puts the blocks that a word says after those that are listed.
-fn take_word(list: &mut Vec<Extent>, word: &[u8]) -> Result<(), ListFault>
-    ensures { TakesWord word.now list.old.items list.new.items result }
+/// Puts the blocks that a word says after those that are listed, which are so many, and gives how many are listed then.
+fn take_word(list: &mut Vec<Extent>, blocks: u64, word: &[u8]) -> Result<u64, ListFault>
+    requires counted { blocks ≡ extents_count list.old.items }
+    requires forward { AreForward list.old.items }
+    ensures takes { TakesWord word.now list.old.items list.new.items result }
+    ensures counted { IfOk result (λ now. now ≡ extents_count list.new.items) }
+    ensures forward { OnOk result (AreForward list.new.items) }
 {
     match read_word(word) {
         None => Err(ListFault::Syntax),
-        Some(Named::Nothing) => Ok(()),
+        Some(Named::Nothing) => Ok(blocks),
         Some(Named::Blocks(at, extent)) => {
-            if !follows(list.as_slice(), at) {
+            if !follows(blocks, at) {
                 return Err(ListFault::Syntax);
             }
             put(list, extent)?;
-            Ok(())
+            Ok(blocks.saturating_add(extent.blocks()))
         }
     }
 }
 
-/// Puts an extent after those that are listed.
+/// Puts an extent after those that are listed: one that goes on where the last of them ends is one with that.
 fn put(list: &mut Vec<Extent>, extent: Extent) -> Result<(), Memory>
-    ensures { OnOk result (list.new.items ≡ list.old.items ++ extent ∷ []) }
+    ensures put { OnOk result (list.new.items ≡ attached list.old.items extent) }
+    ensures grows { IfErr result (λ _. is_attached list.old.items extent ≡ false) }
 {
+    let n = list.len();
+    if goes_on(list.as_slice(), extent) {
+        list[n - 1].last = extent.last;
+        return Ok(());
+    }
     list.push(extent)?;
     Ok(())
 }
 
-/// Whether a stretch that begins at this block of the journal comes next; one that does not say where it begins does.
-fn follows(list: &[Extent], at: Option<u64>) -> bool
-    ensures { result ≡ follows_at list.now at }
+/// Whether an extent goes on where the last of others ends.
+fn goes_on(list: &[Extent], extent: Extent) -> bool
+    ensures { result ≡ is_attached list.now extent }
+{
+    match list.last() {
+        None => false,
+        Some(last) => extent.first > 0 && last.last == extent.first - 1,
+    }
+}
+
+/// Whether a stretch that begins at this block of the journal comes next after so many; one that does not say where it
+/// begins does.
+fn follows(blocks: u64, at: Option<u64>) -> bool
+    ensures { result ≡ follows_at blocks at }
 {
     match at {
         None => true,
-        Some(at) => at == total(list),
+        Some(at) => at == blocks,
     }
 }

@@ -2,6 +2,7 @@ ghost use Rattle.std.specs.Prelude.{◌≡◌, ◌<◌, IfSome, IsErr, is_ok};
 ghost use Rattle.jb_disk.specs.Faults.{CountsFault, CountsOne, counted};
 ghost use Rattle.jb_image.specs.Disks.{ExtentsCalled, at_block, spread_count};
 
+use crate::extent::Extent;
 use crate::extents::Extents;
 use jb_block::BlockSize;
 use jb_disk::{Disk, Fault};
@@ -20,7 +21,8 @@ pub struct ExtentsDisk<D: Disk> {
 }
 
 impl<D: Disk> ExtentsDisk<D> {
-    ghost use Rattle.jb_image.specs.Disks.{extents_of, refused_calls, journal_blocks, own_in, whole_disk};
+    ghost use Rattle.jb_image.specs.Disks.{extents_of, refused_calls, journal_blocks, own_among, own_in};
+    ghost use Rattle.jb_image.specs.Disks.{whole_disk};
     ghost use Rattle.std.specs.Prelude.{◌≡◌};
 
     /// The disk that an image is, with a journal of so many blocks in these extents.
@@ -55,6 +57,14 @@ impl<D: Disk> ExtentsDisk<D> {
             }
         }
         None
+    }
+
+    /// One of so many home blocks from this one on that is one of the journal's own; of none, as of one.
+    pub fn own_among(&self, home: u64, count: u64) -> Option<u64>
+        ensures { result ≡ own_among (extents_of self.now) home count }
+    {
+        let last = home.saturating_add(count.max(1) - 1);
+        self.extents.meets(Extent { first: home, last })
     }
 }
 

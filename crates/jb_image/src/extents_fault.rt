@@ -29,8 +29,18 @@ pub enum ExtentsFault {
     PastEnd(u64),
     /// They have so many blocks, and the journal more.
     Short(u64),
+    /// They have so many blocks, and the journal fewer.
+    Long(u64),
     /// No journal begins at the first of them.
     NoJournal,
-    /// A copy is for this home block, which is one of the journal's own.
+    /// A journal begins at the first of them in blocks of the one number of bytes, and in those of the other.
+    BlockSizes(u32, u32),
+    /// They have this block, which has the image's byte 1,024: a file system's superblock is there.
+    Front(u64),
+    /// A copy is for this home block, which is one of the journal's own; or this one was asked for.
     Home(u64),
+    /// The log is not clean, and it begins with no committed transaction.
+    Nothing,
+    /// The log is not clean, and ends inside a transaction, at this block of the journal, which has not its magic.
+    Broken(u64),
 }

@@ -19,7 +19,7 @@ pub enum ImageDisk<D: Disk = FileDisk, E: Disk = FileDisk> {
 
 impl<D: Disk, E: Disk> ImageDisk<D, E> {
     ghost use Rattle.std.specs.Prelude.{◌≡◌};
-    ghost use Rattle.jb_image.specs.Images.{is_within, own_home};
+    ghost use Rattle.jb_image.specs.Images.{is_within, own_asked, own_home};
 
     /// Whether the journal stands within the home blocks.
     pub fn is_within(&self) -> bool
@@ -35,6 +35,16 @@ impl<D: Disk, E: Disk> ImageDisk<D, E> {
         match self {
             ImageDisk::One(_) | ImageDisk::Two(_) => None,
             ImageDisk::Within(disk) => disk.first_own(homes),
+        }
+    }
+
+    /// One of so many home blocks from this one on that is one of the journal's own; of none, as of one.
+    pub fn own_among(&self, home: u64, count: u64) -> Option<u64>
+        ensures { result ≡ own_asked self.now home count }
+    {
+        match self {
+            ImageDisk::One(_) | ImageDisk::Two(_) => None,
+            ImageDisk::Within(disk) => disk.own_among(home, count),
         }
     }
 }

@@ -23,6 +23,7 @@ mod opening;
 mod pair;
 mod past;
 mod refusals;
+mod shared;
 mod stretch;
 mod system;
 mod unfinished;

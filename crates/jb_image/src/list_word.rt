@@ -1,6 +1,6 @@
 //! One stretch of a list of extents.
-ghost use Rattle.std.specs.Prelude.{◌≡◌};
-ghost use Rattle.jb_image.specs.Words.{counted_in, is_ended, is_name as is_named, named_in, place_in};
+ghost use Rattle.std.specs.Prelude.{◌≡◌, ◌≤◌, IfSome};
+ghost use Rattle.jb_image.specs.Words.{IsForward, counted_in, is_ended, is_name as is_named, named_in, place_in};
 ghost use Rattle.jb_image.specs.Words.{range_in, stretch_in};
 
 use crate::extent::Extent;
@@ -18,7 +18,8 @@ pub(crate) enum Named {
 /// What a word says: `(A-B):C-D` or `(A):C`, as debugfs lists the extents of a file; `(NAME):C`, the blocks of the
 /// map; or `C-D` or `C` alone, the next blocks.
 pub(crate) fn read_word(word: &[u8]) -> Option<Named>
-    ensures { result ≡ named_in word.now }
+    ensures says { result ≡ named_in word.now }
+    ensures forward { IfSome result IsForward }
 {
     if word.is_empty() {
         return Some(Named::Nothing);
@@ -32,7 +33,8 @@ pub(crate) fn read_word(word: &[u8]) -> Option<Named>
 
 /// What `(INNER` and the rest of a word say, which begins with `):`.
 fn read_placed(inner: &[u8], rest: &[u8]) -> Option<Named>
-    ensures { result ≡ place_in inner.now rest.now }
+    ensures says { result ≡ place_in inner.now rest.now }
+    ensures forward { IfSome result IsForward }
 {
     if !ends_place(rest) {
         return None;
@@ -46,7 +48,9 @@ fn read_placed(inner: &[u8], rest: &[u8]) -> Option<Named>
 
 /// Blocks of the journal that stand in as many of the image.
 fn stretch(own: Extent, blocks: Extent) -> Option<Named>
-    ensures { result ≡ stretch_in own blocks }
+    requires { blocks.first ≤ blocks.last }
+    ensures says { result ≡ stretch_in own blocks }
+    ensures forward { IfSome result IsForward }
 {
     if own.blocks() != blocks.blocks() {
         return None;
@@ -70,7 +74,8 @@ fn is_name(inner: &[u8]) -> bool
 
 /// The numbers that `C-D` or `C` says.
 fn range_of(text: &[u8]) -> Option<Extent>
-    ensures { result ≡ range_in text.now }
+    ensures says { result ≡ range_in text.now }
+    ensures forward { IfSome result (λ range. range.first ≤ range.last) }
 {
     let (front, rest) = part(text, b'-');
     let first = number(front)?;
@@ -82,7 +87,8 @@ fn range_of(text: &[u8]) -> Option<Extent>
 
 /// The numbers from a first one to a last one, below 2^63.
 fn range(first: u64, last: u64) -> Option<Extent>
-    ensures { result ≡ counted_in first last }
+    ensures says { result ≡ counted_in first last }
+    ensures forward { IfSome result (λ range. range.first ≤ range.last) }
 {
     if last < first || last >= 1 << 63 {
         return None;

@@ -28,7 +28,7 @@ const JOURNAL: Word = Word {
 const EXTENTS: Word = Word {
     name: "extents",
     kind: Kind::Text("LIST"),
-    help: "Where the journal stands within IMAGE, as debugfs lists its blocks",
+    help: "Where the journal stands within IMAGE, as debugfs lists its blocks; - or @FILE has it",
 };
 
 /// What `--uuid` is where it is not given.

@@ -150,10 +150,15 @@ stands on it, is not found, and jb cannot keep it from being mounted while it wr
 The journal of an ext3 or ext4 file system that is not mounted is recovered where it stands:
   debugfs -R 'stat <8>' fs.img      # lists its blocks after EXTENTS: or BLOCKS:
   jb recover fs.img --extents '(0-1023):8193-9216, (1024-4095):16385-19456'
-Its log is empty then, and a later e2fsck has nothing to replay. Spaces, commas or both are between the
+Its log is empty then, and a later e2fsck has nothing to replay. White space, commas or both are between the
 words of the list, and words as (IND):8192 are passed over. A stretch without a place, as 8193-9216, has the
 next blocks of the journal: so those of OCFS2 are given, whose debugfs.ocfs2 -R 'stat //journal:0000' prints
-the first block of each extent, and its clusters.
+the first block of each extent, and its clusters. The list has exactly the journal's blocks (s_maxlen).
+--extents - reads it from standard input, and --extents @FILE from a file.
+
+Where IMAGE has no superblock of ext2, ext3 or ext4, a log that is not clean but begins with no committed
+transaction, or that ends inside one at a block that is none of a journal, may be that of another list: it
+is recovered with --force alone.
 
 With --journal FILE the journal is a copy, and the one inside the file system stays full: run e2fsck at
 once, and write nothing before, or it replays the log once more over what was written since.

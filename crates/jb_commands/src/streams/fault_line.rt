@@ -120,8 +120,18 @@ fn words_of_extents(fault: ExtentsFault) -> (&'static str, Numbers)
         ExtentsFault::Overlap(block) => ("jb: Extents Overlap ", Numbers::One(block)),
         ExtentsFault::PastEnd(block) => ("jb: Extents PastEnd ", Numbers::One(block)),
         ExtentsFault::Short(blocks) => ("jb: Extents Short ", Numbers::One(blocks)),
+        ExtentsFault::Long(blocks) => ("jb: Extents Long ", Numbers::One(blocks)),
         ExtentsFault::NoJournal => ("jb: Extents NoJournal", Numbers::None),
+        ExtentsFault::BlockSizes(one, other) => {
+            (
+                "jb: Extents BlockSizes ",
+                Numbers::Two(u64::from(one), u64::from(other)),
+            )
+        }
+        ExtentsFault::Front(block) => ("jb: Extents Front ", Numbers::One(block)),
         ExtentsFault::Home(home) => ("jb: Extents Home ", Numbers::One(home)),
+        ExtentsFault::Nothing => ("jb: Extents Nothing", Numbers::None),
+        ExtentsFault::Broken(place) => ("jb: Extents Broken ", Numbers::One(place)),
     }
 }
 
