@@ -8,7 +8,7 @@ use Rattle.jb_disk.specs.declared.file.FileDisk.{FileDisk}
 use Rattle.jb_disk.specs.declared.start.Start.{Ghosts as Starts}
 use Rattle.jb_image.specs.Disks.{extents_of, journal_blocks, whole_disk}
 use Rattle.jb_image.specs.Lists.{extents_count, extents_in, list_of, past_in, shared_in}
-use Rattle.jb_image.specs.declared.extent.Extent.{Extent}
+use Rattle.jb_map.specs.declared.extent.Extent.{Extent}
 use Rattle.jb_image.specs.declared.extents_fault.ExtentsFault.{ExtentsFault}
 use Rattle.jb_image.specs.declared.extents_fault.ExtentsFault.TheVariants.{Home, NoJournal, Overlap, PastEnd, Short}
 use Rattle.jb_format.specs.Front.{homes_in}

@@ -8,7 +8,7 @@ use Rattle.jb_format.specs.Front.{homes_in}
 use Rattle.jb_image.specs.Disks.{extents_of, journal_blocks, whole_disk}
 use Rattle.jb_image.specs.Files.{as_files}
 use Rattle.jb_image.specs.Lists.{extents_in, list_of}
-use Rattle.jb_image.specs.declared.extent.Extent.{Extent}
+use Rattle.jb_map.specs.declared.extent.Extent.{Extent}
 use Rattle.jb_image.specs.declared.extents_disk.ExtentsDisk.{ExtentsDisk}
 use Rattle.jb_image.specs.declared.image.ImageDisk.{ImageDisk}
 use Rattle.jb_super.specs.Faults.{super_in}

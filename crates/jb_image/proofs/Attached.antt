@@ -5,9 +5,9 @@ use Rattle.std.proofs.lemmas.Bool.{cond_both, eqb-true, true≢false}
 use Rattle.std.proofs.lemmas.Bool.Decides.{nat_tests}
 use Rattle.std.proofs.lemmas.List.Elements.{All-cons, All-head, All-nil, All-tail}
 use Rattle.std.proofs.lemmas.Option.{none-some, same_Some}
-use Rattle.jb_image.specs.Blocks.{extent_count}
+use Rattle.jb_map.specs.Blocks.{extent_count}
 use Rattle.jb_image.specs.Lists.{AreForward, attached, extents_count_from, is_attached}
-use Rattle.jb_image.specs.declared.extent.Extent.{Extent}
+use Rattle.jb_map.specs.declared.extent.Extent.{Extent}
 
 -- what the last of others decides
 pub attached-last : (es : List Extent) (f e : Extent) → slice_get es (length es - 1) ≡ Some f → is_attached es e ≡ (f.last + 1 == e.first)

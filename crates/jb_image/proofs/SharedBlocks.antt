@@ -9,9 +9,9 @@ use Rattle.std.proofs.lemmas.List.{drop_all, drop_more}
 use Rattle.std.proofs.lemmas.Bool.Decides.{nat_tests}
 use Rattle.std.proofs.lemmas.List.Sums.{sum_by-cons}
 use Rattle.std.proofs.lemmas.List.Sorted.{sum_by-IsPermutation}
-use Rattle.jb_image.specs.Blocks.{has_block}
+use Rattle.jb_map.specs.Blocks.{has_block}
 use Rattle.jb_image.specs.Lists.{SharesFirst, reaches_to, times}
-use Rattle.jb_image.specs.declared.extent.Extent.{Extent}
+use Rattle.jb_map.specs.declared.extent.Extent.{Extent}
 
 -- what the loop over further extents finds, by the one before that is not empty
 abbrev pub lowest_from : Option Extent → List Extent → Option ℕ

@@ -6,7 +6,7 @@ use Rattle.std.specs.Prelude.{option_and_then}
 use Rattle.std.proofs.lemmas.List.{append_assoc}
 use Rattle.std.proofs.lemmas.Option.{none-some, same_Some}
 use Rattle.jb_image.specs.Lists.{extents_in, listed, listed_in, with_word, with_words, ReadsList, TakesWord}
-use Rattle.jb_image.specs.declared.extent.Extent.{Extent}
+use Rattle.jb_map.specs.declared.extent.Extent.{Extent}
 use Rattle.jb_image.specs.declared.extents_fault.ListFault.{ListFault}
 use Rattle.jb_image.specs.declared.extents_fault.ListFault.TheVariants.{Syntax, Memory}
 

@@ -3,7 +3,7 @@ use Rattle.std.specs.Prelude.{◌≡◌, ℕ, ◌+◌, ◌-◌, ◌^◌, Bool, f
 use Rattle.jb_disk.specs.OneCall.{Called, Reads, Writes, Syncs}
 use Rattle.jb_disk.specs.Faults.{CountsCall, CountsOne}
 use Rattle.jb_image.specs.Lists.{holds_in, list_of, meets_in, place_within}
-use Rattle.jb_image.specs.declared.extent.Extent.{Extent}
+use Rattle.jb_map.specs.declared.extent.Extent.{Extent}
 use Rattle.jb_image.specs.declared.extents_disk.ExtentsDisk.{ExtentsDisk}
 use Rattle.jb_image.specs.declared.extents.Extents.{Extents}
 

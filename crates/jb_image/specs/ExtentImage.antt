@@ -11,7 +11,7 @@ use Rattle.jb_disk.specs.declared.disk.Disk.{Ghosts}
 use Rattle.jb_image.specs.Disks.{at_block, extents_of, in_image, journal_blocks, spread_count, whole_disk}
 use Rattle.jb_image.specs.Lists.{AreDisjoint, AreForward, holds_in, list_of, place_within}
 use Rattle.jb_image.specs.declared.extents_disk.ExtentsDisk.{ExtentsDisk}
-use Rattle.jb_image.specs.declared.extent.Extent.{Extent}
+use Rattle.jb_map.specs.declared.extent.Extent.{Extent}
 use Rattle.jb_image.specs.declared.extents.Extents.{Extents}
 
 -- no block is in two of the extents, and none of them ends before it begins

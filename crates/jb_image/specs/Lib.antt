@@ -1,9 +1,7 @@
-pub mod Blocks
 pub mod Bound
 pub mod Create
 pub mod Disks
 pub mod ExtentImage
-pub mod Fields
 pub mod Files
 pub mod Grounds
 pub mod Images
@@ -16,5 +14,4 @@ pub mod Pair
 pub mod Past
 pub mod Refusals
 pub mod Stretches
-pub mod System
 pub mod Words

@@ -1,9 +1,9 @@
 -- A list of extents: what a text lists, and which blocks it has.
 use Rattle.std.specs.Prelude.{◌≡◌, ℕ, ◌+◌, ◌-◌, ◌^◌, ◌<◌, ◌≤◌, ◌==◌, ◌&&◌, ◌||◌, not, Bool, true, false, if◌then◌else◌, List, [], ◌∷◌, ◌++◌, All, min, max, nat_lt, Option, Some, None, option_and_then, Result, Ok, Err}
 use Rattle.jb_text.specs.Parts.{grow}
-use Rattle.jb_image.specs.Blocks.{extent_count, has_block}
+use Rattle.jb_map.specs.Blocks.{extent_count, has_block}
 use Rattle.jb_image.specs.Words.{named_in}
-use Rattle.jb_image.specs.declared.extent.Extent.{Extent}
+use Rattle.jb_map.specs.declared.extent.Extent.{Extent}
 use Rattle.jb_image.specs.declared.extents.Extents.{Extents}
 use Rattle.jb_image.specs.declared.extents_fault.ListFault.{ListFault}
 use Rattle.jb_image.specs.declared.extents_fault.ListFault.TheVariants.{Syntax, Memory}

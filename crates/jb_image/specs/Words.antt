@@ -1,8 +1,8 @@
 -- One stretch of a list of extents.
 use Rattle.std.specs.Prelude.{ℕ, ⊤, ◌≤◌, ◌^◌, ◌==◌, ◌&&◌, ◌||◌, not, Bool, if◌then◌else◌, List, length, drop, slice_index, nat_lt, Option, Some, None, option_and_then}
 use Rattle.jb_text.specs.Parts.{before, onward, number_of}
-use Rattle.jb_image.specs.Blocks.{extent_count}
-use Rattle.jb_image.specs.declared.extent.Extent.{Extent}
+use Rattle.jb_map.specs.Blocks.{extent_count}
+use Rattle.jb_map.specs.declared.extent.Extent.{Extent}
 use Rattle.jb_image.specs.declared.list_word.Named.{Named}
 use Rattle.jb_image.specs.declared.list_word.Named.TheVariants.{Nothing, Blocks}
 

@@ -3,7 +3,7 @@ ghost use Rattle.std.specs.Option.{option_copied};
 ghost use Rattle.jb_image.specs.Lists.{AreForward, attached, extents_count, follows_at, is_attached};
 ghost use Rattle.jb_image.specs.Lists.{is_between as stands_between, listed, listed_in, TakesWord};
 
-use crate::extent::Extent;
+use jb_map::Extent;
 use crate::extents_fault::ListFault;
 use crate::list_word::{Named, read_word};
 use crate::shared::lowest_shared;

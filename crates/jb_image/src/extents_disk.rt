@@ -2,7 +2,7 @@ ghost use Rattle.std.specs.Prelude.{◌≡◌, ◌<◌, IfSome, IsErr, is_ok};
 ghost use Rattle.jb_disk.specs.Faults.{CountsFault, CountsOne, counted};
 ghost use Rattle.jb_image.specs.Disks.{ExtentsCalled, at_block, spread_count};
 
-use crate::extent::Extent;
+use jb_map::Extent;
 use crate::extents::Extents;
 use jb_block::BlockSize;
 use jb_disk::{Disk, Fault};

@@ -2,7 +2,7 @@
 ghost use Rattle.std.specs.Prelude.{◌≡◌};
 ghost use Rattle.jb_image.specs.LeftDraft.{is_unused_front};
 
-use crate::system::FRONT;
+use jb_ext::FRONT;
 use jb_super::Super;
 use std::fs::File;
 use std::os::unix::fs::FileExt;

@@ -4,12 +4,10 @@
 #![tactic(auto)]
 
 mod draft;
-mod extent;
 mod extents;
 mod extents_disk;
 mod extents_fault;
 mod fault;
-mod field;
 mod ground;
 mod image;
 mod image_geometry;
@@ -25,10 +23,9 @@ mod past;
 mod refusals;
 mod shared;
 mod stretch;
-mod system;
 mod unfinished;
 
-pub use extent::Extent;
+pub use jb_map::Extent;
 pub use extents::Extents;
 pub use extents_disk::ExtentsDisk;
 pub use extents_fault::{ExtentsFault, ListFault};
@@ -39,4 +36,4 @@ pub use judging::{FileSystemFault, judge};
 pub use making::{create_holding, create_image};
 pub use opening::{Opening, open_file, open_holding, open_image};
 pub use pair::PairDisk;
-pub use system::{FRONT, FileSystem};
+pub use jb_ext::{FRONT, FileSystem};

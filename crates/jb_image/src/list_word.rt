@@ -3,7 +3,7 @@ ghost use Rattle.std.specs.Prelude.{◌≡◌, ◌≤◌, IfSome};
 ghost use Rattle.jb_image.specs.Words.{IsForward, counted_in, is_ended, is_name as is_named, named_in, place_in};
 ghost use Rattle.jb_image.specs.Words.{range_in, stretch_in};
 
-use crate::extent::Extent;
+use jb_map::Extent;
 use jb_text::{number, part};
 
 /// What a word of a list says.

@@ -3,7 +3,7 @@ ghost use Rattle.std.specs.Prelude.{◌≡◌, IfOk};
 ghost use Rattle.std.specs.List.Sorted.{IsNonDecreasingBy};
 ghost use Rattle.jb_image.specs.Lists.{SharesFirst, reaches_to};
 
-use crate::extent::Extent;
+use jb_map::Extent;
 use jb_block::Memory;
 use std::alloc::Global;
 

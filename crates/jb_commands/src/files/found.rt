@@ -1,6 +1,6 @@
 //! The superblock of a journal within an image, at the first block of its extents.
 ghost use Rattle.std.specs.Prelude.{◌≡◌, IfErr, IfOk, Ok};
-ghost use Rattle.jb_image.specs.System.{system_in};
+ghost use Rattle.jb_ext.specs.System.{system_in};
 ghost use Rattle.jb_commands.specs.FoundWithin.{AreTries, IsFoundWithin, IsNotFound, IsReadOf, IsTry};
 ghost use Rattle.jb_commands.specs.FoundWithin.{chosen_of, try_of, try_refused};
 ghost use Rattle.jb_commands.specs.OpenRefusals.{IsFileShut};

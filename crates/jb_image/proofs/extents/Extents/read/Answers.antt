@@ -2,7 +2,7 @@ use Rattle.std.proofs.Common.{ap, ◌∙◌, rules, ◌≡◌, ◌≤◌, Err, r
 use Rattle.std.specs.Option.{option_copied}
 use Rattle.std.proofs.lemmas.List.Elements.{All-nil}
 use Rattle.jb_image.specs.Lists.{listed_in}
-use Rattle.jb_image.specs.declared.extent.Extent.{Extent}
+use Rattle.jb_map.specs.declared.extent.Extent.{Extent}
 use Rattle.jb_image.proofs.TakenWords.{taken-ends, taken-fails, taken-goes, taken-none}
 use Rattle.jb_image.proofs.extents.Extents.read.Goals as goal
 
