@@ -148,8 +148,9 @@ def unknown():
             ways.append((["strace", "-o", "/dev/null", "-e", "inject=read:error=EIO:when=%d" % number], "EIO at read %d, of the list of mounts" % number))
     if os.geteuid() == 0 and shutil.which("unshare"):
         ways.append((["unshare", "-m", "sh", "-c", 'umount -l /proc && exec "$@"', "sh"], "no /proc"))
-        ways.append((["unshare", "-m", "sh", "-c", 'mount --bind /dev/null /proc/$$/mountinfo && exec "$@"', "sh"], "an empty list"))
-        ways.append((["unshare", "-m", "sh", "-c", 'echo 1 2 x >list && mount --bind list /proc/$$/mountinfo && exec "$@"', "sh"], "another list"))
+        other = 'mount -t tmpfs none /proc && mkdir /proc/self && printf "%s" >/proc/self/mountinfo && exec "$@"'
+        for text in ["", "1 2 x\\n", "22 1 0:21 / /proc rw\\n22 1 x:1 / / rw\\n", "22 1 254 / / rw"]:
+            ways.append((["unshare", "-m", "sh", "-c", other % text, "sh"], "the list %r" % text))
     for way, what in ways:
         for words in commands:
             fresh({"image": loaded, "queue": QUEUE})

@@ -5,6 +5,9 @@ import shutil
 from anywhere import QUEUE, SIZES, all_files, expect, fresh, made, run
 
 
+LINK = "?link,linkat"
+
+
 def refused(call, error):
     """The words that run a program whose calls of this name are refused so."""
     return ["strace", "-o", "/dev/null", "-e", "inject=%s:error=%s" % (call, error)]
@@ -28,12 +31,12 @@ def links():
         ("EXDEV", b"jb: cannot make new\n"),
     ]:
         fresh({})
-        got = run(["format", "new", *SIZES], by=refused("link", error))
+        got = run(["format", "new", *SIZES], by=refused(LINK, error))
         expect("link: %s" % error, got == (2, b"", line) and not os.listdir("."), got, os.listdir("."))
         runs += 1
     # a file that comes by the name while the image is made stays: strace holds the link back for two seconds
     fresh({})
-    slow = ["strace", "-o", "/dev/null", "-e", "inject=link:error=EPERM:delay_enter=2s"]
+    slow = ["strace", "-o", "/dev/null", "-e", "inject=%s:error=EPERM:delay_enter=2s" % LINK]
     late = ["sh", "-c", '(sleep 1; echo mine >new) & exec "$@"', "sh", *slow]
     got = run(["format", "new", *SIZES], by=late)
     expect("a file that comes meanwhile", got == (2, b"", b"jb: no links new\n") and all_files() == {"new": b"mine\n"}, got, os.listdir("."))

@@ -15,13 +15,13 @@ use Rattle.jb_image.specs.declared.opening.Opening.{Opening}
 use Rattle.jb_image.specs.declared.opening.Opening.TheVariants.{Change, Forced, Read}
 
 -- memory ran out, or a refusal with this number
-abbrev pub fault_of_kind : ErrorKind → Option ℤ → ImageFault
-fault_of_kind OutOfMemory code = Memory
-fault_of_kind _ code = System (record { code = code })
+abbrev pub call_fault_of_kind : ErrorKind → Option ℤ → ImageFault
+call_fault_of_kind OutOfMemory code = Memory
+call_fault_of_kind _ code = System (record { code = code })
 
 -- the fault of a call that was refused
-abbrev pub fault_of : Error → ImageFault
-fault_of error = fault_of_kind (error_kind error) (raw_os_error error)
+abbrev pub call_fault : Error → ImageFault
+call_fault error = call_fault_of_kind (error_kind error) (raw_os_error error)
 
 -- a file system that has no locks: it is refused with ENOSYS or EOPNOTSUPP
 abbrev pub is_unsupported : ErrorKind → Bool
@@ -32,7 +32,7 @@ is_unsupported _ = false
 abbrev pub lock_answer : Result Unit TryLockError → Result Unit ImageFault
 lock_answer (Ok tt) = Ok tt
 lock_answer (Err WouldBlock) = Err InUse
-lock_answer (Err (LockError error)) = if is_unsupported (error_kind error) then Ok tt else Err (fault_of error)
+lock_answer (Err (LockError error)) = if is_unsupported (error_kind error) then Ok tt else Err (call_fault error)
 
 -- EPERM, EMLINK and EOPNOTSUPP are what a file system says that has no links
 abbrev pub is_no_links : Option ℤ → Bool
@@ -49,7 +49,7 @@ abbrev pub link_fault : Error → MakeFault
 link_fault error =
     if is_existing (raw_os_error error) then Exists
     else if is_no_links (raw_os_error error) then NoLinks
-    else Image (fault_of error)
+    else Image (call_fault error)
 
 -- what the system did not say of the mounts: memory ran out, or it cannot be known
 abbrev pub mounts_fault : ErrorKind → ImageFault

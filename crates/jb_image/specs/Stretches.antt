@@ -19,10 +19,10 @@ abbrev pub placed_in : Stretch → Stretch → Stretch
 placed_in of held = record { from = min (held.from + of.from) no_end; end = min (min (held.from + of.end) no_end) held.end }
 
 -- a byte is in a stretch
-pub record Holds (stretch : Stretch) (at : ℕ) : Type 0 where
+pub record IsIn (stretch : Stretch) (at : ℕ) : Type 0 where
   pub from : stretch.from ≤ at
   pub end : at < stretch.end
 
 -- two stretches have a byte in common
 abbrev pub Meet : Stretch → Stretch → Type 0
-Meet one other = (at : ℕ) × Holds one at × Holds other at
+Meet one other = (at : ℕ) × IsIn one at × IsIn other at

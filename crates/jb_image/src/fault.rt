@@ -55,9 +55,9 @@ pub enum ImageFault {
 
 impl From<io::Error> for ImageFault {
     ghost use Rattle.std.specs.Prelude.{◌≡◌};
-    ghost use Rattle.jb_image.specs.Refusals.{fault_of};
+    ghost use Rattle.jb_image.specs.Refusals.{call_fault};
 
-    ghost from_gives = { λ error fault. fault ≡ fault_of error };
+    ghost from_gives = { λ error fault. fault ≡ call_fault error };
 
     fn from(error: io::Error) -> ImageFault {
         match error.kind() {
