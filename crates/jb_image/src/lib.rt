@@ -33,7 +33,7 @@ pub use fault::{ImageFault, MakeFault, SystemFault};
 pub use image::ImageDisk;
 pub use image_geometry::ImageGeometry;
 pub use judging::{FileSystemFault, judge};
+pub use jb_ext::{FRONT, FileSystem};
 pub use making::{create_holding, create_image};
 pub use opening::{Opening, open_file, open_holding, open_image};
 pub use pair::PairDisk;
-pub use jb_ext::{FRONT, FileSystem};
