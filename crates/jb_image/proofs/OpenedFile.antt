@@ -13,4 +13,4 @@ module _ {S : Type 0} {start : Ghosts S} (f : FileDisk S start) (len : ℕ) (ask
 
   -- it holds that still
   pub opened-holds : IsHonest f → content_of f ≡ start.content 0
-  opened-holds honest = ap (λ events. start.content (length events)) asked ∙ (rw asked at honest).1.2.0
+  opened-holds honest = ap (λ events. start.content (length events)) asked ∙ (rw asked at honest).1.1.0

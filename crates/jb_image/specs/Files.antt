@@ -1,12 +1,11 @@
 -- An image in files as a disk.
 use Rattle.std.specs.Prelude.{true, false, length}
 use Rattle.jb_block.specs.Size.{bytes_of}
-use Rattle.jb_disk.specs.Faults.{CountsOne}
-use Rattle.jb_disk.specs.File.{UnknownFile, IsHonest, FileLeaves, FileLeft, content_of, count_of, events_of, faults_of, size_of_blocks}
+use Rattle.jb_disk.specs.File.{UnknownFile, IsHonest, IsOneCall, IsWellAsked, MayGoOn, FileLeaves, FileLeft, content_of, count_of, events_of, faults_of, size_of_blocks}
 use Rattle.jb_disk.specs.declared.disk.Disk.{Ghosts}
 use Rattle.jb_disk.specs.declared.file.FileDisk.{FileDisk}
 use Rattle.jb_disk.specs.declared.start.Start.{Ghosts as Starts}
-use Rattle.jb_image.specs.Images.{image_count, image_faults, image_moment, image_newest, image_size, IsHonestImage, ImageCalled, ImageLeaves, ImageLeft}
+use Rattle.jb_image.specs.Images.{image_count, image_faults, image_moment, image_newest, image_size, IsHonestImage, IsImageWellAsked, MayImageGoOn, ImageCalled, ImageLeaves, ImageLeft}
 use Rattle.jb_image.specs.declared.image.ImageDisk.{ImageDisk}
 
 -- what a file is as a disk
@@ -21,7 +20,9 @@ as_file = record {
   moment = λ f. length (events_of f);
   left_since = FileLeft;
   fails_next = λ _. false;
-  own = λ _ old new ok. CountsOne ok (faults_of old) (faults_of new);
+  may_go_on = MayGoOn;
+  well_asked = IsWellAsked;
+  own = IsOneCall;
   runs_as_calls = true;
 }
 
@@ -37,6 +38,8 @@ as_disks G H = record {
   moment = image_moment G H;
   left_since = ImageLeft G H;
   fails_next = λ _. false;
+  may_go_on = MayImageGoOn G H;
+  well_asked = IsImageWellAsked G H;
   own = ImageCalled G H;
   runs_as_calls = false;
 }

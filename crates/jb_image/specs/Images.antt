@@ -8,7 +8,7 @@ use Rattle.jb_disk.specs.declared.disk.Disk.{Ghosts}
 use Rattle.jb_image.specs.Disks.{ExtentsCalled, extents_of, refused_calls, journal_blocks, own_among, own_in, spread_count, whole_disk}
 use Rattle.jb_image.specs.ExtentImage.{IsHonestWithin, WithinLeaves, WithinLeft, within, within-shape}
 use Rattle.jb_image.specs.Laws.{counts_both, has_both_shapes, leaves_newest, only_both, since_has_both_shapes}
-use Rattle.jb_image.specs.Pair.{back_disk, front_disk, joined_count, past_states, IsHonestPair, PairCalled, PairLeaves, PairLeftSince}
+use Rattle.jb_image.specs.Pair.{back_disk, front_disk, joined_count, past_states, AreWellAsked, IsHonestPair, MayGoOnBoth, PairCalled, PairLeaves, PairLeftSince}
 use Rattle.jb_image.specs.declared.image.ImageDisk.{ImageDisk}
 use Rattle.jb_image.specs.declared.image.ImageDisk.TheVariants.{One, Two, Within}
 
@@ -54,6 +54,18 @@ module _ {D E : Type 0} (G : Ghosts D) (H : Ghosts E) where
   IsHonestImage (One disk) = G.honest disk
   IsHonestImage (Two pair) = IsHonestPair H G pair
   IsHonestImage (Within disk) = IsHonestWithin G disk
+
+  -- no write and no sync of the disks that it is has failed
+  abbrev pub MayImageGoOn : ImageDisk D E → Type 0
+  MayImageGoOn (One disk) = G.may_go_on disk
+  MayImageGoOn (Two pair) = MayGoOnBoth H G pair
+  MayImageGoOn (Within disk) = G.may_go_on (whole_disk disk)
+
+  -- no call of them came after a write or a sync that failed
+  abbrev pub IsImageWellAsked : ImageDisk D E → Type 0
+  IsImageWellAsked (One disk) = G.well_asked disk
+  IsImageWellAsked (Two pair) = AreWellAsked H G pair
+  IsImageWellAsked (Within disk) = G.well_asked (whole_disk disk)
 
   -- the blocks as reads give them
   abbrev pub image_newest : ImageDisk D E → Image

@@ -68,6 +68,17 @@ module _ {A B : Type 0} (G : Ghosts A) (H : Ghosts B) where
     pub same_size : G.size (front_disk p) ≡ H.size (back_disk p)
     pub all_counted : G.count (front_disk p) + H.count (back_disk p) < 2 ^ 64
 
+  -- no write and no sync of either has failed
+  pub record MayGoOnBoth (p : PairDisk A B) : Type 0 where
+    pub first : G.may_go_on (front_disk p)
+    pub second : H.may_go_on (back_disk p)
+
+  -- no call of either came after a write or a sync of it that failed, and of one of the two none has failed
+  pub record AreWellAsked (p : PairDisk A B) : Type 0 where
+    pub first : G.well_asked (front_disk p)
+    pub second : H.well_asked (back_disk p)
+    pub one : G.may_go_on (front_disk p) ⊎ H.may_go_on (back_disk p)
+
   -- what a crash may leave of the pair
   abbrev pub PairLeaves : PairDisk A B → Image → Type 0
   PairLeaves p = LeavesBoth G.may_leave G.moment G.left_since H.may_leave H.moment H.left_since (front_disk p, back_disk p)

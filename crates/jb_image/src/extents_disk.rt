@@ -90,6 +90,10 @@ impl<D: Disk> Disk for ExtentsDisk<D> {
 
     ghost left_since = { WithinLeft D.Disk };
 
+    ghost may_go_on = { λ d. D.may_go_on d.disk };
+
+    ghost well_asked = { λ d. D.well_asked d.disk };
+
     ghost own = { λ call old new ok. ExtentsCalled D.count D.faults D.own call old new ok };
 
     ghost has_size = { λ d. D.has_size d.disk };

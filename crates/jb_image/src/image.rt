@@ -54,7 +54,8 @@ impl<D: Disk, E: Disk> ImageDisk<D, E> {
 impl<D: Disk, E: Disk> Disk for ImageDisk<D, E> {
     ghost use Rattle.jb_image.specs.Bound.{members};
     ghost use Rattle.jb_image.specs.Images.{image_count, image_faults, image_moment, image_newest, image_size};
-    ghost use Rattle.jb_image.specs.Images.{IsHonestImage, ImageCalled, ImageLeaves, ImageLeft};
+    ghost use Rattle.jb_image.specs.Images.{IsHonestImage, IsImageWellAsked, ImageCalled, ImageLeaves, ImageLeft};
+    ghost use Rattle.jb_image.specs.Images.{MayImageGoOn};
     ghost use Rattle.jb_image.specs.Images as images;
 
     ghost size = { image_size D.Disk E.Disk };
@@ -72,6 +73,10 @@ impl<D: Disk, E: Disk> Disk for ImageDisk<D, E> {
     ghost moment = { image_moment D.Disk E.Disk };
 
     ghost left_since = { ImageLeft D.Disk E.Disk };
+
+    ghost may_go_on = { MayImageGoOn D.Disk E.Disk };
+
+    ghost well_asked = { IsImageWellAsked D.Disk E.Disk };
 
     ghost own = { ImageCalled D.Disk E.Disk };
 

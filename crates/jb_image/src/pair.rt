@@ -51,7 +51,7 @@ impl<A: Disk, B: Disk> Disk for PairDisk<A, B> {
     ghost use Rattle.jb_image.specs.Bound.{members};
     ghost use Rattle.jb_image.specs.Laws.{counts_both, has_both_shapes, leaves_newest, only_both};
     ghost use Rattle.jb_image.specs.Laws.{since_has_both_shapes};
-    ghost use Rattle.jb_image.specs.Pair.{IsHonestPair, PairLeaves, PairLeftSince};
+    ghost use Rattle.jb_image.specs.Pair.{AreWellAsked, IsHonestPair, MayGoOnBoth, PairLeaves, PairLeftSince};
 
     ghost size = { λ p. A.size p.front };
 
@@ -68,6 +68,10 @@ impl<A: Disk, B: Disk> Disk for PairDisk<A, B> {
     ghost moment = { λ p. length (past_states p) };
 
     ghost left_since = { λ p. PairLeftSince A.Disk B.Disk p };
+
+    ghost may_go_on = { λ p. MayGoOnBoth A.Disk B.Disk p };
+
+    ghost well_asked = { λ p. AreWellAsked A.Disk B.Disk p };
 
     ghost own = { λ call old new ok. PairCalled A.count A.faults A.own B.faults B.own call old new ok };
 

@@ -175,3 +175,12 @@ returns-clause-own g c = never
 pub write_run-requires-2 : goal.write_run-requires-2
 write_run-requires-2 g c =
     record { run = run-begun c.blocks-front.ensures c.blocks-front.type_inv c.if-front-place.false (parts g (goal.at.write_run-requires-2 g c).After-split_at).long }
+
+pub returns-then-place-blocks-clause-torn : goal.returns-then-place-blocks-clause-torn
+returns-then-place-blocks-clause-torn g c honest =
+    let p = c.args.self.now in
+    let run = c.write_run.ensures in
+    in-front c.args.blocks (torn_blocks (g.A.Disk.size p.front) c.args.blocks c.args.bytes.now) c.args.place
+    (g.A.Disk.newest p.front) (g.A.Disk.newest c.write_run.new.self) (g.B.Disk.newest p.back)
+    (omega (arith, c.if-place-blocks.true, front-long g (goal.at.returns-then-place-blocks-clause-torn g c).After-blocks-front (run.kept.was_honest honest.first)))
+    (run.torn honest.first)
