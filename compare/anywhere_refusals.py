@@ -10,7 +10,7 @@ LINK = "?link,linkat"
 
 def refused(call, error):
     """The words that run a program whose calls of this name are refused so."""
-    return ["strace", "-o", "/dev/null", "-e", "inject=%s:error=%s" % (call, error)]
+    return ["strace", "--quiet=all", "-o", "/dev/null", "-e", "inject=%s:error=%s" % (call, error)]
 
 
 def links():
@@ -36,8 +36,8 @@ def links():
         runs += 1
     # a file that comes by the name while the image is made stays: strace holds the link back for two seconds
     fresh({})
-    slow = ["strace", "-o", "/dev/null", "-e", "inject=%s:error=EPERM:delay_enter=2s" % LINK]
-    late = ["sh", "-c", '(sleep 1; echo mine >new) & exec "$@"', "sh", *slow]
+    slow = ["strace", "--quiet=all", "-o", "/dev/null", "-e", "inject=%s:error=EPERM:delay_enter=2s" % LINK]
+    late = ["sh", "-c", '( (sleep 1; echo mine >new) >/dev/null 2>&1 & ) && exec "$@"', "sh", *slow]
     got = run(["format", "new", *SIZES], by=late)
     expect("a file that comes meanwhile", got == (2, b"", b"jb: no links new\n") and all_files() == {"new": b"mine\n"}, got, os.listdir("."))
     print("links: %d runs" % (runs + 1))
