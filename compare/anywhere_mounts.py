@@ -123,6 +123,33 @@ def stacked():
     print("loop devices over one file and one another: 18 runs")
 
 
+def parted():
+    """Of a disk with two partitions, of which one is mounted, that one and the disk are refused, and the file below; the other one is not."""
+    if os.geteuid() != 0 or shutil.which("addpart") is None:
+        print("partitions: not tried, as none can be made here")
+        return
+    fresh({"backing": bytes(6 << 20)})
+    disk = loop("backing", "--partscan")
+    one, two = disk + "p1", disk + "p2"
+    try:
+        for number, start in [("1", "2048"), ("2", "6144")]:
+            subprocess.run(["addpart", disk, number, start, "4096"], check=True)
+        with tempfile.TemporaryDirectory() as room:
+            for mounted, refused, taken in [(one, [one, disk, "backing"], [two]), (two, [two, disk, "backing"], [one])]:
+                subprocess.run(["mke2fs", "-q", "-F", "-b", "1024", mounted], stderr=subprocess.DEVNULL, check=True)
+                subprocess.run(["mount", "-o", "ro", mounted, room], check=True)
+                try:
+                    for image in refused + taken:
+                        got = run(["widen", image])
+                        want = (2, b"", b"jb: in use %s\n" % image.encode()) if image in refused else (1, b"", b"jb: Super NoMagic\n")
+                        expect("mounted %s: %s" % (mounted, image), got == want, got)
+                finally:
+                    subprocess.run(["umount", room])
+    finally:
+        subprocess.run(["losetup", "--detach", disk])
+    print("partitions of a disk: 8 runs")
+
+
 UNKNOWN = (2, b"", b"jb: mounts unknown image\n")
 
 
