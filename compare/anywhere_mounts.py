@@ -123,6 +123,33 @@ def stacked():
     print("loop devices over one file and one another: 18 runs")
 
 
+def parted():
+    """Of a disk with two partitions, of which one is mounted, that one and the disk are refused, and the file below; the other one is not."""
+    if os.geteuid() != 0 or shutil.which("addpart") is None:
+        print("partitions: not tried, as none can be made here")
+        return
+    fresh({"backing": bytes(6 << 20)})
+    disk = loop("backing", "--partscan")
+    one, two = disk + "p1", disk + "p2"
+    try:
+        for number, start in [("1", "2048"), ("2", "6144")]:
+            subprocess.run(["addpart", disk, number, start, "4096"], check=True)
+        with tempfile.TemporaryDirectory() as room:
+            for mounted, refused, taken in [(one, [one, disk, "backing"], [two]), (two, [two, disk, "backing"], [one])]:
+                subprocess.run(["mke2fs", "-q", "-F", "-b", "1024", mounted], stderr=subprocess.DEVNULL, check=True)
+                subprocess.run(["mount", "-o", "ro", mounted, room], check=True)
+                try:
+                    for image in refused + taken:
+                        got = run(["widen", image])
+                        want = (2, b"", b"jb: in use %s\n" % image.encode()) if image in refused else (1, b"", b"jb: Super NoMagic\n")
+                        expect("mounted %s: %s" % (mounted, image), got == want, got)
+                finally:
+                    subprocess.run(["umount", room])
+    finally:
+        subprocess.run(["losetup", "--detach", disk])
+    print("partitions of a disk: 8 runs")
+
+
 UNKNOWN = (2, b"", b"jb: mounts unknown image\n")
 
 
@@ -142,10 +169,10 @@ def unknown():
     commands = [["recover", "image"], ["renumber", "image"], ["widen", "image"], ["load", "image", "queue"], ["recover", "image", "--extents", "0-32"]]
     ways = []
     if shutil.which("strace"):
-        ways.append((["strace", "-o", "/dev/null", "-P", "/proc/self/mountinfo", "-e", "inject=openat:error=EMFILE"], "EMFILE at the list of mounts"))
+        ways.append((["strace", "--quiet=all", "-o", "/dev/null", "-P", "/proc/self/mountinfo", "-e", "inject=openat:error=EMFILE"], "EMFILE at the list of mounts"))
         fresh({"image": loaded})
         for number in reads_of("mountinfo", ["recover", "image"]):
-            ways.append((["strace", "-o", "/dev/null", "-e", "inject=read:error=EIO:when=%d" % number], "EIO at read %d, of the list of mounts" % number))
+            ways.append((["strace", "--quiet=all", "-o", "/dev/null", "-e", "inject=read:error=EIO:when=%d" % number], "EIO at read %d, of the list of mounts" % number))
     if os.geteuid() == 0 and shutil.which("unshare"):
         ways.append((["unshare", "-m", "sh", "-c", 'umount -l /proc && exec "$@"', "sh"], "no /proc"))
         other = 'mount -t tmpfs none /proc && mkdir /proc/self && printf "%s" >/proc/self/mountinfo && exec "$@"'
@@ -156,12 +183,14 @@ def unknown():
             fresh({"image": loaded, "queue": QUEUE})
             got = run(words, by=way)
             expect("%s: %s" % (what, words), got == UNKNOWN and open("image", "rb").read() == loaded, got)
-        for words in [["cat", "image", "1"], ["recover", "image", "--dry-run"], ["recover", "image", "--force"]]:
+        # what only reads does not look at the list, so that its reads are others
+        readers = [] if "EIO" in what else [["cat", "image", "1"], ["recover", "image", "--dry-run"]]
+        for words in [*readers, ["recover", "image", "--force"]]:
             got = run(words, by=way)
             expect("%s: %s" % (what, words), got[0] == 0 and not got[2], got)
-        runs += len(commands) + 3
+        runs += len(commands) + len(readers) + 1
     # as few files as jb can open beside the image, and one fewer: it ends well or is refused, and never writes what it has not looked for
-    for most in range(3, 8):
+    for most in range(4, 8):
         fresh({"image": loaded})
         got = run(["recover", "image"], before=lambda: resource.setrlimit(resource.RLIMIT_NOFILE, (most, most)))
         good = got[0] == 0 or (got[0] == 2 and open("image", "rb").read() == loaded)
@@ -197,7 +226,7 @@ def no_devices():
                         image.write(loaded)
                     numbers = os.stat(name).st_rdev
                     path = "/sys/dev/block/%d:%d/%s" % (os.major(numbers), os.minor(numbers), what)
-                    got = run(["recover", "image"], by=["strace", "-o", "/dev/null", "-P", path, "-e", "inject=openat:error=EIO"])
+                    got = run(["recover", "image"], by=["strace", "--quiet=all", "-o", "/dev/null", "-P", path, "-e", "inject=openat:error=EIO"])
                     expect("EIO at %s" % what, got == UNKNOWN and open("image", "rb").read() == loaded, got)
             finally:
                 subprocess.run(["umount", room])

@@ -1,6 +1,7 @@
 """The parts of safe_anywhere.py in which the system refuses a link or a lock, by strace. Elsewhere they print that they were not tried."""
 import os
 import shutil
+import time
 
 from anywhere import QUEUE, SIZES, all_files, expect, fresh, made, run
 
@@ -10,7 +11,7 @@ LINK = "?link,linkat"
 
 def refused(call, error):
     """The words that run a program whose calls of this name are refused so."""
-    return ["strace", "-o", "/dev/null", "-e", "inject=%s:error=%s" % (call, error)]
+    return ["strace", "--quiet=all", "-o", "/dev/null", "-e", "inject=%s:error=%s" % (call, error)]
 
 
 def links():
@@ -34,11 +35,12 @@ def links():
         got = run(["format", "new", *SIZES], by=refused(LINK, error))
         expect("link: %s" % error, got == (2, b"", line) and not os.listdir("."), got, os.listdir("."))
         runs += 1
-    # a file that comes by the name while the image is made stays: strace holds the link back for two seconds
+    # a file that comes by the name while the image is made stays: strace would hold a rename back for two seconds
     fresh({})
-    slow = ["strace", "-o", "/dev/null", "-e", "inject=%s:error=EPERM:delay_enter=2s" % LINK]
-    late = ["sh", "-c", '(sleep 1; echo mine >new) & exec "$@"', "sh", *slow]
+    slow = refused(LINK, "EPERM") + ["-e", "inject=?rename,?renameat,renameat2:delay_enter=2s"]
+    late = ["sh", "-c", '( (sleep 1; echo mine >new) >/dev/null 2>&1 & ) && exec "$@"', "sh", *slow]
     got = run(["format", "new", *SIZES], by=late)
+    time.sleep(2)
     expect("a file that comes meanwhile", got == (2, b"", b"jb: no links new\n") and all_files() == {"new": b"mine\n"}, got, os.listdir("."))
     print("links: %d runs" % (runs + 1))
 

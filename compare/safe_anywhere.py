@@ -18,7 +18,7 @@ import sys
 import tempfile
 
 from anywhere import JB, QUEUE, SIZES, all_files, expect, fresh, made, run, wrong
-from anywhere_mounts import device, no_devices, read_only, stacked, unknown
+from anywhere_mounts import device, no_devices, parted, read_only, stacked, unknown
 from anywhere_refusals import links, locks
 
 
@@ -240,6 +240,7 @@ with tempfile.TemporaryDirectory() as folder:
     kinds()
     device()
     stacked()
+    parted()
     unknown()
     no_devices()
     making()

@@ -148,7 +148,7 @@ Arguments:
 Options:
       --extents <LIST>  Where the journal stands within IMAGE, as debugfs lists its blocks; - or @FILE has it
       --journal <FILE>  The file with the journal; IMAGE has the home blocks alone then
-      --force           Recovers though the journal seems not to be the file system's own
+      --force           Recovers though the journal seems not its file system's own, or mounts are unknown
       --dry-run         Says what would be done, and writes nothing
       --list            With --dry-run: lists the home blocks that would be written
   -h, --help            Print help (see more with '--help')
