@@ -3,4 +3,5 @@ pub mod CertLength
 pub mod CommandEnds
 pub mod Judgement
 pub mod LineByLine
+pub mod ListWords
 pub mod Verdicts
