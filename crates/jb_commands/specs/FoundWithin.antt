@@ -42,14 +42,14 @@ abbrev pub IsTry : BlockSize → Result (Option Superblock) SuperFault → Type 
 IsTry size tried = (tried ≡ Ok None) ⊎ ((front : List ℕ) × (tried ≡ try_of size front))
 
 -- some bytes are refused as a superblock for this
-abbrev pub IsRefused : SuperFault → Type 0
-IsRefused fault = (front : List ℕ) × (super_in front ≡ Err fault)
+abbrev pub IsRefusedAs : SuperFault → Type 0
+IsRefusedAs fault = (front : List ℕ) × (super_in front ≡ Err fault)
 
 -- some bytes are the superblock of a try, or are refused so
 abbrev pub IsSaid : Result (Option Superblock) SuperFault → Type 0
 IsSaid (Ok None) = ⊤
 IsSaid (Ok (Some sb)) = SaysSuper sb
-IsSaid (Err fault) = IsRefused fault
+IsSaid (Err fault) = IsRefusedAs fault
 
 -- ---- some sizes
 
@@ -71,18 +71,27 @@ with_try (Err NoList) tried = Err NoList
 with_try (Err (System fault)) tried = Err (System fault)
 with_try (Err (Extents fault)) tried = Err (Extents fault)
 
+-- there is no superblock, or there are two
+abbrev pub IsOfSizes : ExtentsFault → Type 0
+IsOfSizes NoJournal = ⊤
+IsOfSizes (BlockSizes one other) = ⊤
+IsOfSizes _ = ⊥
+
 -- some bytes are the superblock that was found, or are refused so
 abbrev pub IsSaidSo : Result (Option Superblock) WithinFault → Type 0
 IsSaidSo (Ok None) = ⊤
 IsSaidSo (Ok (Some sb)) = SaysSuper sb
-IsSaidSo (Err (File (Super fault))) = IsRefused fault
-IsSaidSo (Err fault) = ⊤
+IsSaidSo (Err NoList) = ⊥
+IsSaidSo (Err (System fault)) = ⊥
+IsSaidSo (Err (File (Super fault))) = IsRefusedAs fault
+IsSaidSo (Err (File fault)) = ⊤
+IsSaidSo (Err (Extents fault)) = IsOfSizes fault
 
 -- the superblock that was found, or why there is none
-abbrev pub chosen_of : Result (Option Superblock) WithinFault → Result Superblock WithinFault
-chosen_of (Ok (Some sb)) = Ok sb
-chosen_of (Ok None) = Err (Extents NoJournal)
-chosen_of (Err fault) = Err fault
+abbrev pub super_chosen : Result (Option Superblock) WithinFault → Result Superblock WithinFault
+super_chosen (Ok (Some sb)) = Ok sb
+super_chosen (Ok None) = Err (Extents NoJournal)
+super_chosen (Err fault) = Err fault
 
 -- some bytes are the superblock of this file system, or of none
 abbrev pub IsReadOf : Option FileSystem → Type 0
@@ -92,19 +101,19 @@ IsReadOf read = (front : List ℕ) × (read ≡ system_in front)
 abbrev pub Chooses : Option FileSystem → Result Superblock WithinFault → Type 0
 Chooses (Some read) answer =
     (size : BlockSize) × (bytes_of size ≡ read.block_size)
-    × ((tried : Result (Option Superblock) SuperFault) × IsTry size tried × (answer ≡ chosen_of (with_try (Ok None) tried)))
+    × ((tried : Result (Option Superblock) SuperFault) × IsTry size tried × (answer ≡ super_chosen (with_try (Ok None) tried)))
 Chooses None answer =
     (one two four : Result (Option Superblock) SuperFault) × IsTry OneKib one × IsTry TwoKib two × IsTry FourKib four
-    × (answer ≡ chosen_of (with_try (with_try (with_try (Ok None) one) two) four))
+    × (answer ≡ super_chosen (with_try (with_try (with_try (Ok None) one) two) four))
 
 -- a superblock was looked for so, with this answer
-abbrev pub IsChosen : Result Superblock WithinFault → Type 0
-IsChosen answer = (read : Option FileSystem) × IsReadOf read × Chooses read answer
+abbrev pub IsTried : Result Superblock WithinFault → Type 0
+IsTried answer = (read : Option FileSystem) × IsReadOf read × Chooses read answer
 
 -- this one was found
 pub record IsFoundWithin (sb : Superblock) : Type 0 where
   pub says : SaysSuper sb
-  pub chosen : IsChosen (Ok sb)
+  pub chosen : IsTried (Ok sb)
 
 -- some bytes are the superblock of a file system, whose blocks have a size that a journal's cannot have, and so many bytes
 abbrev pub IsOtherSize : FileSystemFault → Type 0
@@ -114,10 +123,10 @@ IsOtherSize _ = ⊥
 -- no superblock is taken: a file was not read, or one is refused; the file system's blocks have another size; there is none, or two
 abbrev pub IsNotFound : WithinFault → Type 0
 IsNotFound NoList = ⊥
-IsNotFound (File (Super fault)) = IsRefused fault × IsChosen (Err (File (Super fault)))
+IsNotFound (File (Super fault)) = IsRefusedAs fault × IsTried (Err (File (Super fault)))
 IsNotFound (File fault) = ⊤
 IsNotFound (System fault) = IsOtherSize fault
-IsNotFound (Extents fault) = IsChosen (Err (Extents fault))
+IsNotFound (Extents fault) = IsOfSizes fault × IsTried (Err (Extents fault))
 
 -- a file was not read
 abbrev pub IsNotRead : FileFault → Type 0

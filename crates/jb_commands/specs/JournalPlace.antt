@@ -23,7 +23,7 @@ use Rattle.jb_recover.specs.declared.fault.RecoverFault.{RecoverFault}
 use Rattle.jb_recover.specs.declared.recovered.Foreseen.{Foreseen}
 use Rattle.jb_commands.specs.Cat.{ShowsOn}
 use Rattle.jb_commands.specs.Files.{IsImageOpened, IsShut, IsUnread, SaysSuper}
-use Rattle.jb_commands.specs.FoundWithin.{IsChosen, IsFoundWithin, IsOtherSize}
+use Rattle.jb_commands.specs.FoundWithin.{IsTried, IsFoundWithin, IsOtherSize}
 use Rattle.jb_commands.specs.Foresee.{Foretells, foreseen_end, own_checked}
 use Rattle.jb_commands.specs.Judge.{JudgesOn}
 use Rattle.jb_commands.specs.ListText.{HasNoList, IsListOf}
@@ -56,8 +56,8 @@ IsNoPlaceFor es sb _ = ⊥
 -- why these extents hold no journal
 abbrev pub IsNoPlace : List Extent → ExtentsFault → Type 0
 IsNoPlace es (Overlap block) = SharesFirst es (Some block)
-IsNoPlace es NoJournal = (place_within es 0 ≡ None) ⊎ IsChosen (Err (Extents NoJournal))
-IsNoPlace es (BlockSizes one other) = IsChosen (Err (Extents (BlockSizes one other)))
+IsNoPlace es NoJournal = (place_within es 0 ≡ None) ⊎ IsTried (Err (Extents NoJournal))
+IsNoPlace es (BlockSizes one other) = IsTried (Err (Extents (BlockSizes one other)))
 IsNoPlace es fault = (sb : Superblock) × SaysSuper sb × IsNoPlaceFor es sb fault
 
 -- the image of this name was not opened, or the list is none of extents, or they hold no journal; or the file system's blocks have a

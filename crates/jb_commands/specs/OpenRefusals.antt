@@ -14,7 +14,7 @@ use Rattle.jb_image.specs.declared.image.ImageDisk.{ImageDisk}
 use Rattle.jb_super.specs.Faults.{super_in}
 use Rattle.jb_super.specs.Superblock.{Superblock}
 use Rattle.jb_commands.specs.Files.{SaysSuper}
-use Rattle.jb_commands.specs.FoundWithin.{IsChosen, IsFoundWithin, IsOtherSize}
+use Rattle.jb_commands.specs.FoundWithin.{IsFoundWithin, IsOfSizes, IsOtherSize, IsTried}
 use Rattle.jb_commands.specs.JournalPlace.{IsHeldWithin, IsJournalWithin, IsNoPlace}
 use Rattle.jb_commands.specs.declared.files.shut.FileFault.{FileFault}
 use Rattle.jb_commands.specs.declared.files.shut.FileFault.TheVariants.{Super}
@@ -41,7 +41,7 @@ abbrev pub IsFoundShut : WithinFault → Type 0
 IsFoundShut NoList = ⊥
 IsFoundShut (File fault) = IsFileShut fault
 IsFoundShut (System fault) = IsOtherSize fault
-IsFoundShut (Extents fault) = IsChosen (Err (Extents fault))
+IsFoundShut (Extents fault) = IsOfSizes fault × IsTried (Err (Extents fault))
 
 -- a file was not opened, or these extents hold no journal in it
 abbrev pub IsSpreadShut : List Extent → WithinFault → Type 0

@@ -30,7 +30,8 @@ static FAULTS: [(CommandFault<'static>, &str); 44] = [
     ),
     (
         CommandFault::BadOption(OptionName::Extents),
-        ": --extents is a list as debugfs prints it, as (0-1023):8193-9216, (1024):9300, or - or @FILE for its text; not with --journal",
+        ": --extents is a list as debugfs prints it, as (0-1023):8193-9216, (1024):9300, or - or @FILE \
+         for its text; not with --journal",
     ),
     (CommandFault::TooLong("a"), ""),
     (CommandFault::ReadFault, ""),

@@ -2,7 +2,7 @@
 ghost use Rattle.std.specs.Prelude.{◌≡◌, Err, IfErr, IfOk, None, Some};
 ghost use Rattle.jb_commands.specs.Files.{SaysSuper};
 ghost use Rattle.jb_commands.specs.FoundWithin.{IsFoundWithin, IsNotFound, IsNotRead, IsReadOf, IsSaid, IsSaidSo};
-ghost use Rattle.jb_commands.specs.FoundWithin.{IsTry, chosen_of, of_sizes, try_of, try_refused, with_try};
+ghost use Rattle.jb_commands.specs.FoundWithin.{IsTry, super_chosen, of_sizes, try_of, try_refused, with_try};
 
 use crate::files::opening::front_of;
 use crate::files::shut::{FileFault, WithinFault};
@@ -167,7 +167,7 @@ fn two_sizes(one: Super, other: Super) -> WithinFault
 /// The superblock that was found, or why there is none.
 fn chosen(found: Result<Option<Super>, WithinFault>) -> Result<Super, WithinFault>
     requires { IsSaidSo found }
-    ensures is { result ≡ chosen_of found }
+    ensures is { result ≡ super_chosen found }
     ensures says { IfOk result SaysSuper }
     ensures refused { IfErr result (λ fault. IsSaidSo (Err fault)) }
 {

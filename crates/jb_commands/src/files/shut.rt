@@ -51,17 +51,6 @@ pub(crate) enum WithinFault {
     Extents(ExtentsFault),
 }
 
-impl From<FileFault> for WithinFault {
-    ghost use Rattle.std.specs.Prelude.{◌≡◌};
-    ghost use Rattle.jb_commands.specs.declared.files.shut.WithinFault.TheVariants.{File};
-
-    ghost from_gives = { λ fault stop. stop ≡ File fault };
-
-    fn from(fault: FileFault) -> WithinFault {
-        WithinFault::File(fault)
-    }
-}
-
 /// What was opened, or the fault of the file of this name.
 pub(crate) fn named<'a, V>(
     opened: Result<V, FileFault>,
@@ -140,5 +129,16 @@ fn fault_within<'a>(fault: WithinFault, name: &'a str) -> CommandFault<'a>
         WithinFault::File(fault) => fault_of(fault, name),
         WithinFault::System(fault) => CommandFault::FileSystem(fault),
         WithinFault::Extents(fault) => CommandFault::Extents(fault),
+    }
+}
+
+impl From<FileFault> for WithinFault {
+    ghost use Rattle.std.specs.Prelude.{◌≡◌};
+    ghost use Rattle.jb_commands.specs.declared.files.shut.WithinFault.TheVariants.{File};
+
+    ghost from_gives = { λ fault stop. stop ≡ File fault };
+
+    fn from(fault: FileFault) -> WithinFault {
+        WithinFault::File(fault)
     }
 }
