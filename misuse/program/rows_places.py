@@ -1,7 +1,7 @@
 """Rows of the table: `cat`, journals in a file of their own, journals within their file system, and file systems."""
 import struct
 
-from images import BS, UUID, commit, data, image, revoke, superblock
+from images import BS, LAST_TAG, UUID, commit, data, descriptor, image, revoke, superblock
 from rows import BLOCK_5, CLEAN, CLEARED, FULL, HANDLE, MISSING, OLD, ONE, OUT_OF_RANGE, RECOVERED, SMALL, TWO_AND_REVOKED, TWO_COPIES
 from rows import queue, row
 
@@ -94,7 +94,7 @@ def over(content, home):
 LINE = "transactions 1 copies 1 revoked 0 next 4\n"
 for parts, said in (([(20, 33)], "(0-32):20-52"), ([(40, 10), (16, 23)], "(0-9):40-49,~(10-32):16-38"),
                     ([(59, 1), (30, 12), (20, 10), (45, 10)], "(0):59,~(IND):50,~(1-12):30-41,~(ETB0):43,~(13-22):20-29,~(23-32):45-54"),
-                    ([(40, 10), (16, 23)], "40-49,~16-38"), ([(20, 33)], "20-59")):
+                    ([(40, 10), (16, 23)], "40-49,~16-38"), ([(20, 33)], "20-29^30,31,~^32-52^"), ([(20, 33)], ",".join("%d" % k for k in range(20, 53)))):
     row("recover a --extents " + said + " --dry-run", 0, LINE, files=within(FULL, parts))
     row("recover a --extents " + said + " --dry-run --list", 0, LINE + "home 5\n", files=within(FULL, parts))
     row("recover a --extents " + said, 0, LINE, files=within(FULL, parts), after=within(RECOVERED, parts))
@@ -104,8 +104,49 @@ HERE = within(FULL, [(20, 33)])
 row("recover a --extents (0-9):20-29,~(10-32):29-51", 1, err="jb: Extents Overlap 29\n", files=HERE)
 row("recover a --extents (0-39):20-59,~(40):60", 1, err="jb: Extents PastEnd 60\n", files=HERE)
 row("recover a --extents (0-31):20-51", 1, err="jb: Extents Short 32\n", files=HERE)
-row("recover a --extents (0-32):21-53", 1, err="jb: Super NotVersion2 5\n", files=HERE)
+row("recover a --extents 20-59", 1, err="jb: Extents Long 40\n", files=HERE)
+row("recover a --extents 20-53", 1, err="jb: Extents Long 34\n", files=HERE)
+row("cat a 9 --extents 20-53", 1, err="jb: Extents Long 34\n", files=HERE)
+row("recover a --extents (0-32):21-53", 1, err="jb: Extents NoJournal\n", files=HERE)
 row("recover a --extents (0-32):90-122", 1, err="jb: Extents NoJournal\n", files=HERE)
+row("recover a --extents ''", 1, err="jb: Extents NoJournal\n", files=HERE)
+row("recover a --extents 20-52", 1, err="jb: Super NotVersion2 3\n", files=within(image(superblock(2, 1, kind=3), ONE), [(20, 33)]))
+row("recover a --extents 20-51,~1", 1, err="jb: Extents Front 1\n", files=within(FULL, [(20, 32), (1, 1)]))
+# a home block that is asked for and is the journal's own
+for words, home in (("cat a 30", 30), ("cat a 18 -n 9", 20), ("cat a 52 -n 0", 52), ("cat a 25 -n 18446744073709551615", 25)):
+    row(words + " --extents 20-52", 1, err="jb: Extents Home %d\n" % home, files=HERE)
+row("cat a 19 --extents 20-52", 0, ZEROS, files=HERE)
+# the list in a file and from standard input
+LISTED = {**HERE, "list": b"\t(0-9):20-29,\r\n(10-32):30-52\v\f\n"}
+for words, given in (("@list", b"20-29"), ("-", LISTED["list"])):
+    row("recover a --dry-run --extents " + words, 0, LINE, files=LISTED, stdin=given)
+    row("cat a 9 --extents " + words, 0, NINE, files=LISTED, stdin=given)
+row("recover a --extents @other", 2, err="jb: cannot read other\n", files=HERE, beside=MISSING)
+row("recover a --extents @list", 2, err="jb: too long list\n", files={**HERE, "list": b" " * 16777217})
+row("recover a --extents @list", 2, err="jb: bad option\n", files={**HERE, "list": b"(0-9):20-29; (10-32):30-52"}, beside="--extents")
+# a log that is not clean, where there is no file system of ext2, ext3 or ext4: it holds nothing, or breaks off
+STRAY = data(b"no block of a journal")
+
+
+def is_told(text):
+    """Whether a recovery is told."""
+    return text.startswith("transactions ")
+
+
+BEGUN = descriptor(3, [(5, LAST_TAG)])
+for log, err in (([], "Nothing"), ([STRAY], "Nothing"), ([commit(9)], "Nothing"), (ONE[:2], "Nothing"), ([*ONE, revoke(3, [7]), STRAY], "Broken 6"),
+                 ([*ONE, BEGUN, STRAY], "Broken 7"), ([*ONE, BEGUN, STRAY, commit(9)], ""), ([*ONE, revoke(3, [7]), commit(9)], ""), ([*ONE, STRAY], ""),
+                 (ONE, "")):
+    before = image(superblock(2, 1), log)
+    for words in "", " --dry-run":
+        if err:
+            row("recover a --extents 20-52" + words, 1, err="jb: Extents %s\n" % err, files=within(before, [(20, 33)]))
+    if err:
+        row("recover a --force --extents 20-52 --dry-run", 0, is_told, files=within(before, [(20, 33)]))
+    else:
+        row("recover a --extents 20-52 --dry-run", 0, is_told, files=within(before, [(20, 33)]))
+    # a file system of ext3 says that the journal is its own
+    row("recover a --extents 20-52 --dry-run", 0, is_told, files=within(over(before, system()), [(20, 33)]))
 row("cat a 9 --extents (0-31):20-51", 1, err="jb: Extents Short 32\n", files=HERE)
 row("recover a --extents (0-32):16-48", 1, err="jb: Extents Home 16\n", files=within(image(superblock(2, 1), OUT_OF_RANGE), [(16, 33)]))
 row("recover a --extents (0-32):16-48 --dry-run", 1, err="jb: Extents Home 16\n", files=within(image(superblock(2, 1), OUT_OF_RANGE), [(16, 33)]))
@@ -130,6 +171,11 @@ for home, err in ((system(), ""), (system(log=2), "BlockSize 4096"), (system(log
     before, after = over(FULL, home), over(RECOVERED, home)
     for words, lay in (("recover a --journal j", parted), ("recover a --extents 20-52", lambda content: within(content, [(20, 33)]))):
         of = " a" * (lay == parted)
+        # in blocks of the size that the file system says, the journal begins elsewhere
+        if err == "BlockSize 4096" and lay != parted:
+            for more in "", " --dry-run", " --force":
+                row(words + more, 1, err="jb: Extents NoJournal\n", files=lay(before))
+            continue
         if err:
             row(words, 1, err="jb: FileSystem %s%s\n" % (err, of), files=lay(before))
             row(words + " --dry-run", 1, err="jb: FileSystem %s%s\n" % (err, of), files=lay(before))

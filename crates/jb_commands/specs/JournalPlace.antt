@@ -1,5 +1,5 @@
 -- An image with its journal at its front, in a file of its own or within it: how it is opened, read and recovered.
-use Rattle.std.specs.Prelude.{◌≡◌, ◌⊎◌, ◌<◌, ◌≤◌, ℕ, Bool, true, false, ⊤, List, Option, Some, None, Result, Ok, Err}
+use Rattle.std.specs.Prelude.{◌≡◌, ◌⊎◌, ◌<◌, ◌/◌, ℕ, Bool, true, false, List, Option, Some, None, Result, Ok, Err}
 use Rattle.jb_args.specs.declared.option_name.OptionName.{OptionName}
 use Rattle.jb_args.specs.declared.option_name.OptionName.TheVariants as option
 use Rattle.jb_disk.specs.File.{IsMeasured, count_of}
@@ -7,27 +7,31 @@ use Rattle.jb_disk.specs.declared.disk.Disk.{Ghosts as Disks}
 use Rattle.jb_disk.specs.declared.file.FileDisk.{FileDisk}
 use Rattle.jb_disk.specs.declared.start.Start.{Ghosts as Starts}
 use Rattle.jb_image.specs.Disks.{extents_of, journal_blocks, whole_disk}
-use Rattle.jb_image.specs.Lists.{extents_count, extents_in, list_of, past_in, shared_in}
+use Rattle.jb_image.specs.Lists.{AreDisjoint, SharesFirst, extents_count, extents_in, holds_in, list_of, past_in, place_within}
 use Rattle.jb_map.specs.declared.extent.Extent.{Extent}
 use Rattle.jb_image.specs.declared.extents_fault.ExtentsFault.{ExtentsFault}
-use Rattle.jb_image.specs.declared.extents_fault.ExtentsFault.TheVariants.{Home, NoJournal, Overlap, PastEnd, Short}
+use Rattle.jb_image.specs.declared.extents_fault.ExtentsFault.TheVariants.{BlockSizes, Front, Home, Long, NoJournal, Overlap, PastEnd, Short}
+use Rattle.jb_image.specs.declared.judging.FileSystemFault.{FileSystemFault}
 use Rattle.jb_format.specs.Front.{homes_in}
 use Rattle.jb_super.specs.Superblock.{Superblock}
 use Rattle.jb_args.specs.PlainCommand.{CatWords, RecoverWords}
 use Rattle.jb_image.specs.Files.{as_files}
-use Rattle.jb_image.specs.Images.{is_within}
+use Rattle.jb_image.specs.Images.{is_within, own_asked}
 use Rattle.jb_image.specs.declared.image.ImageDisk.{ImageDisk}
 use Rattle.jb_image.specs.declared.image.ImageDisk.TheVariants.{One, Two, Within}
 use Rattle.jb_recover.specs.declared.fault.RecoverFault.{RecoverFault}
 use Rattle.jb_recover.specs.declared.recovered.Foreseen.{Foreseen}
 use Rattle.jb_commands.specs.Cat.{ShowsOn}
 use Rattle.jb_commands.specs.Files.{IsImageOpened, IsShut, IsUnread, SaysSuper}
+use Rattle.jb_commands.specs.FoundWithin.{IsTried, IsFoundWithin, IsOtherSize}
 use Rattle.jb_commands.specs.Foresee.{Foretells, foreseen_end, own_checked}
 use Rattle.jb_commands.specs.Judge.{JudgesOn}
+use Rattle.jb_commands.specs.ListText.{HasNoList, IsListOf}
 use Rattle.jb_commands.specs.Recover.{RecoversOn}
 use Rattle.jb_commands.specs.Reports.{status_end}
 use Rattle.jb_commands.specs.declared.fault.CommandFault.{CommandFault}
-use Rattle.jb_commands.specs.declared.fault.CommandFault.TheVariants.{BadOption, Extents as InExtents}
+use Rattle.jb_commands.specs.declared.fault.CommandFault.TheVariants.{BadOption, Extents as InExtents, FileSystem as OtherSystem}
+use Rattle.jb_commands.specs.declared.files.shut.WithinFault.TheVariants.{Extents}
 use Rattle.jb_commands.specs.declared.report.Report.{Report}
 
 -- this option is bad
@@ -37,39 +41,52 @@ IsBadOption option _ = ⊥
 
 -- ---- a journal within its image
 
--- why these extents hold no journal
-abbrev pub IsNoPlace : List Extent → ExtentsFault → Type 0
-IsNoPlace es (Overlap block) = shared_in es ≡ Some block
-IsNoPlace es (PastEnd block) = (count : ℕ) × (past_in count es ≡ Some block)
-IsNoPlace es (Short blocks) = (blocks ≡ extents_count es) × ((sb : Superblock) × SaysSuper sb × (blocks < sb.maxlen))
-IsNoPlace es NoJournal = ⊤
-IsNoPlace es (Home home) = ⊥
+-- the block that has byte 1,024 of an image, where a file system of ext2, ext3 or ext4 has its superblock
+abbrev pub front_block : Superblock → ℕ
+front_block sb = 1024 / sb.block_size
 
--- the same of a journal with this superblock
+-- why these extents hold no journal with this superblock
 abbrev pub IsNoPlaceFor : List Extent → Superblock → ExtentsFault → Type 0
 IsNoPlaceFor es sb (PastEnd block) = (count : ℕ) × (past_in count es ≡ Some block)
 IsNoPlaceFor es sb (Short blocks) = (blocks ≡ extents_count es) × (blocks < sb.maxlen)
+IsNoPlaceFor es sb (Long blocks) = (blocks ≡ extents_count es) × (sb.maxlen < blocks)
+IsNoPlaceFor es sb (Front block) = (block ≡ front_block sb) × (holds_in es block ≡ true)
 IsNoPlaceFor es sb _ = ⊥
 
--- the image of this name was not opened, or the list is none of extents, or they hold no journal
+-- why these extents hold no journal
+abbrev pub IsNoPlace : List Extent → ExtentsFault → Type 0
+IsNoPlace es (Overlap block) = SharesFirst es (Some block)
+IsNoPlace es NoJournal = (place_within es 0 ≡ None) ⊎ IsTried (Err (Extents NoJournal))
+IsNoPlace es (BlockSizes one other) = IsTried (Err (Extents (BlockSizes one other)))
+IsNoPlace es fault = (sb : Superblock) × SaysSuper sb × IsNoPlaceFor es sb fault
+
+-- the image of this name was not opened, or the list is none of extents, or they hold no journal; or the file system's blocks have a
+-- size that a journal's cannot have
 abbrev pub IsShutWithin : List ℕ → List ℕ → CommandFault → Type 0
 IsShutWithin name list fault =
     IsUnread name fault
     ⊎ ((IsBadOption option.Extents fault × (extents_in list ≡ None))
-    ⊎ ((es : List Extent) × (extents_in list ≡ Some es) × (x : ExtentsFault) × (fault ≡ InExtents x) × IsNoPlace es x))
+    ⊎ (((x : FileSystemFault) × (fault ≡ OtherSystem x) × IsOtherSize x)
+    ⊎ ((es : List Extent) × (extents_in list ≡ Some es) × (x : ExtentsFault) × (fault ≡ InExtents x) × IsNoPlace es x)))
 
 -- the image is the file of which these extents hold a journal with this superblock: they share no block, none is past the file's end,
--- and they have as many blocks as the journal
+-- they have as many blocks as the journal, and not that of a file system's superblock
 pub record IsHeldWithin (es : List Extent) (sb : Superblock) (count : ℕ) : Type 0 where
-  pub apart : shared_in es ≡ None
+  pub apart : AreDisjoint es
   pub inside : past_in count es ≡ None
-  pub enough : sb.maxlen ≤ extents_count es
+  pub exact : extents_count es ≡ sb.maxlen
+  pub behind : holds_in es (front_block sb) ≡ false
+
+-- the list that a word says was not read, or the image was not opened with it
+abbrev pub IsShutListed : List ℕ → Option (List ℕ) → List ℕ → CommandFault → Type 0
+IsShutListed name input word fault =
+    HasNoList input word fault ⊎ ((list : List ℕ) × IsListOf input word list × IsShutWithin name list fault)
 
 -- it was not opened: both places were named, or see those of the one
-abbrev pub IsShutAt : List ℕ → Option (List ℕ) → Option (List ℕ) → CommandFault → Type 0
-IsShutAt name journal None fault = IsShut name journal fault
-IsShutAt name None (Some list) fault = IsShutWithin name list fault
-IsShutAt name (Some journal) (Some list) fault = IsBadOption option.Extents fault
+abbrev pub IsShutAt : List ℕ → Option (List ℕ) → Option (List ℕ) → Option (List ℕ) → CommandFault → Type 0
+IsShutAt name input journal None fault = IsShut name journal fault
+IsShutAt name input None (Some word) fault = IsShutListed name input word fault
+IsShutAt name input (Some journal) (Some word) fault = IsBadOption option.Extents fault
 
 module _ {S T : Type 0} {start : Starts S} {other : Starts T} where
   -- the same of the disk that is used, which was asked its length and nothing else
@@ -82,21 +99,37 @@ module _ {S T : Type 0} {start : Starts S} {other : Starts T} where
   -- the list was read, and the journal is there, in blocks of the size that its superblock says
   abbrev pub IsOpenedWithin : List ℕ → ImageDisk (FileDisk S start) (FileDisk T other) → ℕ → Type 0
   IsOpenedWithin list disk homes =
-      (es : List Extent) × (extents_in list ≡ Some es) × (sb : Superblock) × SaysSuper sb × (as_files.size disk ≡ sb.block_size) × (homes ≡ homes_in sb (as_files.count disk)) × IsJournalWithin es sb disk
+      (es : List Extent) × (extents_in list ≡ Some es) × (sb : Superblock) × IsFoundWithin sb × (as_files.size disk ≡ sb.block_size) × (homes ≡ homes_in sb (as_files.count disk)) × IsJournalWithin es sb disk
+
+  -- the same of the list that a word says
+  abbrev pub IsOpenedListed : Option (List ℕ) → List ℕ → ImageDisk (FileDisk S start) (FileDisk T other) → ℕ → Type 0
+  IsOpenedListed input word disk homes = (list : List ℕ) × IsListOf input word list × IsOpenedWithin list disk homes
 
   -- it is open, wherever its journal is
-  abbrev pub IsOpenedAt : Option (List ℕ) → Option (List ℕ) → ImageDisk (FileDisk S start) (FileDisk T other) → ℕ → Type 0
-  IsOpenedAt journal None disk homes = IsImageOpened journal disk homes
-  IsOpenedAt None (Some list) disk homes = IsOpenedWithin list disk homes
-  IsOpenedAt (Some journal) (Some list) disk homes = ⊥
+  abbrev pub IsOpenedAt : Option (List ℕ) → Option (List ℕ) → Option (List ℕ) → ImageDisk (FileDisk S start) (FileDisk T other) → ℕ → Type 0
+  IsOpenedAt input journal None disk homes = IsImageOpened journal disk homes
+  IsOpenedAt input None (Some word) disk homes = IsOpenedListed input word disk homes
+  IsOpenedAt input (Some journal) (Some word) disk homes = ⊥
 
+module _ {D E : Type 0} (G : Disks (ImageDisk D E)) where
+  -- home blocks were written as their peeks gave them, unless this one that was asked for is the journal's own: then nothing was done
+  abbrev pub ShowsUnless : Option ℕ → ℕ → CatWords → ImageDisk D E → ImageDisk D E → Option (List ℕ) → Option (List ℕ) → Result Report CommandFault → Type 0
+  ShowsUnless None homes words old new out_old out_new end =
+      (told : Result ℕ CommandFault) × ShowsOn G (Some homes) words.home words.count words.hex old new out_old out_new told × (end ≡ status_end told)
+  ShowsUnless (Some home) homes words old new out_old out_new end = (new ≡ old) × (out_new ≡ out_old) × (end ≡ Err (InExtents (Home home)))
+
+  -- the same, where one that is asked for may be the journal's own
+  abbrev pub ShowsAsked : ℕ → CatWords → ImageDisk D E → ImageDisk D E → Option (List ℕ) → Option (List ℕ) → Result Report CommandFault → Type 0
+  ShowsAsked homes words old new out_old out_new end = ShowsUnless (own_asked old words.home words.count) homes words old new out_old out_new end
+
+module _ {S T : Type 0} {start : Starts S} {other : Starts T} where
   -- the image was not opened, and nothing was done; or home blocks of it were written as their peeks gave them, in blocks of the size that
   -- its first bytes say, as many as asked for from one on, since it was opened; the first is peeked at where none is asked for
-  abbrev pub EndsOfCat : List ℕ → CatWords → Option (List ℕ) → Option (List ℕ) → Option (ImageDisk (FileDisk S start) (FileDisk T other)) → Result Report CommandFault → Type 0
-  EndsOfCat name words out_old out_new None end = (fault : CommandFault) × (end ≡ Err fault) × IsShutAt name words.journal words.extents fault × (out_new ≡ out_old)
-  EndsOfCat name words out_old out_new (Some new) end =
-      (old : ImageDisk (FileDisk S start) (FileDisk T other)) × (homes : ℕ) × IsOpenedAt words.journal words.extents old homes
-      × ((told : Result ℕ CommandFault) × ShowsOn as_files (Some homes) words.home words.count words.hex old new out_old out_new told × (end ≡ status_end told))
+  abbrev pub EndsOfCat : List ℕ → CatWords → Option (List ℕ) → Option (List ℕ) → Option (List ℕ) → Option (ImageDisk (FileDisk S start) (FileDisk T other)) → Result Report CommandFault → Type 0
+  EndsOfCat name words input out_old out_new None end = (fault : CommandFault) × (end ≡ Err fault) × IsShutAt name input words.journal words.extents fault × (out_new ≡ out_old)
+  EndsOfCat name words input out_old out_new (Some new) end =
+      (old : ImageDisk (FileDisk S start) (FileDisk T other)) × (homes : ℕ) × IsOpenedAt input words.journal words.extents old homes
+      × ShowsAsked as_files homes words old new out_old out_new end
 
 -- ---- a recovery
 
@@ -152,15 +185,15 @@ module _ {D E : Type 0} (G : Disks (ImageDisk D E)) where
       (mid : ImageDisk D E) × (judged : Result Unit CommandFault) × JudgesBeside G (is_beside words.journal words.extents) (is_apart words.journal) words.force old mid judged × RecoversJudged words homes judged mid new end
 
 -- the words do not go together, or the image was not opened
-abbrev pub IsNotOpenedToRecover : List ℕ → RecoverWords → CommandFault → Type 0
-IsNotOpenedToRecover name words fault =
-    (IsBadOption option.List fault × (words.list ≡ true) × (words.dry_run ≡ false)) ⊎ IsShutAt name words.journal words.extents fault
+abbrev pub IsNotOpenedToRecover : List ℕ → RecoverWords → Option (List ℕ) → CommandFault → Type 0
+IsNotOpenedToRecover name words input fault =
+    (IsBadOption option.List fault × (words.list ≡ true) × (words.dry_run ≡ false)) ⊎ IsShutAt name input words.journal words.extents fault
 
 module _ {S T : Type 0} {start : Starts S} {other : Starts T} where
   -- the image was not opened, and nothing was done; or what was asked for was done since it was opened. If its files are honest, all that
   -- a recovery says of contents holds of them
-  abbrev pub EndsOfRecover : List ℕ → RecoverWords → Option (ImageDisk (FileDisk S start) (FileDisk T other)) → Result Report CommandFault → Type 0
-  EndsOfRecover name words None end = (fault : CommandFault) × (end ≡ Err fault) × IsNotOpenedToRecover name words fault
-  EndsOfRecover name words (Some new) end =
-      (old : ImageDisk (FileDisk S start) (FileDisk T other)) × (homes : ℕ) × IsOpenedAt words.journal words.extents old homes
+  abbrev pub EndsOfRecover : List ℕ → RecoverWords → Option (List ℕ) → Option (ImageDisk (FileDisk S start) (FileDisk T other)) → Result Report CommandFault → Type 0
+  EndsOfRecover name words input None end = (fault : CommandFault) × (end ≡ Err fault) × IsNotOpenedToRecover name words input fault
+  EndsOfRecover name words input (Some new) end =
+      (old : ImageDisk (FileDisk S start) (FileDisk T other)) × (homes : ℕ) × IsOpenedAt input words.journal words.extents old homes
       × RecoversOpened as_files words homes old new end

@@ -10,10 +10,12 @@ pub mod Faults
 pub mod Files
 pub mod Foresee
 pub mod Format
+pub mod FoundWithin
 pub mod JournalPlace
 pub mod Judge
 pub mod Limits
 pub mod Lines
+pub mod ListText
 pub mod OpenRefusals
 pub mod Options
 pub mod Outputs

@@ -14,13 +14,14 @@ use Rattle.jb_image.specs.declared.image.ImageDisk.{ImageDisk}
 use Rattle.jb_super.specs.Faults.{super_in}
 use Rattle.jb_super.specs.Superblock.{Superblock}
 use Rattle.jb_commands.specs.Files.{SaysSuper}
+use Rattle.jb_commands.specs.FoundWithin.{IsFoundWithin, IsOfSizes, IsOtherSize, IsTried}
 use Rattle.jb_commands.specs.JournalPlace.{IsHeldWithin, IsJournalWithin, IsNoPlace}
 use Rattle.jb_commands.specs.declared.files.shut.FileFault.{FileFault}
 use Rattle.jb_commands.specs.declared.files.shut.FileFault.TheVariants.{Super}
 use Rattle.jb_commands.specs.declared.files.shut.PairFault.{PairFault}
 use Rattle.jb_commands.specs.declared.files.shut.PairFault.TheVariants.{Homes, Journal, Long, SameFile, Short}
 use Rattle.jb_commands.specs.declared.files.shut.WithinFault.{WithinFault}
-use Rattle.jb_commands.specs.declared.files.shut.WithinFault.TheVariants.{Extents, File, List as NoList}
+use Rattle.jb_commands.specs.declared.files.shut.WithinFault.TheVariants.{Extents, File, List as NoList, System}
 
 -- a file was not read, or another program has locked it, or some bytes of it are refused as a superblock
 abbrev pub IsFileShut : FileFault → Type 0
@@ -35,22 +36,38 @@ IsPairShut Short = (sb : Superblock) × (blocks : ℕ) × SaysSuper sb × (block
 IsPairShut (Long blocks maxlen) = (maxlen < blocks) × ((sb : Superblock) × SaysSuper sb × (maxlen ≡ sb.maxlen))
 IsPairShut (Homes fault) = IsFileShut fault
 
+-- a file was not opened, or no superblock of it is taken
+abbrev pub IsFoundShut : WithinFault → Type 0
+IsFoundShut NoList = ⊥
+IsFoundShut (File fault) = IsFileShut fault
+IsFoundShut (System fault) = IsOtherSize fault
+IsFoundShut (Extents fault) = IsOfSizes fault × IsTried (Err (Extents fault))
+
 -- a file was not opened, or these extents hold no journal in it
 abbrev pub IsSpreadShut : List Extent → WithinFault → Type 0
 IsSpreadShut es NoList = ⊥
 IsSpreadShut es (File fault) = IsFileShut fault
+IsSpreadShut es (System fault) = IsOtherSize fault
 IsSpreadShut es (Extents x) = IsNoPlace es x
 
 -- a file was not opened, or the list is none of extents, or they hold no journal in it
 abbrev pub IsListShut : List ℕ → WithinFault → Type 0
 IsListShut list NoList = extents_in list ≡ None
 IsListShut list (File fault) = IsFileShut fault
+IsListShut list (System fault) = IsOtherSize fault
 IsListShut list (Extents x) = (es : List Extent) × (extents_in list ≡ Some es) × IsNoPlace es x
 
 module _ {S : Type 0} {start : Starts S} where
   -- a file of blocks of the size that a superblock says, which some bytes are; it was asked its length and nothing else
   pub record IsFront (disk : FileDisk S start) (sb : Superblock) : Type 0 where
     pub says : SaysSuper sb
+    pub size : bytes_of (size_of_blocks disk) ≡ sb.block_size
+    pub measured : IsMeasured disk
+
+module _ {S : Type 0} {start : Starts S} where
+  -- the same, where the superblock was looked for at a block
+  pub record IsFrontWithin (disk : FileDisk S start) (sb : Superblock) : Type 0 where
+    pub found : IsFoundWithin sb
     pub size : bytes_of (size_of_blocks disk) ≡ sb.block_size
     pub measured : IsMeasured disk
 
@@ -65,4 +82,4 @@ module _ {S T : Type 0} {start : Starts S} {other : Starts T} where
   -- these extents
   abbrev pub IsOpenedOver : List Extent → ImageDisk (FileDisk S start) (FileDisk T other) → ℕ → Type 0
   IsOpenedOver es disk homes =
-      (sb : Superblock) × SaysSuper sb × (as_files.size disk ≡ sb.block_size) × (homes ≡ homes_in sb (as_files.count disk)) × IsJournalWithin es sb disk
+      (sb : Superblock) × IsFoundWithin sb × (as_files.size disk ≡ sb.block_size) × (homes ≡ homes_in sb (as_files.count disk)) × IsJournalWithin es sb disk

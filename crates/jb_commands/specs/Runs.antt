@@ -21,6 +21,7 @@ use Rattle.jb_commands.specs.AnswerSaid.{Said}
 use Rattle.jb_commands.specs.Outputs.{Outputs, Tells}
 use Rattle.jb_commands.specs.Ends.{of_fault}
 use Rattle.jb_commands.specs.Reports.{TellsEnd, said_end, status_end}
+use Rattle.jb_commands.specs.ListText.{reads_list}
 use Rattle.jb_commands.specs.Faults.{line_of}
 use Rattle.jb_commands.specs.Lines.{Names, names_of}
 use Rattle.jb_commands.specs.Texts.{HasNoText, HasNoTextWithin, IsText, IsTextWithin, known_behind}
@@ -54,11 +55,13 @@ Closes names (Ok told) old new ended = (ended ≡ told) × (new ≡ old)
 Closes names (Err fault) old new ended =
     (ended ≡ of_fault fault) × (new.out ≡ old.out) × PutsPart old.err new.err (line_of names fault)
 
--- whether a command reads standard input: as the text or journal after `-`, and for nothing else
+-- whether a command reads standard input: as the text, journal or list of extents after `-`, and for nothing else
 abbrev pub reads_input : Asked → Bool
 reads_input (AsksCost file) = bytes_eq file (codes "-")
 reads_input (AsksPlan file) = bytes_eq file (codes "-")
 reads_input (AsksDump file options) = bytes_eq file (codes "-")
+reads_input (AsksCat name words) = reads_list words.extents
+reads_input (AsksRecover name words) = reads_list words.extents
 reads_input _ = false
 
 module _ {S T : Type 0} {start : Starts S} {other : Starts T} where
@@ -78,8 +81,8 @@ module _ {S T : Type 0} {start : Starts S} {other : Starts T} where
   EndsAsked (AsksCheck file cert) input old new image end = SaidAll (EndsOfTwo CheckSays file cert old new) image end
   EndsAsked (AsksDump file options) input old new image end = DumpedAll (EndsOfDump (choice_of options) file input old.out new.out) image end × (new.err ≡ old.err)
   EndsAsked (AsksFormat name options) input old new image end = EndsOfFormat name options image end × (new ≡ old)
-  EndsAsked (AsksCat name words) input old new image end = EndsOfCat name words old.out new.out image end × (new.err ≡ old.err)
-  EndsAsked (AsksRecover name words) input old new image end = EndsOfRecover name words image end × (new ≡ old)
+  EndsAsked (AsksCat name words) input old new image end = EndsOfCat name words input old.out new.out image end × (new.err ≡ old.err)
+  EndsAsked (AsksRecover name words) input old new image end = EndsOfRecover name words input image end × (new ≡ old)
   EndsAsked (AsksRenumber name) input old new image end = EndsOfChange Renumbers IsRenumbering RenumbersAs ReportsRenumbered name image end × (new ≡ old)
   EndsAsked (AsksWiden name) input old new image end = EndsOfChange Widens IsWidened WidensAs ReportsWidened name image end × (new ≡ old)
 

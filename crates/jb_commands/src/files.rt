@@ -1,8 +1,10 @@
 //! The commands over files: each opens its files, and reads, makes or changes them.
 
 mod changes;
+mod found;
 mod homes;
 mod journals;
+mod listed;
 mod making;
 mod opening;
 mod placed;

@@ -52,8 +52,8 @@ pub fn perform<
             CommandEnd::status(dump_named(rt, file, choice_of(options), input, out))
         }
         Plain::Format { image, options } => format_file(rt, image, options),
-        Plain::Cat { image, options } => cat_file(rt, image, options, out),
-        Plain::Recover { image, options } => recover_file(rt, image, options),
+        Plain::Cat { image, options } => cat_file(rt, image, options, input, out),
+        Plain::Recover { image, options } => recover_file(rt, image, options, input),
         Plain::Renumber { image } => renumber_file(rt, image),
         Plain::Widen { image } => widen_file(rt, image),
     }

@@ -4,7 +4,7 @@ use crate::checks::By;
 use crate::pairs::look;
 use jb_block::BlockSize;
 use jb_disk::{Disk, Fault};
-use jb_image::{Extents, ExtentsDisk, ListFault};
+use jb_image::{Extent, Extents, ExtentsDisk, ListFault};
 use tests_support::{
     Bench, Must, Test, check, check_at, check_in, check_row, crashed, write_block, zeros,
 };
@@ -13,7 +13,7 @@ use tests_support::{
 type Said = Option<(&'static [(u64, Option<u64>)], u64)>;
 
 /// Lists, as debugfs prints them and otherwise.
-static LISTS: [(&str, Said); 13] = [
+static LISTS: [(&str, Said); 16] = [
     ("", Some((&[(0, None)], 0))),
     (
         "(0-32):20-52",
@@ -32,10 +32,19 @@ static LISTS: [(&str, Said); 13] = [
     ),
     ("(0-1):5-6,  (2):0 ,", Some((&[(2, Some(0))], 3))),
     (
+        "\t3\n4\r\n5,6\x0b7\x0c9\n",
+        Some((&[(0, Some(3)), (4, Some(7)), (5, Some(9)), (6, None)], 6)),
+    ),
+    (
+        "3 4 5 9 10 (5):11",
+        Some((&[(2, Some(5)), (3, Some(9)), (5, Some(11)), (6, None)], 6)),
+    ),
+    (
         "(0-1):5-6,(IND):7,3-4,9",
         Some((&[(1, Some(6)), (3, Some(4)), (4, Some(9))], 5)),
     ),
     ("(1):5", None),
+    ("3 4 (3):5", None),
     ("(0-1):5-7", None),
     ("(0-1):6-5", None),
     ("(0-1)5-6", None),
@@ -97,16 +106,36 @@ fn listed(test: &impl Bench, text: &str) -> Extents {
 /// Checks which blocks extents share, and which are past an image's end.
 fn check_shared(test: &impl Bench) {
     let apart = listed(test, "4-6, 0-1, 9");
-    check(test, apart.shared().is_none(), "none is shared");
+    check(test, lowest(test, &apart).is_none(), "none is shared");
     check(test, apart.past(10).is_none(), "none is past 10 blocks");
     let past = (apart.past(9), apart.past(6));
     check(test, past == (Some(9), Some(6)), "past 9 blocks and 6");
     check(test, apart.holds(6) && apart.holds(0), "6 and 0 are held");
     check(test, !apart.holds(7) && !apart.holds(2), "7 and 2 are not");
-    let shared = listed(test, "4-6, 0-1, 6-9").shared();
-    check(test, shared == Some(6), "6 is shared");
-    let shared = listed(test, "4-6, 0-4").shared();
-    check(test, shared == Some(4), "4 is shared")
+    for (text, block) in [
+        ("4-6, 0-1, 6-9", 6),
+        ("4-6, 0-4", 4),
+        ("8-9, 1-2, 9, 2", 2),
+        ("5, 0-9", 5),
+    ] {
+        let shared = lowest(test, &listed(test, text));
+        check_at(
+            test,
+            shared == Some(block),
+            "the lowest that is shared",
+            block,
+        )
+    }
+    let met = (
+        apart.meets(Extent { first: 2, last: 5 }),
+        apart.meets(Extent { first: 7, last: 8 }),
+    );
+    check(test, met == (Some(4), None), "the first of 2 to 5")
+}
+
+/// The lowest block that stands in two extents.
+fn lowest(test: &impl Bench, extents: &Extents) -> Option<u64> {
+    extents.shared(test.alloc()).must(test, "memory")
 }
 
 #[test]
@@ -140,6 +169,16 @@ fn check_calls(test: &impl Bench) {
     check_blocks(test, &mut disk);
     let own = (disk.first_own(&[2, 4, 8, 3]), disk.first_own(&[2, 4]));
     check(test, own == (Some(8), None), "the first of its own");
+    let own = (
+        disk.own_among(4, 9),
+        disk.own_among(3, 0),
+        disk.own_among(4, 4),
+    );
+    check(
+        test,
+        own == (Some(8), Some(3), None),
+        "one of its own in a row",
+    );
     // a crash leaves what was synced
     let mut image = crashed(test, &disk.into_inner(), &[]);
     for (block, byte) in [(8, 1), (9, 2), (3, 3), (0, 4), (11, 5), (1, 0)] {

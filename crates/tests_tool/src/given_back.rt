@@ -64,7 +64,8 @@ fn check_made(rt: &impl Host) {
     check_done(rt, made, ALL, "formatted limit 8\n", 0);
     check_done(rt, format_file(rt, NAME, NEW), None, "", 1);
     let line = "transactions 0 copies 0 revoked 0 next 2\n";
-    check_done(rt, recover_file(rt, NAME, RECOVER), ALL, line, 2)
+    let recovered = recover_file(rt, NAME, RECOVER, &mut b"".as_slice());
+    check_done(rt, recovered, ALL, line, 2)
 }
 
 /// Changes its journal.
@@ -85,7 +86,8 @@ fn check_again(rt: &impl Host) {
 /// Writes a home of the image of that name: checks how many blocks it has, if there is one, and what is written.
 fn check_cat(rt: &impl Host, blocks: Option<u64>, home: &[u8], at: usize) {
     let mut out = Vec::new(rt.alloc());
-    check_done(rt, cat_file(rt, NAME, CAT, &mut out), blocks, "", at);
+    let shown = cat_file(rt, NAME, CAT, &mut b"".as_slice(), &mut out);
+    check_done(rt, shown, blocks, "", at);
     check_at(rt, out.as_slice() == home, "the bytes of a home:", at)
 }
 
@@ -97,7 +99,8 @@ fn check_commands(rt: &impl Host) {
     check_cat(rt, ALL, &[0; 1024], 6);
     remove(rt, NAME);
     check_cat(rt, None, &[], 7);
-    check_done(rt, recover_file(rt, NAME, RECOVER), None, "", 8)
+    let recovered = recover_file(rt, NAME, RECOVER, &mut b"".as_slice());
+    check_done(rt, recovered, None, "", 8)
 }
 
 #[test]

@@ -11,7 +11,7 @@ use jb_super::SuperFault;
 use jb_tool::{CommandFault, LoadDone, LoadReport, Loaded, QueueHandleFault, Refused};
 
 /// Each fault of a command, with what the second line says beside the words of its row.
-static FAULTS: [(CommandFault<'static>, &str); 41] = [
+static FAULTS: [(CommandFault<'static>, &str); 46] = [
     (
         CommandFault::CannotRead("a", Some(2)),
         ": No such file or directory (os error 2)",
@@ -32,7 +32,8 @@ static FAULTS: [(CommandFault<'static>, &str); 41] = [
     ),
     (
         CommandFault::BadOption(OptionName::Extents),
-        ": --extents is a list as debugfs prints it, as (0-1023):8193-9216, (1024):9300; not with --journal",
+        ": --extents is a list as debugfs prints it, as (0-1023):8193-9216, (1024):9300, or - or @FILE \
+         for its text; not with --journal",
     ),
     (CommandFault::TooLong("a"), ""),
     (CommandFault::ReadFault, ""),
@@ -53,8 +54,16 @@ static FAULTS: [(CommandFault<'static>, &str); 41] = [
     (CommandFault::Extents(ExtentsFault::Overlap(9)), ""),
     (CommandFault::Extents(ExtentsFault::PastEnd(9)), ""),
     (CommandFault::Extents(ExtentsFault::Short(9)), ""),
+    (CommandFault::Extents(ExtentsFault::Long(9)), ""),
     (CommandFault::Extents(ExtentsFault::NoJournal), ""),
+    (
+        CommandFault::Extents(ExtentsFault::BlockSizes(1024, 4096)),
+        "",
+    ),
+    (CommandFault::Extents(ExtentsFault::Front(1)), ""),
     (CommandFault::Extents(ExtentsFault::Home(9)), ""),
+    (CommandFault::Extents(ExtentsFault::Nothing), ""),
+    (CommandFault::Extents(ExtentsFault::Broken(9)), ""),
     (CommandFault::BadRevoke(2), ""),
     (CommandFault::HomeOutOfRange(20, 2, Some(16)), ": 16"),
     (CommandFault::HomeOutOfRange(20, 2, None), ""),

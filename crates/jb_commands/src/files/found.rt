@@ -1,9 +1,8 @@
 //! The superblock of a journal within an image, at the first block of its extents.
-ghost use Rattle.std.specs.Prelude.{◌≡◌, IfErr, IfOk, Ok};
-ghost use Rattle.jb_ext.specs.System.{system_in};
-ghost use Rattle.jb_commands.specs.FoundWithin.{AreTries, IsFoundWithin, IsNotFound, IsReadOf, IsTry};
-ghost use Rattle.jb_commands.specs.FoundWithin.{chosen_of, try_of, try_refused};
-ghost use Rattle.jb_commands.specs.OpenRefusals.{IsFileShut};
+ghost use Rattle.std.specs.Prelude.{◌≡◌, Err, IfErr, IfOk, None, Some};
+ghost use Rattle.jb_commands.specs.Files.{SaysSuper};
+ghost use Rattle.jb_commands.specs.FoundWithin.{IsFoundWithin, IsNotFound, IsNotRead, IsReadOf, IsSaid, IsSaidSo};
+ghost use Rattle.jb_commands.specs.FoundWithin.{IsTry, super_chosen, of_sizes, try_of, try_refused, with_try};
 
 use crate::files::opening::front_of;
 use crate::files::shut::{FileFault, WithinFault};
@@ -41,7 +40,7 @@ pub(crate) fn super_within<R: Read + Seek>(
 
 /// The file system of ext2, ext3 or ext4 that a file has, if any.
 fn system_of<R: Read + Seek>(alloc: Global, file: &mut R) -> Result<Option<FileSystem>, FileFault>
-    ensures shut { IfErr result IsFileShut }
+    ensures shut { IfErr result IsNotRead }
     ensures read { IfOk result IsReadOf }
 {
     if file.seek(SeekFrom::Start(SYSTEM_AT)).is_err() {
@@ -65,11 +64,9 @@ fn super_of_system<R: Read + Seek>(
     ensures found { IfOk result IsFoundWithin }
 {
     match BlockSize::of(system.block_size) {
-        None => {
-            Err(WithinFault::System(FileSystemFault::BlockSize(system.block_size)))
-        }
+        None => { Err(WithinFault::System(FileSystemFault::BlockSize(system.block_size))) }
         Some(size) => match super_at(alloc, file, first, size) {
-            Ok(tried) => chosen(&[tried]),
+            Ok(tried) => chosen(with(Ok(None), tried)),
             Err(fault) => Err(WithinFault::File(fault)),
         },
     }
@@ -88,7 +85,7 @@ fn super_of_sizes<R: Read + Seek>(
     let one = super_at(alloc, file, first, BlockSize::OneKib)?;
     let two = super_at(alloc, file, first, BlockSize::TwoKib)?;
     let four = super_at(alloc, file, first, BlockSize::FourKib)?;
-    chosen(&[one, two, four])
+    chosen(with(with(with(Ok(None), one), two), four))
 }
 
 /// The superblock that a file has at this block of this size, where it says the same size; `None` where there is none.
@@ -98,8 +95,9 @@ fn super_at<R: Read + Seek>(
     first: u64,
     size: BlockSize,
 ) -> Result<Result<Option<Super>, SuperFault>, FileFault>
-    ensures shut { IfErr result IsFileShut }
+    ensures shut { IfErr result IsNotRead }
     ensures tried { IfOk result (IsTry size) }
+    ensures said { IfOk result IsSaid }
 {
     let Some(at) = first.checked_mul(u64::from(size.bytes())) else {
         return Ok(Ok(None));
@@ -116,7 +114,8 @@ fn super_at<R: Read + Seek>(
 /// The superblock that these bytes are, where it says this size of blocks; `None` where they are none of version 1 or
 /// 2, or say another size.
 fn super_of_size(front: &[u8], size: BlockSize) -> Result<Option<Super>, SuperFault>
-    ensures { result ≡ try_of size front.now }
+    ensures is { result ≡ try_of size front.now }
+    ensures said { IsSaid result }
 {
     match Super::read(front) {
         Ok(sb) if sb.block_size() == size => Ok(Some(sb)),
@@ -136,27 +135,45 @@ fn refused(fault: SuperFault) -> Result<Option<Super>, SuperFault>
     }
 }
 
-/// The superblock that was found in blocks of one of some sizes.
-fn chosen(tries: &[Result<Option<Super>, SuperFault>]) -> Result<Super, WithinFault>
-    ensures { result ≡ chosen_of tries.now }
+/// What blocks of some sizes are, after those before: the one superblock that was found, if one was; or why there is
+/// none, of two superblocks that, and else the first that was refused.
+fn with(
+    before: Result<Option<Super>, WithinFault>,
+    tried: Result<Option<Super>, SuperFault>,
+) -> Result<Option<Super>, WithinFault>
+    requires before { IsSaidSo before }
+    requires tried { IsSaid tried }
+    ensures is { result ≡ with_try before tried }
+    ensures said { IsSaidSo result }
 {
-    let mut found: Option<Super> = None;
-    let mut fault = WithinFault::Extents(ExtentsFault::NoJournal);
-    let mut refused = false;
-    for tried in tries {
-        match tried {
-            Ok(None) => {}
-            Ok(Some(sb)) => match found {
-                None => found = Some(*sb),
-                Some(first) => return Err(two_sizes(&first, sb)),
-            },
-            Err(why) => {
-                if !refused {
-                    fault = WithinFault::File(FileFault::Super(*why));
-                }
-                refused = true;
-            }
-        }
+    match (before, tried) {
+        (Ok(None), Ok(found)) => Ok(found),
+        (Ok(None), Err(fault)) => Err(WithinFault::File(FileFault::Super(fault))),
+        (Ok(Some(one)), Ok(Some(other))) => Err(two_sizes(one, other)),
+        (Ok(Some(one)), Ok(None) | Err(_)) => Ok(Some(one)),
+        (Err(WithinFault::File(_)), Ok(Some(found))) => Ok(Some(found)),
+        (Err(fault), _) => Err(fault),
     }
-    found.ok_or(fault)
+}
+
+/// Two superblocks, in blocks of two sizes.
+fn two_sizes(one: Super, other: Super) -> WithinFault
+    ensures { result ≡ of_sizes one other }
+{
+    let (one, other) = (one.block_size().bytes(), other.block_size().bytes());
+    WithinFault::Extents(ExtentsFault::BlockSizes(one, other))
+}
+
+/// The superblock that was found, or why there is none.
+fn chosen(found: Result<Option<Super>, WithinFault>) -> Result<Super, WithinFault>
+    requires { IsSaidSo found }
+    ensures is { result ≡ super_chosen found }
+    ensures says { IfOk result SaysSuper }
+    ensures refused { IfErr result (λ fault. IsSaidSo (Err fault)) }
+{
+    match found {
+        Ok(Some(sb)) => Ok(sb),
+        Ok(None) => Err(WithinFault::Extents(ExtentsFault::NoJournal)),
+        Err(fault) => Err(fault),
+    }
 }

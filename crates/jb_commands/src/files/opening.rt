@@ -4,6 +4,7 @@ ghost use Rattle.jb_disk.specs.File.{IsMeasured, count_of, size_of_blocks};
 ghost use Rattle.jb_format.specs.Front.{homes_in};
 ghost use Rattle.jb_image.specs.Pair.{back_disk, front_disk, joined_count, past_states};
 ghost use Rattle.jb_commands.specs.Files.{IsImageOpened, IsShut, SaysSuper};
+ghost use Rattle.jb_commands.specs.FoundWithin.{IsNotRead};
 ghost use Rattle.jb_commands.specs.OpenRefusals.{IsFileShut, IsFront, IsPairShut};
 
 use crate::fault::CommandFault;
@@ -270,7 +271,7 @@ pub(crate) fn open_image<R: Files<File = File> + AllocGlobal>(
 
 /// The first bytes of an image, as many as a superblock has or fewer.
 pub(crate) fn front_of<R: Read>(alloc: Global, image: &mut R) -> Result<Vec<u8>, FileFault>
-    ensures shut { IfErr result IsFileShut }
+    ensures shut { IfErr result IsNotRead }
     ensures front { IfOk result (λ front. IfSome (R.remaining image.old) (λ bytes. front.items ≡ take 1024 bytes)) }
 {
     match read_front(alloc, image, FRONT) {

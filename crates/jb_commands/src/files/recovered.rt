@@ -1,8 +1,9 @@
 //! Images that are recovered, or of which it is said what a recovery would do.
-ghost use Rattle.std.specs.Prelude.{◌≡◌, option_map};
+ghost use Rattle.std.specs.Prelude.{◌≡◌, false, option_map};
 ghost use Rattle.jb_image.specs.Files.{as_disks};
 ghost use Rattle.jb_args.specs.PlainCommand.{recover_said};
 ghost use Rattle.jb_commands.specs.Foresee.{foreseen_end as foreseen_so, own_checked};
+ghost use Rattle.jb_commands.specs.ListText.{reads_list};
 ghost use Rattle.jb_commands.specs.JournalPlace.{EndsOfRecover, is_apart as stands_apart, is_beside as stands_beside};
 ghost use Rattle.jb_commands.specs.JournalPlace.{JudgesBeside, RecoversImage, RecoversOpened};
 
@@ -18,20 +19,25 @@ use jb_image::{ExtentsFault, ImageDisk};
 use jb_recover::{Foreseen, RecoverFault, foresee};
 use std::alloc::Global;
 use std::fs::File;
+use std::io::Read;
 use std::rt::Files;
 
 /// Recovers the journal of the image of this name; with `--dry-run` only reports what a recovery would do. Where the
-/// journal is not at its front, the image may be a file system, which has to be the journal's own.
+/// journal is not at its front, the image may be a file system, which has to be the journal's own. A list of extents
+/// may be read from `input`.
 ///
 /// # Errors
 /// `CommandFault::BadOption` where `--list` is given without `--dry-run`; those of `open_placed` and of `judge_on`, and
 /// those of `recover_on`; `CommandFault::Extents` where a copy is for a home block that is one of the journal's own.
-pub fn recover_file<'a, S: Start, T: Start, R: Files<File = File> + AllocGlobal>(
+pub fn recover_file<'a, S: Start, T: Start, R: Files<File = File> + AllocGlobal, I: Read>(
     rt: &R,
     image: &'a str,
     options: RecoverOptions<'a>,
+    input: &mut I,
 ) -> CommandEnd<'a, S, T>
-    ensures ends { EndsOfRecover image.entry.now (recover_said options.entry) result.image result.end }
+    ensures ends { EndsOfRecover image.entry.now (recover_said options.entry) (I.remaining input.old) result.image
+        result.end }
+    ensures unread { reads_list (recover_said options.entry).extents ≡ false → input.new ≡ input.old }
 {
     if options.list && !options.dry_run {
         return CommandEnd {
@@ -40,7 +46,7 @@ pub fn recover_file<'a, S: Start, T: Start, R: Files<File = File> + AllocGlobal>
         };
     }
     let opening = opening_of(options.dry_run, options.force);
-    match open_placed(rt, image, options.journal, options.extents, opening) {
+    match open_placed(rt, image, options.journal, options.extents, opening, input) {
         Ok((mut disk, homes)) => {
             let end = recover_opened(rt.alloc(), &mut disk, homes, options);
             CommandEnd {

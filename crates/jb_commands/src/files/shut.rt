@@ -7,7 +7,7 @@ ghost use Rattle.jb_commands.specs.OpenRefusals.{IsFileShut, IsListShut, IsPairS
 
 use crate::fault::CommandFault;
 use jb_args::OptionName;
-use jb_image::ExtentsFault;
+use jb_image::{ExtentsFault, FileSystemFault};
 use jb_super::SuperFault;
 
 /// Why a file is not opened as an image, or has no journal at its front.
@@ -47,6 +47,8 @@ pub(crate) enum WithinFault {
     List,
     /// The image's file is not opened.
     File(FileFault),
+    /// The file system's blocks are none that a journal may have.
+    System(FileSystemFault),
     /// The extents do not hold the journal.
     Extents(ExtentsFault),
 }
@@ -128,6 +130,18 @@ fn fault_within<'a>(fault: WithinFault, name: &'a str) -> CommandFault<'a>
     match fault {
         WithinFault::List => CommandFault::BadOption(OptionName::Extents),
         WithinFault::File(fault) => fault_of(fault, name),
+        WithinFault::System(fault) => CommandFault::FileSystem(fault),
         WithinFault::Extents(fault) => CommandFault::Extents(fault),
+    }
+}
+
+impl From<FileFault> for WithinFault {
+    ghost use Rattle.std.specs.Prelude.{◌≡◌};
+    ghost use Rattle.jb_commands.specs.declared.files.shut.WithinFault.TheVariants.{File};
+
+    ghost from_gives = { λ fault stop. stop ≡ File fault };
+
+    fn from(fault: FileFault) -> WithinFault {
+        WithinFault::File(fault)
     }
 }

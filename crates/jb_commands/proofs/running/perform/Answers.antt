@@ -46,10 +46,10 @@ pub returns-in-Format-clause-unread : goal.returns-in-Format-clause-unread
 returns-in-Format-clause-unread g c = λ _. refl
 
 pub returns-in-Cat-clause-unread : goal.returns-in-Cat-clause-unread
-returns-in-Cat-clause-unread g c = λ _. refl
+returns-in-Cat-clause-unread g c = rw c.in-Cat.is c.cat_file.ensures.unread
 
 pub returns-in-Recover-clause-unread : goal.returns-in-Recover-clause-unread
-returns-in-Recover-clause-unread g c = λ _. refl
+returns-in-Recover-clause-unread g c = rw c.in-Recover.is c.recover_file.ensures.unread
 
 pub returns-in-Renumber-clause-unread : goal.returns-in-Renumber-clause-unread
 returns-in-Renumber-clause-unread g c = λ _. refl
