@@ -58,6 +58,8 @@ pub enum Hint {
     FileSystemClean,
     /// A file system was mounted after the latest commit of a copy of its journal.
     FileSystemNewer,
+    /// A file system needs recovery, and a copy of its journal does not.
+    FileSystemUnrecovered,
     /// A block is in two extents.
     ExtentsOverlap,
     /// An extent is not in the image.

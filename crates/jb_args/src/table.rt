@@ -59,12 +59,16 @@ macro_rules! diagnostics {
                     "the journal is that of another file system, or tune2fs -U has changed the UUID since: recover \
                      --force writes to it then; it is as it was";
                 FileSystemClean, "FileSystem Clean", "",
-                    "the file system needs no recovery (needs_recovery is clear), so the journal is an old copy; it is \
-                     as it was; recover --force writes to it all the same";
+                    "the file system needs no recovery (needs_recovery is clear), so the journal is an old copy, or the \
+                     kernel would not read what is loaded into it; it is as it was; recover --force writes to it all \
+                     the same";
                 FileSystemNewer, "FileSystem Newer", "",
                     "the file system was mounted after the last commit of the journal, so that is an old copy: copy \
                      it out again; it is as it was; recover --force writes to it all the same, as where a clock was \
                      set back";
+                FileSystemUnrecovered, "FileSystem Unrecovered", "",
+                    "the file system's own journal is to be recovered first, which would undo what is loaded: run \
+                     e2fsck on it, and copy its journal out again; it is as it was";
                 ExtentsOverlap, "Extents Overlap ", "#",
                     "this block is in two of the extents: give the list as debugfs -R 'stat <8>' prints it";
                 ExtentsPastEnd, "Extents PastEnd ", "#",

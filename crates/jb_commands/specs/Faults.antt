@@ -63,6 +63,7 @@ system_line name (system.BlockSize size) = line_naming (codes "jb: FileSystem Bl
 system_line name system.Uuid = line_naming (codes "jb: FileSystem Uuid" ∷ []) name
 system_line name system.Clean = line_naming (codes "jb: FileSystem Clean" ∷ []) name
 system_line name system.Newer = line_naming (codes "jb: FileSystem Newer" ∷ []) name
+system_line name system.Unrecovered = line_naming (codes "jb: FileSystem Unrecovered" ∷ []) name
 
 -- the line of extents that do not hold the journal: the fault's name, and a block or how many they have
 abbrev pub extents_line : ExtentsFault → List ℕ
@@ -114,6 +115,7 @@ system_hint (system.BlockSize size) = hint.FileSystemBlockSize
 system_hint system.Uuid = hint.FileSystemUuid
 system_hint system.Clean = hint.FileSystemClean
 system_hint system.Newer = hint.FileSystemNewer
+system_hint system.Unrecovered = hint.FileSystemUnrecovered
 
 -- the same of extents that do not hold the journal
 abbrev pub extents_hint : ExtentsFault → Hint

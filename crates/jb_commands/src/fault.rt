@@ -238,6 +238,7 @@ fn system_hint(fault: FileSystemFault) -> Hint
         FileSystemFault::Uuid => Hint::FileSystemUuid,
         FileSystemFault::Clean => Hint::FileSystemClean,
         FileSystemFault::Newer => Hint::FileSystemNewer,
+        FileSystemFault::Unrecovered => Hint::FileSystemUnrecovered,
     }
 }
 

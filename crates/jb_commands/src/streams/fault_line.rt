@@ -107,6 +107,7 @@ fn words_of_system(fault: FileSystemFault) -> (&'static str, Numbers)
         FileSystemFault::Uuid => ("jb: FileSystem Uuid", Numbers::None),
         FileSystemFault::Clean => ("jb: FileSystem Clean", Numbers::None),
         FileSystemFault::Newer => ("jb: FileSystem Newer", Numbers::None),
+        FileSystemFault::Unrecovered => ("jb: FileSystem Unrecovered", Numbers::None),
     }
 }
 
