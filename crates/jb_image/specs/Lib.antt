@@ -3,7 +3,6 @@ pub mod Bound
 pub mod Create
 pub mod Disks
 pub mod ExtentImage
-pub mod Fields
 pub mod Files
 pub mod Images
 pub mod Judge
@@ -13,5 +12,4 @@ pub mod Lists
 pub mod Mounts
 pub mod Pair
 pub mod Past
-pub mod System
 pub mod Words
