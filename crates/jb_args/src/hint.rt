@@ -70,6 +70,16 @@ pub enum Hint {
     ExtentsNoJournal,
     /// A copy is for a home block that holds the journal.
     ExtentsHome,
+    /// The image is a journal, of a file system that is elsewhere.
+    OwnDevice,
+    /// A file system has features that are not known.
+    OwnFeature,
+    /// A file system has no journal.
+    OwnNone,
+    /// A file system's journal is on another device.
+    OwnExternal,
+    /// What a file system says of where its journal stands is damaged.
+    OwnDamaged,
     /// A journal may not have so many blocks.
     Geometry,
     /// A revoke block is damaged.

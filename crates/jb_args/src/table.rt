@@ -80,6 +80,16 @@ macro_rules! diagnostics {
                 ExtentsHome, "Extents Home ", "#",
                     "a copy is for this home block, which holds the journal itself: the extents are not the journal's, \
                      or it is damaged; the image is as it was";
+                OwnDevice, "Own Device", "",
+                    "the image is the journal of a file system that is elsewhere: run e2fsck on that one";
+                OwnFeature, "Own Feature ", "#",
+                    "the file system has features that jb does not know: run e2fsck, or mount it; it is as it was";
+                OwnNone, "Own None", "", "the file system has no journal, so there is nothing to recover";
+                OwnExternal, "Own External", "",
+                    "the journal is on another device: run e2fsck, or mount the file system; it is as it was";
+                OwnDamaged, "Own ", "WHY",
+                    "the file system does not say where its journal is, or it is damaged there: see the table of faults \
+                     in docs/TEXTS.md; it is as it was; e2fsck on a copy of it tells more, and may delete the journal";
                 Geometry, "Geometry", "", "--journal is 9 at least and 2147483647 at most";
                 BadRevoke, "BadRevoke ", "#", "this block of the journal is damaged; the image is as it was";
                 HomeOutOfRange, "HomeOutOfRange ", "# #",

@@ -17,6 +17,8 @@ pub mod Lines
 pub mod OpenRefusals
 pub mod Options
 pub mod Outputs
+pub mod OwnLines
+pub mod OwnPlace
 pub mod Plan
 pub mod QueueFaults
 pub mod Recover
