@@ -62,6 +62,8 @@ pub enum Hint {
     FileSystemClean,
     /// A file system was mounted after the latest commit of a copy of its journal.
     FileSystemNewer,
+    /// A file system needs recovery, and a copy of its journal does not.
+    FileSystemUnrecovered,
     /// A block is in two extents.
     ExtentsOverlap,
     /// An extent is not in the image.
@@ -82,6 +84,16 @@ pub enum Hint {
     ExtentsNothing,
     /// The log of a journal in extents ends inside a transaction, at a block that is none of a journal.
     ExtentsBroken,
+    /// The image is a journal, of a file system that is elsewhere.
+    OwnDevice,
+    /// A file system has features that are not known.
+    OwnFeature,
+    /// A file system has no journal.
+    OwnNone,
+    /// A file system's journal is on another device.
+    OwnExternal,
+    /// What a file system says of where its journal stands is damaged.
+    OwnDamaged,
     /// A journal may not have so many blocks.
     Geometry,
     /// A revoke block is damaged.

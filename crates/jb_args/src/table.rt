@@ -65,12 +65,16 @@ macro_rules! diagnostics {
                     "the journal is that of another file system, or tune2fs -U has changed the UUID since: recover \
                      --force writes to it then; it is as it was";
                 FileSystemClean, "FileSystem Clean", "",
-                    "the file system needs no recovery (needs_recovery is clear), so the journal is an old copy; it is \
-                     as it was; recover --force writes to it all the same";
+                    "the file system needs no recovery (needs_recovery is clear), so the journal is an old copy, or the \
+                     kernel would not read what is loaded into it; it is as it was; recover --force writes to it all \
+                     the same";
                 FileSystemNewer, "FileSystem Newer", "",
                     "the file system was mounted after the last commit of the journal, so that is an old copy: copy \
                      it out again; it is as it was; recover --force writes to it all the same, as where a clock was \
                      set back";
+                FileSystemUnrecovered, "FileSystem Unrecovered", "",
+                    "the file system's own journal is to be recovered first, which would undo what is loaded: run \
+                     e2fsck on it, and copy its journal out again; it is as it was";
                 ExtentsOverlap, "Extents Overlap ", "#",
                     "this block is in two of the extents: give the list as debugfs -R 'stat <8>' prints it";
                 ExtentsPastEnd, "Extents PastEnd ", "#",
@@ -99,6 +103,16 @@ macro_rules! diagnostics {
                     "the log ends at this block of the journal, inside a transaction, and the block is none of a \
                      journal: the extents are not the journal's, or a crash was in the midst of a commit; the image \
                      is as it was; recover --force recovers what is before it";
+                OwnDevice, "Own Device", "",
+                    "the image is the journal of a file system that is elsewhere: run e2fsck on that one";
+                OwnFeature, "Own Feature ", "#",
+                    "the file system has features that jb does not know: run e2fsck, or mount it; it is as it was";
+                OwnNone, "Own None", "", "the file system has no journal, so there is nothing to recover";
+                OwnExternal, "Own External", "",
+                    "the journal is on another device: run e2fsck, or mount the file system; it is as it was";
+                OwnDamaged, "Own ", "WHY",
+                    "the file system does not say where its journal is, or it is damaged there: see the table of faults \
+                     in docs/TEXTS.md; it is as it was; e2fsck on a copy of it tells more, and may delete the journal";
                 Geometry, "Geometry", "", "--journal is 9 at least and 2147483647 at most";
                 BadRevoke, "BadRevoke ", "#", "this block of the journal is damaged; the image is as it was";
                 HomeOutOfRange, "HomeOutOfRange ", "# #",

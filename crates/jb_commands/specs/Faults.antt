@@ -4,6 +4,8 @@ use Rattle.jb_args.specs.declared.hint.Hint.{Hint}
 use Rattle.jb_args.specs.declared.hint.Hint.TheVariants as hint
 use Rattle.jb_dump.specs.declared.fault.DumpFault.{DumpFault}
 use Rattle.jb_dump.specs.declared.fault.DumpFault.TheVariants as dumping
+use Rattle.jb_ext.specs.declared.fault.OwnFault.{OwnFault}
+use Rattle.jb_ext.specs.declared.fault.OwnFault.TheVariants as own
 use Rattle.jb_image.specs.declared.extents_fault.ExtentsFault.{ExtentsFault}
 use Rattle.jb_image.specs.declared.extents_fault.ExtentsFault.TheVariants as extents
 use Rattle.jb_image.specs.declared.judging.FileSystemFault.{FileSystemFault}
@@ -19,8 +21,10 @@ use Rattle.jb_recover.specs.declared.fault.RecoverFault.TheVariants as recoverin
 use Rattle.jb_super.specs.declared.fault.SuperFault.{SuperFault}
 use Rattle.jb_super.specs.declared.fault.SuperFault.TheVariants as super
 use Rattle.jb_commands.specs.Lines.{Names, image_named, journal_named, line_naming}
+use Rattle.jb_commands.specs.OwnLines.{own_line}
 use Rattle.jb_commands.specs.declared.fault.CommandFault.{CommandFault}
 use Rattle.jb_commands.specs.declared.fault.CommandFault.TheVariants.{CannotRead, InUse, MountsUnknown, NoLinks, SameFile, CannotMake, BadOption, TooLong, ReadFault, Super, JournalLength, FileSystem, Extents, BadRevoke, HomeOutOfRange, NoHome, NeedsRecovery, NumbersSpent, BlockSize, Accounts, Geometry, DeviceFault, Memory, WriteFault}
+use Rattle.jb_commands.specs.declared.fault.CommandFault.TheVariants.{CannotRead, InUse, SameFile, CannotMake, BadOption, TooLong, ReadFault, Super, JournalLength, FileSystem, Extents, Own, BadRevoke, HomeOutOfRange, NoHome, NeedsRecovery, NumbersSpent, BlockSize, Accounts, Geometry, DeviceFault, Memory, WriteFault}
 
 -- the exit status
 abbrev pub status_of : CommandFault → ℕ
@@ -37,6 +41,7 @@ status_of (Super fault) = 1
 status_of (JournalLength blocks maxlen) = 1
 status_of (FileSystem fault) = 1
 status_of (Extents fault) = 1
+status_of (Own fault) = 1
 status_of (BadRevoke place) = 1
 status_of (HomeOutOfRange home number homes) = 1
 status_of (NoHome home homes) = 1
@@ -65,6 +70,7 @@ system_line name (system.BlockSize size) = line_naming (codes "jb: FileSystem Bl
 system_line name system.Uuid = line_naming (codes "jb: FileSystem Uuid" ∷ []) name
 system_line name system.Clean = line_naming (codes "jb: FileSystem Clean" ∷ []) name
 system_line name system.Newer = line_naming (codes "jb: FileSystem Newer" ∷ []) name
+system_line name system.Unrecovered = line_naming (codes "jb: FileSystem Unrecovered" ∷ []) name
 
 -- the line of extents that do not hold the journal: the fault's name, and a block or how many they have
 abbrev pub extents_line : ExtentsFault → List ℕ
@@ -95,6 +101,7 @@ line_of names (JournalLength blocks maxlen) =
     line_naming (codes "jb: JournalLength " ∷ decimal blocks ∷ codes " " ∷ decimal maxlen ∷ []) (journal_named names)
 line_of names (FileSystem fault) = system_line (image_named names) fault
 line_of names (Extents fault) = extents_line fault
+line_of names (Own fault) = own_line fault
 line_of names (BadRevoke place) = line_naming (codes "jb: BadRevoke " ∷ decimal place ∷ []) (journal_named names)
 line_of names (HomeOutOfRange home number homes) =
     line_naming (codes "jb: HomeOutOfRange " ∷ decimal home ∷ codes " " ∷ decimal number ∷ []) (image_named names)
@@ -123,6 +130,7 @@ system_hint (system.BlockSize size) = hint.FileSystemBlockSize
 system_hint system.Uuid = hint.FileSystemUuid
 system_hint system.Clean = hint.FileSystemClean
 system_hint system.Newer = hint.FileSystemNewer
+system_hint system.Unrecovered = hint.FileSystemUnrecovered
 
 -- the same of extents that do not hold the journal
 abbrev pub extents_hint : ExtentsFault → Hint
@@ -136,6 +144,22 @@ extents_hint (extents.Front block) = hint.ExtentsFront
 extents_hint (extents.Home home) = hint.ExtentsHome
 extents_hint extents.Nothing = hint.ExtentsNothing
 extents_hint (extents.Broken place) = hint.ExtentsBroken
+
+-- the same of a file system's own journal that is not found
+abbrev pub own_hint : OwnFault → Hint
+own_hint own.NoSystem = hint.OwnDamaged
+own_hint own.Device = hint.OwnDevice
+own_hint (own.Feature bits) = hint.OwnFeature
+own_hint own.NoJournal = hint.OwnNone
+own_hint own.External = hint.OwnExternal
+own_hint (own.Field field number) = hint.OwnDamaged
+own_hint (own.Descriptor block) = hint.OwnDamaged
+own_hint (own.Table block) = hint.OwnDamaged
+own_hint (own.Inode fault) = hint.OwnDamaged
+own_hint (own.Map fault) = hint.OwnDamaged
+own_hint own.Differs = hint.OwnDamaged
+own_hint (own.NoSuper block) = hint.OwnDamaged
+own_hint own.Short = hint.OwnDamaged
 
 -- what a second line is about after the line of a fault
 abbrev pub hint_of : CommandFault → Hint
@@ -152,6 +176,7 @@ hint_of (Super fault) = super_hint fault
 hint_of (JournalLength blocks maxlen) = hint.JournalLength
 hint_of (FileSystem fault) = system_hint fault
 hint_of (Extents fault) = extents_hint fault
+hint_of (Own fault) = own_hint fault
 hint_of (BadRevoke place) = hint.BadRevoke
 hint_of (HomeOutOfRange home number homes) = hint.HomeOutOfRange homes
 hint_of (NoHome home homes) = hint.NoHome homes

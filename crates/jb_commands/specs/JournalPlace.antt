@@ -18,6 +18,8 @@ use Rattle.jb_args.specs.PlainCommand.{CatWords, RecoverWords}
 use Rattle.jb_image.specs.Files.{as_files}
 use Rattle.jb_image.specs.Images.{is_within, own_asked}
 use Rattle.jb_image.specs.declared.image.ImageDisk.{ImageDisk}
+use Rattle.jb_image.specs.declared.judging.JournalUse.{JournalUse}
+use Rattle.jb_image.specs.declared.judging.JournalUse.TheVariants.{RecoverCopy, RecoverInPlace}
 use Rattle.jb_image.specs.declared.image.ImageDisk.TheVariants.{One, Two, Within}
 use Rattle.jb_recover.specs.declared.fault.RecoverFault.{RecoverFault}
 use Rattle.jb_recover.specs.declared.recovered.Foreseen.{Foreseen}
@@ -134,20 +136,19 @@ module _ {S T : Type 0} {start : Starts S} {other : Starts T} where
 -- ---- a recovery
 
 -- the journal is elsewhere than at the front of the image
-abbrev pub is_beside : Option (List ℕ) → Option (List ℕ) → Bool
-is_beside None None = false
-is_beside None (Some list) = true
-is_beside (Some journal) extents = true
+abbrev pub is_beside : Option (List ℕ) → Bool → Bool
+is_beside None within = within
+is_beside (Some journal) within = true
 
--- the journal is in a file of its own: it was copied out of the image
-abbrev pub is_apart : Option (List ℕ) → Bool
-is_apart None = false
-is_apart (Some journal) = true
+-- what the journal is that is to be recovered: in a file of its own it was copied out of the image
+abbrev pub use_of : Option (List ℕ) → JournalUse
+use_of None = RecoverInPlace
+use_of (Some journal) = RecoverCopy
 
--- a journal that is beside its home blocks was judged by them, as a copy where it is one
-abbrev pub JudgesBeside : {D : Type 0} → Disks D → Bool → Bool → Bool → D → D → Result Unit CommandFault → Type 0
-JudgesBeside G true copied force old new judged = JudgesOn G copied force old new judged
-JudgesBeside G false copied force old new judged = (new ≡ old) × (judged ≡ Ok tt)
+-- a journal that is beside its home blocks was judged by them, by what it is to them
+abbrev pub JudgesBeside : {D : Type 0} → Disks D → Bool → JournalUse → Bool → D → D → Result Unit CommandFault → Type 0
+JudgesBeside G true used force old new judged = JudgesOn G used force old new judged
+JudgesBeside G false used force old new judged = (new ≡ old) × (judged ≡ Ok tt)
 
 module _ {D E : Type 0} (G : Disks (ImageDisk D E)) where
   -- it was foreseen what a recovery of an image would do, and that is the end, unless a copy is for a home block that is the journal's own
@@ -182,7 +183,7 @@ module _ {D E : Type 0} (G : Disks (ImageDisk D E)) where
   -- an image with so many home blocks was judged, where its journal is beside them, and then what was asked for was done
   abbrev pub RecoversOpened : RecoverWords → ℕ → ImageDisk D E → ImageDisk D E → Result Report CommandFault → Type 0
   RecoversOpened words homes old new end =
-      (mid : ImageDisk D E) × (judged : Result Unit CommandFault) × JudgesBeside G (is_beside words.journal words.extents) (is_apart words.journal) words.force old mid judged × RecoversJudged words homes judged mid new end
+      (mid : ImageDisk D E) × (judged : Result Unit CommandFault) × JudgesBeside G (is_beside words.journal (is_within old)) (use_of words.journal) words.force old mid judged × RecoversJudged words homes judged mid new end
 
 -- the words do not go together, or the image was not opened
 abbrev pub IsNotOpenedToRecover : List ℕ → RecoverWords → Option (List ℕ) → CommandFault → Type 0

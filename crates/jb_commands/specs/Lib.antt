@@ -19,6 +19,8 @@ pub mod ListText
 pub mod OpenRefusals
 pub mod Options
 pub mod Outputs
+pub mod OwnLines
+pub mod OwnPlace
 pub mod Plan
 pub mod QueueFaults
 pub mod Recover

@@ -1,9 +1,10 @@
 ghost use Rattle.std.specs.Prelude.{◌≡◌};
-ghost use Rattle.jb_commands.specs.Faults.{extents_hint as extents_hint_of, super_hint as super_hint_of};
+ghost use Rattle.jb_commands.specs.Faults.{extents_hint as extents_hint_of, own_hint as own_hint_of, super_hint as super_hint_of};
 ghost use Rattle.jb_commands.specs.Faults.{system_hint as system_hint_of};
 
 use jb_args::{Hint, OptionName};
 use jb_dump::DumpFault;
+use jb_ext::OwnFault;
 use jb_format::{ChangeFault, FormatFault};
 use jb_image::{ExtentsFault, FileSystemFault};
 use jb_recover::{PeekFault, RecoverFault};
@@ -43,6 +44,8 @@ pub enum CommandFault<'a> {
     FileSystem(FileSystemFault),
     /// The extents do not hold the journal.
     Extents(ExtentsFault),
+    /// The file system's own journal is not found.
+    Own(OwnFault),
     /// The block at this place of the journal, of a committed transaction, is a revoke block whose `r_count` is above
     /// the block size.
     BadRevoke(u64),
@@ -156,7 +159,7 @@ impl<'a> CommandFault<'a> {
             | CommandFault::NeedsRecovery
             | CommandFault::NumbersSpent => 1,
             CommandFault::JournalLength(_, _) => 1,
-            CommandFault::FileSystem(_) | CommandFault::Extents(_) => 1,
+            CommandFault::FileSystem(_) | CommandFault::Extents(_) | CommandFault::Own(_) => 1,
             CommandFault::BlockSize | CommandFault::Accounts | CommandFault::Geometry => 1,
             CommandFault::DeviceFault | CommandFault::Memory | CommandFault::WriteFault => 1,
         }
@@ -207,6 +210,7 @@ impl<'a> CommandFault<'a> {
             CommandFault::JournalLength(_, _) => Hint::JournalLength,
             CommandFault::FileSystem(fault) => system_hint(fault),
             CommandFault::Extents(fault) => extents_hint(fault),
+            CommandFault::Own(fault) => own_hint(fault),
             CommandFault::BadRevoke(_) => Hint::BadRevoke,
             CommandFault::HomeOutOfRange(_, _, homes) => Hint::HomeOutOfRange(homes),
             CommandFault::NoHome(_, homes) => Hint::NoHome(homes),
@@ -245,6 +249,7 @@ fn system_hint(fault: FileSystemFault) -> Hint
         FileSystemFault::Uuid => Hint::FileSystemUuid,
         FileSystemFault::Clean => Hint::FileSystemClean,
         FileSystemFault::Newer => Hint::FileSystemNewer,
+        FileSystemFault::Unrecovered => Hint::FileSystemUnrecovered,
     }
 }
 
@@ -263,5 +268,18 @@ fn extents_hint(fault: ExtentsFault) -> Hint
         ExtentsFault::Home(_) => Hint::ExtentsHome,
         ExtentsFault::Nothing => Hint::ExtentsNothing,
         ExtentsFault::Broken(_) => Hint::ExtentsBroken,
+    }
+}
+
+/// What a second line is about after the line of a file system's own journal that is not found.
+fn own_hint(fault: OwnFault) -> Hint
+    ensures { result ≡ own_hint_of fault }
+{
+    match fault {
+        OwnFault::Device => Hint::OwnDevice,
+        OwnFault::Feature(_) => Hint::OwnFeature,
+        OwnFault::NoJournal => Hint::OwnNone,
+        OwnFault::External => Hint::OwnExternal,
+        _ => Hint::OwnDamaged,
     }
 }

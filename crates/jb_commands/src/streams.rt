@@ -8,6 +8,7 @@ mod fault_line;
 mod foreseeing;
 mod formatting;
 mod judging;
+mod own_line;
 mod putting;
 mod reading;
 mod recovering;

@@ -32,7 +32,7 @@ pub use extents_fault::{ExtentsFault, ListFault};
 pub use fault::{ImageFault, MakeFault, SystemFault};
 pub use image::ImageDisk;
 pub use image_geometry::ImageGeometry;
-pub use judging::{FileSystemFault, judge};
+pub use judging::{FileSystemFault, JournalUse, judge};
 pub use jb_ext::{FRONT, FileSystem};
 pub use making::{create_holding, create_image};
 pub use opening::{Opening, open_file, open_holding, open_image};

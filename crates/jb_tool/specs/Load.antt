@@ -1,5 +1,5 @@
 -- How `jb load` ends over files.
-use Rattle.std.specs.Prelude.{◌≡◌, ◌⊎◌, ◌≤◌, ℕ, false, List, Option, None, Result, Ok, Err, Some}
+use Rattle.std.specs.Prelude.{◌≡◌, ◌⊎◌, ◌≤◌, ℕ, Bool, false, List, Option, None, Result, Ok, Err, Some}
 use Rattle.jb_args.specs.declared.hint.Hint.{Hint}
 use Rattle.jb_args.specs.declared.option_name.OptionName.TheVariants.{Threads}
 use Rattle.jb_commands.specs.QueueFaults.{queue_fault}
@@ -11,7 +11,10 @@ use Rattle.jb_disk.specs.declared.disk.Disk.{Ghosts as Disks}
 use Rattle.jb_disk.specs.declared.file.FileDisk.{FileDisk}
 use Rattle.jb_disk.specs.declared.start.Start.{Ghosts as Starts}
 use Rattle.jb_image.specs.Files.{FileImage, as_files}
+use Rattle.jb_image.specs.Images.{is_within}
 use Rattle.jb_image.specs.declared.image.ImageDisk.{ImageDisk}
+use Rattle.jb_image.specs.declared.judging.JournalUse.{JournalUse}
+use Rattle.jb_image.specs.declared.judging.JournalUse.TheVariants.{LoadCopy, LoadInPlace}
 use Rattle.jb_journal.specs.Start.{started_on}
 use Rattle.jb_text.specs.declared.putting.WriteFault.{WriteFault}
 use Rattle.jb_tool.specs.Loads.{AnswersLoad}
@@ -25,7 +28,7 @@ use Rattle.jb_queue.specs.declared.fault.QueueFault.{QueueFault}
 use Rattle.jb_args.specs.Command.{Loading}
 use Rattle.jb_commands.specs.Files.{IsImageOpened, IsShut}
 use Rattle.jb_commands.specs.Lines.{names_with}
-use Rattle.jb_commands.specs.JournalPlace.{JudgesBeside, is_apart}
+use Rattle.jb_commands.specs.JournalPlace.{JudgesBeside, is_beside}
 use Rattle.jb_commands.specs.Runs.{Closes}
 use Rattle.jb_commands.specs.Outputs.{Outputs, Tells}
 use Rattle.jb_commands.specs.Texts.{HasNoText, IsText}
@@ -110,9 +113,14 @@ abbrev pub IsLoadUnopened : Loading → CommandFault → Type 0
 IsLoadUnopened load (BadOption option) = (option ≡ Threads) × (HasThreads load → ⊥)
 IsLoadUnopened load fault = HasThreads load × IsShut load.image load.journal fault
 
--- a journal that was copied out of the image was judged by the image, and no other
-abbrev pub JudgesLoad : {D : Type 0} → Disks D → Option (List ℕ) → D → D → Result Unit CommandFault → Type 0
-JudgesLoad G journal old new judged = JudgesBeside G (is_apart journal) (is_apart journal) false old new judged
+-- what the journal is that is to be loaded: in a file of its own it was copied out of the image
+abbrev pub load_use : Option (List ℕ) → JournalUse
+load_use None = LoadInPlace
+load_use (Some journal) = LoadCopy
+
+-- a journal that is beside its home blocks was judged by them
+abbrev pub JudgesLoad : {D : Type 0} → Disks D → Option (List ℕ) → Bool → D → D → Result Unit CommandFault → Type 0
+JudgesLoad G journal within old new judged = JudgesBeside G (is_beside journal within) (load_use journal) false old new judged
 
 module _ {S T : Type 0} {start : Starts S} {other : Starts T} where
   -- the text came next; or the image is not the journal's own, and stays as it was judged
@@ -123,7 +131,7 @@ module _ {S T : Type 0} {start : Starts S} {other : Starts T} where
   -- an open image was judged, and then loaded
   abbrev pub LoadsOpened : Loading → LoadOptions → ℕ → ImageDisk (FileDisk S start) (FileDisk T other) → Option (ImageDisk (FileDisk S start) (FileDisk T other)) → Result LoadReport CommandFault → Type 0
   LoadsOpened load options homes disk image end =
-      (mid : ImageDisk (FileDisk S start) (FileDisk T other)) × (judged : Result Unit CommandFault) × JudgesLoad as_files load.journal disk mid judged × LoadsJudged load options homes judged mid image end
+      (mid : ImageDisk (FileDisk S start) (FileDisk T other)) × (judged : Result Unit CommandFault) × JudgesLoad as_files load.journal (is_within disk) disk mid judged × LoadsJudged load options homes judged mid image end
 
   -- the image was not opened, and nothing was done; or it was, in blocks of the size that its first bytes say, with so many home blocks
   -- after the journal that they say, and it was judged, and then the text came

@@ -14,7 +14,7 @@ use jb_commands::{
     read_file,
 };
 use jb_disk::{Disk, FileDisk, FixedClock, Start, Unknown};
-use jb_image::ImageDisk;
+use jb_image::{ImageDisk, JournalUse};
 use jb_journal::OpenFault;
 use jb_queue::{QueueLines, read_lines};
 use std::fs::File;
@@ -93,7 +93,8 @@ fn load_opened<
     requires threads { (1 ≤ options.threads) × (options.threads ≤ 64) }
     ensures loads { LoadsOpened (load_said load.entry) options homes disk result.image result.end }
 {
-    match judge_load(&mut disk, load.journal) {
+    let within = disk.is_within();
+    match judge_load(&mut disk, load.journal, within) {
         Ok(()) => load_text(rt, load, disk, homes, options),
         Err(fault) => LoadDone {
             image: Some(disk),
@@ -102,16 +103,23 @@ fn load_opened<
     }
 }
 
-/// Whether the journal of an image may have home blocks of this image in it; one at its front may.
+/// Whether the journal of an image may have home blocks of this image in it; one at its front may. `within` says whether
+/// it stands among them.
 ///
 /// # Errors
 /// Those of `judge_on`.
-fn judge_load<'a, D: Disk>(disk: &mut D, journal: Option<&str>) -> Result<(), CommandFault<'a>>
-    ensures judges { JudgesLoad D.Disk (option_map (λ word. word.now) journal.entry) disk.old disk.new result }
+fn judge_load<'a, D: Disk>(
+    disk: &mut D,
+    journal: Option<&str>,
+    within: bool,
+) -> Result<(), CommandFault<'a>>
+    ensures judges { JudgesLoad D.Disk (option_map (λ word. word.now) journal.entry) within disk.old disk.new
+        result }
 {
     match journal {
+        None if within => judge_on(disk, JournalUse::LoadInPlace, false),
         None => Ok(()),
-        Some(_) => judge_on(disk, true, false),
+        Some(_) => judge_on(disk, JournalUse::LoadCopy, false),
     }
 }
 

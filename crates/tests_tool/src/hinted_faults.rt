@@ -51,6 +51,7 @@ static FAULTS: [(CommandFault<'static>, &str); 46] = [
     (CommandFault::FileSystem(FileSystemFault::Uuid), ""),
     (CommandFault::FileSystem(FileSystemFault::Clean), ""),
     (CommandFault::FileSystem(FileSystemFault::Newer), ""),
+    (CommandFault::FileSystem(FileSystemFault::Unrecovered), ""),
     (CommandFault::Extents(ExtentsFault::Overlap(9)), ""),
     (CommandFault::Extents(ExtentsFault::PastEnd(9)), ""),
     (CommandFault::Extents(ExtentsFault::Short(9)), ""),

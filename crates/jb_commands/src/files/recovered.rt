@@ -4,7 +4,7 @@ ghost use Rattle.jb_image.specs.Files.{as_disks};
 ghost use Rattle.jb_args.specs.PlainCommand.{recover_said};
 ghost use Rattle.jb_commands.specs.Foresee.{foreseen_end as foreseen_so, own_checked};
 ghost use Rattle.jb_commands.specs.ListText.{reads_list};
-ghost use Rattle.jb_commands.specs.JournalPlace.{EndsOfRecover, is_apart as stands_apart, is_beside as stands_beside};
+ghost use Rattle.jb_commands.specs.JournalPlace.{EndsOfRecover, is_beside as stands_beside, use_of as use_so};
 ghost use Rattle.jb_commands.specs.JournalPlace.{JudgesBeside, RecoversImage, RecoversOpened};
 
 use crate::command_end::CommandEnd;
@@ -15,7 +15,7 @@ use crate::report::Report;
 use crate::streams::{judge_on, recover_on};
 use jb_args::{OptionName, RecoverOptions};
 use jb_disk::{Disk, Start};
-use jb_image::{ExtentsFault, ImageDisk};
+use jb_image::{ExtentsFault, ImageDisk, JournalUse};
 use jb_recover::{Foreseen, RecoverFault, foresee};
 use std::alloc::Global;
 use std::fs::File;
@@ -82,9 +82,9 @@ fn recover_opened<'a, D: Disk, E: Disk>(
     ensures recovers { RecoversOpened (as_disks D.Disk E.Disk) (recover_said options.entry) homes disk.old disk.new
         result }
 {
-    let beside = is_beside(options.journal, options.extents);
-    let copied = is_apart(options.journal);
-    match judge_beside(disk, beside, copied, options.force) {
+    let beside = is_beside(options.journal, disk.is_within());
+    let used = use_of(options.journal);
+    match judge_beside(disk, beside, used, options.force) {
         Ok(()) => {}
         Err(fault) => return Err(fault),
     }
@@ -97,42 +97,39 @@ fn recover_opened<'a, D: Disk, E: Disk>(
 }
 
 /// Whether the journal is elsewhere than at the front of the image.
-fn is_beside(journal: Option<&str>, extents: Option<&str>) -> bool
-    ensures { result ≡ stands_beside (option_map (λ word. word.now) journal.entry)
-        (option_map (λ word. word.now) extents.entry) }
-{
-    match (journal, extents) {
-        (None, None) => false,
-        (None, Some(_)) => true,
-        (Some(_), _) => true,
-    }
-}
-
-/// Whether the journal is in a file of its own: a copy of that within the image.
-fn is_apart(journal: Option<&str>) -> bool
-    ensures { result ≡ stands_apart (option_map (λ word. word.now) journal.entry) }
+fn is_beside(journal: Option<&str>, within: bool) -> bool
+    ensures { result ≡ stands_beside (option_map (λ word. word.now) journal.entry) within }
 {
     match journal {
-        None => false,
+        None => within,
         Some(_) => true,
     }
 }
 
-/// Whether the journal of an image, which may be a copy, may be recovered into its home blocks; one that is not beside
-/// them may.
+/// What the journal is that is to be recovered: in a file of its own it is a copy of that within the image.
+fn use_of(journal: Option<&str>) -> JournalUse
+    ensures { result ≡ use_so (option_map (λ word. word.now) journal.entry) }
+{
+    match journal {
+        None => JournalUse::RecoverInPlace,
+        Some(_) => JournalUse::RecoverCopy,
+    }
+}
+
+/// Whether the journal of an image may be used so with its home blocks; one that is not beside them may.
 ///
 /// # Errors
 /// Those of `judge_on`.
 fn judge_beside<'a, D: Disk>(
     disk: &mut D,
     beside: bool,
-    copied: bool,
+    used: JournalUse,
     force: bool,
 ) -> Result<(), CommandFault<'a>>
-    ensures judges { JudgesBeside D.Disk beside copied force disk.old disk.new result }
+    ensures judges { JudgesBeside D.Disk beside used force disk.old disk.new result }
 {
     if beside {
-        judge_on(disk, copied, force)
+        judge_on(disk, used, force)
     } else {
         Ok(())
     }

@@ -7,6 +7,7 @@ ghost use Rattle.jb_commands.specs.Lines.{Names, line_naming, names_said};
 
 use crate::fault::CommandFault;
 use crate::names::{TwoFiles, image_of, journal_of};
+use crate::streams::own_line::words_of_own;
 use crate::streams::putting::put_line;
 use itoa::Buffer;
 use jb_image::{ExtentsFault, FileSystemFault};
@@ -15,7 +16,7 @@ use std::io::Write;
 
 /// The numbers of a line, which stand after its words.
 #[derive(Clone, Copy)]
-enum Numbers {
+pub(crate) enum Numbers {
     None,
     One(u64),
     Two(u64, u64),
@@ -61,6 +62,7 @@ fn words_of(fault: CommandFault<'_>) -> (&'static str, Numbers)
         }
         CommandFault::FileSystem(fault) => words_of_system(fault),
         CommandFault::Extents(fault) => words_of_extents(fault),
+        CommandFault::Own(fault) => words_of_own(fault),
         CommandFault::BadRevoke(place) => ("jb: BadRevoke ", Numbers::One(place)),
         CommandFault::HomeOutOfRange(home, number, _) => {
             ("jb: HomeOutOfRange ", Numbers::Two(home, u64::from(number)))
@@ -109,6 +111,7 @@ fn words_of_system(fault: FileSystemFault) -> (&'static str, Numbers)
         FileSystemFault::Uuid => ("jb: FileSystem Uuid", Numbers::None),
         FileSystemFault::Clean => ("jb: FileSystem Clean", Numbers::None),
         FileSystemFault::Newer => ("jb: FileSystem Newer", Numbers::None),
+        FileSystemFault::Unrecovered => ("jb: FileSystem Unrecovered", Numbers::None),
     }
 }
 

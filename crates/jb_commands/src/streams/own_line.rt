@@ -1,0 +1,89 @@
+//! The words of the line that says why a file system's own journal is not found.
+ghost use Rattle.std.specs.Prelude.{◌≡◌, None};
+ghost use Rattle.jb_commands.specs.FaultLines.{parts_of};
+ghost use Rattle.jb_commands.specs.Lines.{line_naming};
+ghost use Rattle.jb_commands.specs.OwnLines.{field_words, inode_words, map_line, node_line, own_line};
+
+use crate::streams::fault_line::Numbers;
+use jb_ext::{FieldName, InodeFault, OwnFault};
+use jb_map::{MapFault, NodeFault};
+
+/// The words of the line, and its numbers.
+pub(crate) fn words_of_own(fault: OwnFault) -> (&'static str, Numbers)
+    ensures { own_line fault ≡ line_naming (parts_of result.0.now result.1) None }
+{
+    match fault {
+        OwnFault::NoSystem => ("jb: Own NoSystem", Numbers::None),
+        OwnFault::Device => ("jb: Own Device", Numbers::None),
+        OwnFault::Feature(bits) => ("jb: Own Feature ", Numbers::One(u64::from(bits))),
+        OwnFault::NoJournal => ("jb: Own None", Numbers::None),
+        OwnFault::External => ("jb: Own External", Numbers::None),
+        OwnFault::Field(field, number) => (words_of_field(field), Numbers::One(number)),
+        OwnFault::Descriptor(block) => ("jb: Own Descriptor ", Numbers::One(block)),
+        OwnFault::Table(block) => ("jb: Own Table ", Numbers::One(block)),
+        OwnFault::Inode(fault) => (words_of_inode(fault), Numbers::None),
+        OwnFault::Map(fault) => words_of_map(fault),
+        OwnFault::Differs => ("jb: Own Differs", Numbers::None),
+        OwnFault::NoSuper(block) => ("jb: Own NoSuper ", Numbers::One(block)),
+        OwnFault::Short => ("jb: Own Short", Numbers::None),
+    }
+}
+
+/// The same of a field of the superblock that is refused; its number comes after them.
+fn words_of_field(field: FieldName) -> &'static str
+    ensures { field_words field ≡ result.now }
+{
+    match field {
+        FieldName::LogBlockSize => "jb: Own Field s_log_block_size ",
+        FieldName::LogClusterSize => "jb: Own Field s_log_cluster_size ",
+        FieldName::FirstDataBlock => "jb: Own Field s_first_data_block ",
+        FieldName::BlocksCount => "jb: Own Field s_blocks_count ",
+        FieldName::BlocksPerGroup => "jb: Own Field s_blocks_per_group ",
+        FieldName::InodeSize => "jb: Own Field s_inode_size ",
+        FieldName::InodesPerGroup => "jb: Own Field s_inodes_per_group ",
+        FieldName::DescSize => "jb: Own Field s_desc_size ",
+        FieldName::JournalInum => "jb: Own Field s_journal_inum ",
+    }
+}
+
+/// The same of an inode that is refused.
+fn words_of_inode(fault: InodeFault) -> &'static str
+    ensures { inode_words fault ≡ result.now }
+{
+    match fault {
+        InodeFault::NotRegular => "jb: Own Inode NotRegular",
+        InodeFault::NoLink => "jb: Own Inode NoLink",
+        InodeFault::Encrypted => "jb: Own Inode Encrypted",
+        InodeFault::Inline => "jb: Own Inode Inline",
+        InodeFault::Small => "jb: Own Inode Small",
+        InodeFault::Large => "jb: Own Inode Large",
+    }
+}
+
+/// The same of a map of the journal's blocks that is damaged.
+fn words_of_map(fault: MapFault) -> (&'static str, Numbers)
+    ensures { map_line fault ≡ line_naming (parts_of result.0.now result.1) None }
+{
+    match fault {
+        MapFault::Node(place, fault) => words_of_node(place, fault),
+        MapFault::Unwritten(place) => ("jb: Own Unwritten ", Numbers::One(place)),
+        MapFault::Apart(place) => ("jb: Own Apart ", Numbers::One(place)),
+        MapFault::OutOfRange(place) => ("jb: Own OutOfRange ", Numbers::One(place)),
+        MapFault::Hole(place) => ("jb: Own Hole ", Numbers::One(place)),
+        MapFault::Short(place) => ("jb: Own Short ", Numbers::One(place)),
+        MapFault::Twice(block) => ("jb: Own Twice ", Numbers::One(block)),
+    }
+}
+
+/// The same of a node of the map, for this place of the journal, by the number that it has.
+fn words_of_node(place: u64, fault: NodeFault) -> (&'static str, Numbers)
+    ensures { node_line place fault ≡ line_naming (parts_of result.0.now result.1) None }
+{
+    match fault {
+        NodeFault::Magic(number) => ("jb: Own Node Magic ", Numbers::Two(place, u64::from(number))),
+        NodeFault::Depth(number) => ("jb: Own Node Depth ", Numbers::Two(place, u64::from(number))),
+        NodeFault::Room(number) => ("jb: Own Node Room ", Numbers::Two(place, u64::from(number))),
+        NodeFault::Count(number) => ("jb: Own Node Count ", Numbers::Two(place, u64::from(number))),
+        NodeFault::Empty => ("jb: Own Node Empty ", Numbers::One(place)),
+    }
+}
