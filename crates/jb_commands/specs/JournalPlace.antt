@@ -29,6 +29,7 @@ use Rattle.jb_commands.specs.FoundWithin.{IsTried, IsFoundWithin, IsOtherSize}
 use Rattle.jb_commands.specs.Foresee.{Foretells, foreseen_end, own_checked}
 use Rattle.jb_commands.specs.Judge.{JudgesOn}
 use Rattle.jb_commands.specs.ListText.{HasNoList, IsListOf}
+use Rattle.jb_commands.specs.OwnPlace.{IsFrontShut, IsOpenedByFront}
 use Rattle.jb_commands.specs.Recover.{RecoversOn}
 use Rattle.jb_commands.specs.Reports.{status_end}
 use Rattle.jb_commands.specs.declared.fault.CommandFault.{CommandFault}
@@ -85,10 +86,11 @@ IsShutListed name input word fault =
     HasNoList input word fault ⊎ ((list : List ℕ) × IsListOf input word list × IsShutWithin name list fault)
 
 -- it was not opened: both places were named, or see those of the one
-abbrev pub IsShutAt : List ℕ → Option (List ℕ) → Option (List ℕ) → Option (List ℕ) → CommandFault → Type 0
-IsShutAt name input journal None fault = IsShut name journal fault
-IsShutAt name input None (Some word) fault = IsShutListed name input word fault
-IsShutAt name input (Some journal) (Some word) fault = IsBadOption option.Extents fault
+abbrev pub IsShutAt : {S : Type 0} → Starts S → List ℕ → Option (List ℕ) → Option (List ℕ) → Option (List ℕ) → CommandFault → Type 0
+IsShutAt start name input None None fault = IsFrontShut start name fault
+IsShutAt start name input (Some journal) None fault = IsShut name (Some journal) fault
+IsShutAt start name input None (Some word) fault = IsShutListed name input word fault
+IsShutAt start name input (Some journal) (Some word) fault = IsBadOption option.Extents fault
 
 module _ {S T : Type 0} {start : Starts S} {other : Starts T} where
   -- the same of the disk that is used, which was asked its length and nothing else
@@ -109,7 +111,8 @@ module _ {S T : Type 0} {start : Starts S} {other : Starts T} where
 
   -- it is open, wherever its journal is
   abbrev pub IsOpenedAt : Option (List ℕ) → Option (List ℕ) → Option (List ℕ) → ImageDisk (FileDisk S start) (FileDisk T other) → ℕ → Type 0
-  IsOpenedAt input journal None disk homes = IsImageOpened journal disk homes
+  IsOpenedAt input None None disk homes = IsOpenedByFront disk homes
+  IsOpenedAt input (Some journal) None disk homes = IsImageOpened (Some journal) disk homes
   IsOpenedAt input None (Some word) disk homes = IsOpenedListed input word disk homes
   IsOpenedAt input (Some journal) (Some word) disk homes = ⊥
 
@@ -128,7 +131,7 @@ module _ {S T : Type 0} {start : Starts S} {other : Starts T} where
   -- the image was not opened, and nothing was done; or home blocks of it were written as their peeks gave them, in blocks of the size that
   -- its first bytes say, as many as asked for from one on, since it was opened; the first is peeked at where none is asked for
   abbrev pub EndsOfCat : List ℕ → CatWords → Option (List ℕ) → Option (List ℕ) → Option (List ℕ) → Option (ImageDisk (FileDisk S start) (FileDisk T other)) → Result Report CommandFault → Type 0
-  EndsOfCat name words input out_old out_new None end = (fault : CommandFault) × (end ≡ Err fault) × IsShutAt name input words.journal words.extents fault × (out_new ≡ out_old)
+  EndsOfCat name words input out_old out_new None end = (fault : CommandFault) × (end ≡ Err fault) × IsShutAt start name input words.journal words.extents fault × (out_new ≡ out_old)
   EndsOfCat name words input out_old out_new (Some new) end =
       (old : ImageDisk (FileDisk S start) (FileDisk T other)) × (homes : ℕ) × IsOpenedAt input words.journal words.extents old homes
       × ShowsAsked as_files homes words old new out_old out_new end
@@ -186,15 +189,15 @@ module _ {D E : Type 0} (G : Disks (ImageDisk D E)) where
       (mid : ImageDisk D E) × (judged : Result Unit CommandFault) × JudgesBeside G (is_beside words.journal (is_within old)) (use_of words.journal) words.force old mid judged × RecoversJudged words homes judged mid new end
 
 -- the words do not go together, or the image was not opened
-abbrev pub IsNotOpenedToRecover : List ℕ → RecoverWords → Option (List ℕ) → CommandFault → Type 0
-IsNotOpenedToRecover name words input fault =
-    (IsBadOption option.List fault × (words.list ≡ true) × (words.dry_run ≡ false)) ⊎ IsShutAt name input words.journal words.extents fault
+abbrev pub IsNotOpenedToRecover : {S : Type 0} → Starts S → List ℕ → RecoverWords → Option (List ℕ) → CommandFault → Type 0
+IsNotOpenedToRecover start name words input fault =
+    (IsBadOption option.List fault × (words.list ≡ true) × (words.dry_run ≡ false)) ⊎ IsShutAt start name input words.journal words.extents fault
 
 module _ {S T : Type 0} {start : Starts S} {other : Starts T} where
   -- the image was not opened, and nothing was done; or what was asked for was done since it was opened. If its files are honest, all that
   -- a recovery says of contents holds of them
   abbrev pub EndsOfRecover : List ℕ → RecoverWords → Option (List ℕ) → Option (ImageDisk (FileDisk S start) (FileDisk T other)) → Result Report CommandFault → Type 0
-  EndsOfRecover name words input None end = (fault : CommandFault) × (end ≡ Err fault) × IsNotOpenedToRecover name words input fault
+  EndsOfRecover name words input None end = (fault : CommandFault) × (end ≡ Err fault) × IsNotOpenedToRecover start name words input fault
   EndsOfRecover name words input (Some new) end =
       (old : ImageDisk (FileDisk S start) (FileDisk T other)) × (homes : ℕ) × IsOpenedAt input words.journal words.extents old homes
       × RecoversOpened as_files words homes old new end

@@ -16,10 +16,13 @@ use Rattle.jb_super.specs.Superblock.{Superblock}
 use Rattle.jb_commands.specs.Files.{SaysSuper}
 use Rattle.jb_commands.specs.FoundWithin.{IsFoundWithin, IsOfSizes, IsOtherSize, IsTried}
 use Rattle.jb_commands.specs.JournalPlace.{IsHeldWithin, IsJournalWithin, IsNoPlace}
+use Rattle.jb_commands.specs.OwnPlace.{IsOwnUnfound}
 use Rattle.jb_commands.specs.declared.files.shut.FileFault.{FileFault}
 use Rattle.jb_commands.specs.declared.files.shut.FileFault.TheVariants.{Super}
 use Rattle.jb_commands.specs.declared.files.shut.PairFault.{PairFault}
 use Rattle.jb_commands.specs.declared.files.shut.PairFault.TheVariants.{Homes, Journal, Long, SameFile, Short}
+use Rattle.jb_commands.specs.declared.files.shut.OwnShut.{OwnShut}
+use Rattle.jb_commands.specs.declared.files.shut.OwnShut.TheVariants as own
 use Rattle.jb_commands.specs.declared.files.shut.WithinFault.{WithinFault}
 use Rattle.jb_commands.specs.declared.files.shut.WithinFault.TheVariants.{Extents, File, List as NoList, System}
 
@@ -27,6 +30,11 @@ use Rattle.jb_commands.specs.declared.files.shut.WithinFault.TheVariants.{Extent
 abbrev pub IsFileShut : FileFault → Type 0
 IsFileShut (Super fault) = (front : List ℕ) × (super_in front ≡ Err fault)
 IsFileShut _ = ⊤
+
+-- an image was not opened: its file was not, or its file system's own journal was not found
+abbrev pub IsOwnShut : {S : Type 0} → Starts S → OwnShut → Type 0
+IsOwnShut start (own.File fault) = IsFileShut fault
+IsOwnShut start (own.Find fault) = IsOwnUnfound start fault
 
 -- the two files are one, or one of them was not opened, or the journal's has fewer blocks than its superblock says, or more
 abbrev pub IsPairShut : PairFault → Type 0

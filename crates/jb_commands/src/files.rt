@@ -7,6 +7,7 @@ mod journals;
 mod listed;
 mod making;
 mod opening;
+mod own;
 mod placed;
 mod recovered;
 mod shut;

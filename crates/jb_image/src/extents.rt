@@ -45,6 +45,13 @@ impl Extents {
         Ok(Extents { list })
     }
 
+    /// Those of a list, in the journal's order.
+    pub fn of(list: Vec<Extent>) -> Extents
+        ensures { list_of result ≡ list.items }
+    {
+        Extents { list }
+    }
+
     /// How many blocks they have; 2^64 - 1 for more.
     pub fn blocks(&self) -> u64
         ensures { result ≡ extents_count (list_of self.now) }

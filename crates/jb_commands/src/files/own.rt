@@ -1,28 +1,172 @@
-//! Images that are file systems: their own journal, found by their superblock, and a list of extents compared with it.
-ghost use Rattle.std.specs.Prelude.{◌≡◌, IfErr, IfOk};
+//! Images by their first bytes: with a journal at the front, or as a file system, whose own journal is found.
+ghost use Rattle.std.specs.Prelude.{◌≡◌, None, IfErr, IfOk};
 ghost use Rattle.jb_disk.specs.File.{IsMeasured};
-ghost use Rattle.jb_ext.specs.declared.journal.OwnJournal.{OwnJournal};
-ghost use Rattle.jb_image.specs.Disks.{whole_disk};
-ghost use Rattle.jb_image.specs.Lists.{list_of};
-ghost use Rattle.jb_commands.specs.OwnPlace.{FindsOwn, IsOwnOpened, IsOwnUnfound, is_system, IsFirstOther};
+ghost use Rattle.jb_commands.specs.Files.{IsImageOpened, SaysSuper};
+ghost use Rattle.jb_commands.specs.OpenRefusals.{IsFileShut, IsOwnShut};
+ghost use Rattle.jb_commands.specs.OwnPlace.{IsOpenedByFront, IsOwnOpened, IsOwnUnfound};
+ghost use Rattle.jb_commands.specs.OwnPlace.{SaysFront, front_of_image, size_said, system_size};
 
-use crate::files::opening::counted;
+use crate::files::opening::{counted, disk_of, open_image};
+use crate::files::shut::{FileFault, OwnShut};
+use jb_block::BlockSize;
 use jb_disk::{FileDisk, Start};
-use jb_ext::{FindFault, OwnJournal, find_journal};
-use jb_image::{Extents, ExtentsDisk, FRONT, FileSystem, ImageDisk};
+use jb_ext::{FindFault, find_journal};
+use jb_image::{Extents, ExtentsDisk, FileSystem, ImageDisk, Opening};
+use jb_super::{Super, SuperFault};
+use jb_text::{ReadFault, read_front};
 use std::alloc::Global;
+use std::fs::File;
+use std::io::Read;
+use std::rt::Files;
 
-/// A file as a disk whose journal is the file system's own, and the number of its home blocks.
+/// How many bytes of an image are read: those of a journal's superblock, and those of a file system's, which begins
+/// after 1,024 bytes.
+const FRONT: usize = 2048;
+
+/// What an image is by its first bytes.
+#[derive(Clone, Copy)]
+pub(crate) enum ImageFront {
+    /// A journal, with this superblock, and home blocks.
+    Journal(Super),
+    /// A file system, with blocks of this size.
+    System(BlockSize),
+}
+
+/// The file of this name as a disk with its journal at the front; or, where it is a file system of ext2, ext3 or ext4,
+/// with that file system's own. And the number of its home blocks.
+///
+/// # Errors
+/// `OwnShut::File` where it is not opened or read, or its first bytes are neither superblock; `OwnShut::Find` where the
+/// file system's own journal is not found.
+pub(crate) fn open_by_front<S: Start, T: Start, R: Files<File = File> + AllocGlobal>(
+    rt: &R,
+    name: &str,
+    opening: Opening,
+) -> Result<(ImageDisk<FileDisk<S>, FileDisk<T>>, u64), OwnShut>
+    ensures shut { IfErr result (IsOwnShut S.Start) }
+    ensures opened { IfOk result (λ opened. IsOpenedByFront opened.0 opened.1) }
+{
+    match open_fronted(rt, name, opening) {
+        Ok((file, ImageFront::Journal(sb))) => open_journal(file, &sb),
+        Ok((file, ImageFront::System(size))) => open_system(rt.alloc(), file, size),
+        Err(fault) => Err(OwnShut::File(fault)),
+    }
+}
+
+/// The file of this name, and what it is by its first bytes.
+fn open_fronted<R: Files<File = File> + AllocGlobal>(
+    rt: &R,
+    name: &str,
+    opening: Opening,
+) -> Result<(File, ImageFront), FileFault>
+    ensures shut { IfErr result IsFileShut }
+    ensures says { IfOk result (λ opened. SaysFront opened.1) }
+{
+    let mut file = open_image(rt, name, opening)?;
+    let front = read_fronts(rt.alloc(), &mut file)?;
+    let front = front_in(front.as_slice())?;
+    Ok((file, front))
+}
+
+/// The first bytes of an image, as many as have both superblocks or fewer.
+fn read_fronts<R: Read>(alloc: Global, image: &mut R) -> Result<Vec<u8>, FileFault>
+    ensures shut { IfErr result IsFileShut }
+{
+    match read_front(alloc, image, FRONT) {
+        Ok(front) => Ok(front),
+        Err(ReadFault::Memory) => Err(FileFault::Memory),
+        Err(ReadFault::Reader(code)) => Err(FileFault::Unread(code)),
+        Err(ReadFault::TooLong) => Err(FileFault::Unread(None)),
+    }
+}
+
+/// What an image is that has these first bytes.
+fn front_in(front: &[u8]) -> Result<ImageFront, FileFault>
+    ensures value { result ≡ front_of_image front.now }
+    ensures shut { IfErr result IsFileShut }
+    ensures says { IfOk result SaysFront }
+{
+    match Super::read(front) {
+        Ok(sb) => Ok(ImageFront::Journal(sb)),
+        Err(SuperFault::NoMagic) => match system_size(front) {
+            Some(size) => Ok(ImageFront::System(size)),
+            None => Err(FileFault::Super(SuperFault::NoMagic)),
+        },
+        Err(fault) => Err(FileFault::Super(fault)),
+    }
+}
+
+/// The size of the blocks of the file system whose superblock stands after 1,024 of these bytes, if there is one.
+fn system_size(front: &[u8]) -> Option<BlockSize>
+    ensures { result ≡ system_size front.now }
+{
+    if front.len() < FRONT {
+        return None;
+    }
+    let system = FileSystem::read(&front[1024..])?;
+    Some(size_said(system.block_size))
+}
+
+/// The size of blocks with so many bytes; of 1 KiB where a journal's have another one, which is refused once the
+/// superblock is read.
+fn size_said(bytes: u32) -> BlockSize
+    ensures { result ≡ size_said bytes }
+{
+    match bytes {
+        2048 => BlockSize::TwoKib,
+        4096 => BlockSize::FourKib,
+        _ => BlockSize::OneKib,
+    }
+}
+
+/// A file as a disk with a journal at its front, which has this superblock, and the number of its home blocks.
+fn open_journal<S: Start, T: Start>(
+    file: File,
+    sb: &Super,
+) -> Result<(ImageDisk<FileDisk<S>, FileDisk<T>>, u64), OwnShut>
+    requires { SaysSuper sb.now }
+    ensures shut { IfErr result (IsOwnShut S.Start) }
+    ensures opened { IfOk result (λ opened. IsImageOpened None opened.0 opened.1) }
+{
+    match disk_of(file, sb.block_size()) {
+        Ok(disk) => {
+            let (disk, homes) = counted(disk, sb);
+            Ok((ImageDisk::One(disk), homes))
+        }
+        Err(fault) => Err(OwnShut::File(fault)),
+    }
+}
+
+/// A file as a disk with the own journal of its file system, which has blocks of this size, and the number of its home
+/// blocks.
+fn open_system<S: Start, T: Start>(
+    alloc: Global,
+    file: File,
+    size: BlockSize,
+) -> Result<(ImageDisk<FileDisk<S>, FileDisk<T>>, u64), OwnShut>
+    ensures shut { IfErr result (IsOwnShut S.Start) }
+    ensures opened { IfOk result (λ opened. IsOwnOpened opened.0 opened.1) }
+{
+    match disk_of(file, size) {
+        Ok(disk) => match open_own(alloc, disk) {
+            Ok(opened) => Ok(opened),
+            Err(fault) => Err(OwnShut::Find(fault)),
+        },
+        Err(fault) => Err(OwnShut::File(fault)),
+    }
+}
+
+/// A file as a disk whose journal is its file system's own, and the number of its home blocks.
 ///
 /// # Errors
 /// Those of `find_journal`: the file is as it was.
-pub(crate) fn open_own<S: Start, T: Start>(
+fn open_own<S: Start, T: Start>(
     alloc: Global,
     disk: FileDisk<S>,
 ) -> Result<(ImageDisk<FileDisk<S>, FileDisk<T>>, u64), FindFault>
     requires measured { IsMeasured disk }
-    ensures shut { IfErr result (IsOwnUnfound disk) }
-    ensures opened { IfOk result (λ opened. IsOwnOpened disk opened.0 opened.1) }
+    ensures shut { IfErr result (IsOwnUnfound S.Start) }
+    ensures opened { IfOk result (λ opened. IsOwnOpened opened.0 opened.1) }
 {
     let mut disk = disk;
     match find_journal(alloc, &mut disk) {
@@ -34,24 +178,4 @@ pub(crate) fn open_own<S: Start, T: Start>(
         }
         Err(fault) => Err(fault),
     }
-}
-
-/// Whether the first bytes of an image, those of a journal's superblock and of a file system's, are those of a file
-/// system of ext2, ext3 or ext4.
-pub(crate) fn is_system(front: &[u8]) -> bool
-    ensures { result ≡ is_system front.now }
-{
-    front.len() >= 1024 + FRONT && FileSystem::read(&front[1024..]).is_some()
-}
-
-/// The first place of a journal of so many blocks at which two lists have different blocks.
-pub(crate) fn first_other(listed: &Extents, own: &Extents, blocks: u64) -> Option<u64>
-    ensures { IsFirstOther blocks (list_of listed.now) (list_of own.now) result }
-{
-    for place in 0..blocks {
-        if listed.place(place) != own.place(place) {
-            return Some(place);
-        }
-    }
-    None
 }

@@ -14,7 +14,8 @@ use crate::fault::CommandFault;
 use crate::files::found::super_within;
 use crate::files::listed::file_of;
 use crate::files::opening::{Opening, counted, disk_of, open_counted, open_image};
-use crate::files::shut::{FileFault, WithinFault, named_within};
+use crate::files::own::open_by_front;
+use crate::files::shut::{FileFault, WithinFault, named_front, named_within};
 use crate::files::texts::read_text;
 use jb_args::OptionName;
 use jb_disk::{Disk, FileDisk, Start};
@@ -25,11 +26,11 @@ use std::fs::File;
 use std::io::Read;
 use std::rt::Files;
 
-/// The image of this name as a disk, with the number of its home blocks: as `open_counted`, or with extents as
-/// `open_listed`.
+/// The image of this name as a disk, with the number of its home blocks: as `open_by_front`, with a journal's own file
+/// as `open_counted`, or with extents as `open_listed`.
 ///
 /// # Errors
-/// Those of the two, and `CommandFault::BadOption` where both places of the journal are given.
+/// Those of the three, and `CommandFault::BadOption` where both places of the journal are given.
 pub(crate) fn open_placed<'a, S: Start, T: Start, R: Files<File = File> + AllocGlobal, I: Read>(
     rt: &R,
     name: &'a str,
@@ -38,14 +39,15 @@ pub(crate) fn open_placed<'a, S: Start, T: Start, R: Files<File = File> + AllocG
     opening: Opening,
     input: &mut I,
 ) -> Result<(ImageDisk<FileDisk<S>, FileDisk<T>>, u64), CommandFault<'a>>
-    ensures shut { IfErr result (IsShutAt name.entry.now (I.remaining input.old)
+    ensures shut { IfErr result (IsShutAt S.Start name.entry.now (I.remaining input.old)
         (option_map (λ word. word.now) journal.entry) (option_map (λ word. word.now) extents.entry)) }
     ensures opened { IfOk result (λ opened. IsOpenedAt (I.remaining input.old)
         (option_map (λ word. word.now) journal.entry) (option_map (λ word. word.now) extents.entry) opened.0 opened.1) }
     ensures unread { reads_list (option_map (λ word. word.now) extents.entry) ≡ false → input.new ≡ input.old }
 {
     match (journal, extents) {
-        (journal, None) => open_counted(rt, name, journal, opening),
+        (None, None) => named_front::<S, _>(open_by_front(rt, name, opening), name),
+        (Some(journal), None) => open_counted(rt, name, Some(journal), opening),
         (None, Some(word)) => open_listed(rt, name, word, opening, input),
         (Some(_), Some(_)) => Err(CommandFault::BadOption(OptionName::Extents)),
     }

@@ -3,10 +3,13 @@
 ghost use Rattle.std.specs.Prelude.{◌≡◌, IfErr, IfOk, List, Some, ℕ};
 ghost use Rattle.jb_commands.specs.Files.{IsShut, IsUnread};
 ghost use Rattle.jb_commands.specs.JournalPlace.{IsShutWithin};
-ghost use Rattle.jb_commands.specs.OpenRefusals.{IsFileShut, IsListShut, IsPairShut};
+ghost use Rattle.jb_commands.specs.OpenRefusals.{IsFileShut, IsListShut, IsOwnShut, IsPairShut};
+ghost use Rattle.jb_commands.specs.OwnPlace.{IsFrontShut, of_find};
 
 use crate::fault::CommandFault;
 use jb_args::OptionName;
+use jb_disk::Start;
+use jb_ext::FindFault;
 use jb_image::{ExtentsFault, FileSystemFault};
 use jb_super::SuperFault;
 
@@ -23,6 +26,15 @@ pub(crate) enum FileFault {
     Super(SuperFault),
     /// Memory ran out.
     Memory,
+}
+
+/// Why an image that may be a file system is not opened.
+#[derive(Clone, Copy)]
+pub(crate) enum OwnShut {
+    /// Its file is not opened, or its first bytes are refused.
+    File(FileFault),
+    /// The file system's own journal is not found.
+    Find(FindFault),
 }
 
 /// Why an image in two files is not opened.
@@ -64,6 +76,33 @@ pub(crate) fn named<'a, V>(
     match opened {
         Ok(value) => Ok(value),
         Err(fault) => Err(fault_of(fault, name)),
+    }
+}
+
+/// The same of an image that may be a file system.
+pub(crate) fn named_front<'a, S: Start, V>(
+    opened: Result<V, OwnShut>,
+    name: &'a str,
+) -> Result<V, CommandFault<'a>>
+    ensures opened { IfOk result (λ value. opened ≡ Ok value) }
+    ensures shut { IfErr opened (IsOwnShut S.Start) → IfErr result (IsFrontShut S.Start name.entry.now) }
+{
+    match opened {
+        Ok(value) => Ok(value),
+        Err(OwnShut::File(fault)) => Err(fault_of(fault, name)),
+        Err(OwnShut::Find(fault)) => Err(fault_of_find(fault)),
+    }
+}
+
+/// The fault of a command over a file system whose own journal is not found.
+fn fault_of_find<'a>(fault: FindFault) -> CommandFault<'a>
+    ensures { result ≡ of_find fault }
+{
+    match fault {
+        FindFault::Own(fault) => CommandFault::Own(fault),
+        FindFault::Super(fault) => CommandFault::Super(fault),
+        FindFault::DeviceFault => CommandFault::DeviceFault,
+        FindFault::Memory => CommandFault::Memory,
     }
 }
 
