@@ -4,7 +4,7 @@ use Rattle.std.proofs.lemmas.Result.{on_ok_weaker}
 use Rattle.jb_disk.specs.Image.{Image, block, Torn, HasShape}
 use Rattle.jb_disk.specs.Runs.{IsOutside, ReadsRun, WroteRun, TornRun, part}
 use Rattle.jb_disk.specs.Time.{Goes}
-use Rattle.jb_disk.specs.Events.{Event, InBlocks, Makes, Agree, LeftBy, Leaves, LeftFrom, IsHonestFile, NoneAfter, NoneFailed, Passed, read, write_event, sync_event}
+use Rattle.jb_disk.specs.Events.{Event, InBlocks, Makes, Agree, LeftBy, Leaves, LeftFrom, IsHonestFile, NoneAfter, NoneFailed, IsUnfailed, read, write_event, sync_event}
 use Rattle.jb_disk.specs.Faults.{CountsFault, CountsOne, most_faults}
 use Rattle.jb_disk.specs.Kept.{Kept, OnlyReads}
 use Rattle.jb_disk.specs.RecordLaws.{torn_of_wrote, newest_left}
@@ -57,7 +57,7 @@ module _ {D : Type 0} (size : D → ℕ) (content : ℕ → Image) (events : D �
   }
 
 -- a call that succeeded was no write or sync that failed
-passed-ok : (kind : ℕ) (ok : Bool) (old new : ℕ) → CountsOne ok old new → old < most_faults → new ≡ old → Passed kind ok
+passed-ok : (kind : ℕ) (ok : Bool) (old new : ℕ) → CountsOne ok old new → old < most_faults → new ≡ old → IsUnfailed kind ok
 passed-ok zero ok old new counted few same = tt
 passed-ok (suc kind) true old new counted few same = tt
 passed-ok (suc kind) false old new counted few same = omega (arith, counted, few, same)

@@ -47,16 +47,16 @@ Makes size (suc (suc zero)) at ok bytes old new = new ≡ old
 Makes size (suc (suc (suc more))) at ok bytes old new = (new ≡ old) × (length old ≡ at / size)
 
 -- a read, or a call that succeeded
-abbrev pub Passed : ℕ → Bool → Type 0
-Passed zero ok = Unit {0}
-Passed (suc kind) true = Unit {0}
-Passed (suc kind) false = ⊥
+abbrev pub IsUnfailed : ℕ → Bool → Type 0
+IsUnfailed zero ok = Unit {0}
+IsUnfailed (suc kind) true = Unit {0}
+IsUnfailed (suc kind) false = ⊥
 
 -- No write and no sync has failed. After a sync that failed the system may have dropped what was written and still call the next sync a
 -- success, so nothing may be asked then.
 abbrev pub NoneFailed : List Event → Type 0
 NoneFailed [] = Unit {0}
-NoneFailed (e ∷ older) = Passed e.0 e.2 × NoneFailed older
+NoneFailed (e ∷ older) = IsUnfailed e.0 e.2 × NoneFailed older
 
 -- no call came after a write or a sync that failed
 abbrev pub NoneAfter : List Event → Type 0
@@ -65,8 +65,8 @@ NoneAfter (e ∷ older) = NoneFailed older
 
 -- One call noted no more than one event of this kind, with this answer: where it failed it noted one. (A run of blocks is one call of the
 -- system, and the calls of its other blocks note nothing.)
-abbrev pub IsNoted : ℕ → Bool → List Event → List Event → Type 0
-IsNoted kind ok old new = ((at : ℕ) × (bytes : List ℕ) × (new ≡ (kind, at, ok, bytes) ∷ old)) ⊎ ((ok ≡ true) × (new ≡ old))
+abbrev pub NotesAtMost : ℕ → Bool → List Event → List Event → Type 0
+NotesAtMost kind ok old new = ((at : ℕ) × (bytes : List ℕ) × (new ≡ (kind, at, ok, bytes) ∷ old)) ⊎ ((ok ≡ true) × (new ≡ old))
 
 -- the answers are those of a file that had this content after each so many calls
 abbrev pub Agree : ℕ → (ℕ → Image) → List Event → Type 0

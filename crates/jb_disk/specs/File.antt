@@ -2,7 +2,7 @@
 use Rattle.std.specs.Prelude.{◌≡◌, ◌/◌, ℕ, Bool, List, [], ◌∷◌, length}
 use Rattle.jb_block.specs.Size.{bytes_of}
 use Rattle.jb_block.specs.declared.size.BlockSize.{BlockSize}
-use Rattle.jb_disk.specs.Events.{Event, measured, sync_event, IsHonestFile, IsNoted, Leaves, LeftFrom, NoneAfter, NoneFailed}
+use Rattle.jb_disk.specs.Events.{Event, measured, sync_event, IsHonestFile, NotesAtMost, Leaves, LeftFrom, NoneAfter, NoneFailed}
 use Rattle.jb_disk.specs.Faults.{CountsOne}
 use Rattle.jb_disk.specs.Image.{Image}
 use Rattle.jb_disk.specs.OneCall.{Called, Reads, Writes, Syncs}
@@ -17,8 +17,8 @@ UnknownFile = FileDisk Unknown unknown
 
 -- what one call of a disk notes of a file: a sync its one event, with the answer that it gives
 abbrev pub NotesCall : Called → Bool → List Event → List Event → Type 0
-NotesCall (Reads place) ok old new = IsNoted 0 ok old new
-NotesCall (Writes place bytes) ok old new = IsNoted 1 ok old new
+NotesCall (Reads place) ok old new = NotesAtMost 0 ok old new
+NotesCall (Writes place bytes) ok old new = NotesAtMost 1 ok old new
 NotesCall Syncs ok old new = new ≡ sync_event ok ∷ old
 
 module _ {S : Type 0} {start : Ghosts S} where

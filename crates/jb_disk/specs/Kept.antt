@@ -26,6 +26,6 @@ pub record OnlyReads {D : Type 0} (may_leave : D → Image → Type 0) (may_go_o
   pub going : may_go_on old → may_go_on new
 
 -- a call that reads does what its kind of disk says of one, and reads alone
-pub record ReadsAs {D : Type 0} (may_leave : D → Image → Type 0) (may_go_on : D → Type 0) (made : Type 0) (old new : D) : Type 0 where
+pub record OwnReads {D : Type 0} (may_leave : D → Image → Type 0) (may_go_on : D → Type 0) (made : Type 0) (old new : D) : Type 0 where
   pub own : made
   pub unsynced : OnlyReads may_leave may_go_on old new

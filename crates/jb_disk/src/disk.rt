@@ -5,7 +5,7 @@ ghost use Rattle.jb_disk.specs.Image.{Image, block, Torn, Same, Only, HasShape};
 ghost use Rattle.jb_disk.specs.Time.{Goes};
 ghost use Rattle.jb_disk.specs.OneCall.{AreMade, Called, Reads, Writes, Syncs};
 ghost use Rattle.jb_disk.specs.Faults.{CountsFault};
-ghost use Rattle.jb_disk.specs.Kept.{Kept, ReadsAs, Untouched};
+ghost use Rattle.jb_disk.specs.Kept.{Kept, OwnReads, Untouched};
 ghost use Rattle.jb_disk.specs.Runs.{part, IsRunOn, ReadsRun, TornRun, WroteRun};
 ghost use Rattle.jb_disk.specs.Steps.{Steps};
 
@@ -74,7 +74,7 @@ pub trait Disk {
         ensures kept { Kept size count faults honest may_go_on well_asked (CountsFault result) self.old self.new }
         ensures spent { IsTrue (fails_next self.old) → IsErr result
             × Untouched newest may_leave moment self.old self.new }
-        ensures own { ReadsAs may_leave may_go_on (own (Reads place) self.old self.new (is_ok result))
+        ensures own { OwnReads may_leave may_go_on (own (Reads place) self.old self.new (is_ok result))
             self.old self.new }
         ensures found { honest self.new → OnOk result (buf.new ≡ block (newest self.old) place) }
         ensures newest { honest self.new → newest self.new ≡ newest self.old }
@@ -112,7 +112,7 @@ pub trait Disk {
         ensures kept { Kept size count faults honest may_go_on well_asked (CountsFault result) self.old self.new }
         ensures spent { IsTrue (fails_next self.old) → IsErr result
             × Untouched newest may_leave moment self.old self.new }
-        ensures own { ReadsAs may_leave may_go_on (IsTrue runs_as_calls
+        ensures own { OwnReads may_leave may_go_on (IsTrue runs_as_calls
             → AreMade own (λ k. Reads (place + k)) blocks self.old self.new (is_ok result)) self.old self.new }
         ensures found { honest self.new → OnOk result
             (ReadsRun (size self.old) blocks place (newest self.old) buf.new) }

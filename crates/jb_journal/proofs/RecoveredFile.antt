@@ -4,7 +4,7 @@ use Rattle.jb_block.specs.Size.{bytes_of}
 use Rattle.jb_block.specs.declared.size.BlockSize.{BlockSize}
 use Rattle.jb_disk.specs.RecordLaws.{left_from_now}
 use Rattle.jb_disk.specs.Faults.{CountsNone}
-use Rattle.jb_disk.specs.File.{content_of, count_of, events_of, faults_of, size_of_blocks, FileLeaves, FileLeft, IsHonest, IsMeasured}
+use Rattle.jb_disk.specs.File.{content_of, count_of, events_of, faults_of, size_of_blocks, FileLeaves, FileLeft, IsHonest, IsMeasured, IsWellAsked, MayGoOn}
 use Rattle.jb_disk.specs.Image.{Image, Only, Same}
 use Rattle.jb_disk.specs.Kept.{Kept}
 use Rattle.jb_disk.specs.Time.{Goes, LeavesOnly}
@@ -26,7 +26,7 @@ module _ {S : Type 0} {start : Starts S} where
 
   -- what a call keeps of a file, with this of its counts of faults
   abbrev pub Keeps : (ℕ → ℕ → Type 0) → FileDisk S start → FileDisk S start → Type 0
-  Keeps counts old new = Kept (λ f. bytes_of (size_of_blocks f)) count_of faults_of IsHonest counts old new
+  Keeps counts old new = Kept (λ f. bytes_of (size_of_blocks f)) count_of faults_of IsHonest MayGoOn IsWellAsked counts old new
 
   module _ (size : BlockSize) (old new : FileDisk S start) where
     -- what a recovery says of the files is said of what the file held when it was opened

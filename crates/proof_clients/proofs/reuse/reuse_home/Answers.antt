@@ -41,14 +41,14 @@ pub returns-in_default-read_home-clause-leaves : goal.returns-in_default-read_ho
 returns-in_default-read_home-clause-leaves g c =
     let at = goal.at.returns-in_default-read_home-clause-leaves g c in
     idle-runs (written g at.After-read_home (opened g at.After-commit)) c.close-in_default-read_home.ensures.value
-    c.read_home.ensures.kept c.read_home.ensures.left
+    c.read_home.ensures.kept.kept c.read_home.ensures.left
 
 pub returns-in_default-take_trail-clause-leaves : goal.returns-in_default-take_trail-clause-leaves
 returns-in_default-take_trail-clause-leaves g c =
     let at = goal.at.returns-in_default-take_trail-clause-leaves g c in
     let same = ap (λ (d : OpenDeck g.row.D.Denot). d.disk) c.in_default-take_trail.ensures.refused.0 in
     idle-runs (written g at.After-read_home (opened g at.After-commit)) (c.close-in_default-take_trail.ensures.value ∙ same)
-    c.read_home.ensures.kept c.read_home.ensures.left
+    c.read_home.ensures.kept.kept c.read_home.ensures.left
 
 pub returns-in-Ok-commit-2-clause-read : goal.returns-in-Ok-commit-2-clause-read
 returns-in-Ok-commit-2-clause-read g c = λ held.
@@ -56,7 +56,7 @@ returns-in-Ok-commit-2-clause-read g c = λ held.
     let so = written g at.After-read_home (opened g at.After-commit) in
     let taken = c.commit-2.ensures.kept.was_honest (subst g.D.Disk.honest c.close-in-Ok-commit-2.ensures.value held) in
     let read = subst g.D.Disk.honest (ap (λ (d : OpenDeck g.row.D.Denot). d.disk) c.in-Ok-take_trail.ensures.taken.same) taken in
-    let honest = c.read_home.ensures.kept.was_honest read in
+    let honest = c.read_home.ensures.kept.kept.was_honest read in
     let is = so.is honest in
     let stood = before g.D.Disk c.args.disk in
     c.in-Ok-read_home.ensures.found read
@@ -67,7 +67,7 @@ taken : (g : Over) (c : After-commit-2 g)
     → SoFar g.D.Disk c.args.disk c.in-Ok.deck (commits c.args.first ∷ writes c.args.home c.args.bytes.now ∷ []) (commits c.args.second ∷ []) c.write_free.new.self
     → SoFar g.D.Disk c.args.disk c.in-Ok.deck (commits c.args.first ∷ writes c.args.home c.args.bytes.now ∷ []) (commits c.args.second ∷ []) c.take_trail.new.self
 taken g c so =
-    let read = read-on so c.in-Ok-read_home.ensures.answers.4 c.read_home.ensures.kept c.read_home.ensures.ended c.read_home.ensures.left in
+    let read = read-on so c.in-Ok-read_home.ensures.answers.4 c.read_home.ensures.kept.kept c.read_home.ensures.ended c.read_home.ensures.left in
     take-on read c.in-Ok-take_trail.ensures.taken.same c.take_trail.ensures.ended
 
 pub returns-in-Ok-commit-2-clause-leaves : goal.returns-in-Ok-commit-2-clause-leaves

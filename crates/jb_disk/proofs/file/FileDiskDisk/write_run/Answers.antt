@@ -2,7 +2,7 @@ use Rattle.std.proofs.Common.{◌+◌, inl, inr, length, refl, sym, subst, is_ok
 use Rattle.jb_block.specs.Size.{bytes_of}
 use Rattle.jb_disk.specs.RecordLaws.{left_from_only}
 use Rattle.jb_disk.specs.OneCall.{Writes}
-use Rattle.jb_disk.specs.Events.{IsNoted, Leaves, LeftFrom, write_event}
+use Rattle.jb_disk.specs.Events.{NotesAtMost, Leaves, LeftFrom, write_event}
 use Rattle.jb_disk.specs.Faults.{CountsOne}
 use Rattle.jb_disk.specs.File.{IsOneCall, count_of, events_of, faults_of, size_of_blocks}
 use Rattle.jb_disk.specs.Runs.{part, TornRun}
@@ -37,8 +37,8 @@ returns-clause-own g c = λ _.
     let old = c.args.self.now in
     let counted : CountsOne (is_ok c.settle.result) old.faults c.settle.new.faults
     = subst (λ ok. CountsOne ok old.faults c.settle.new.faults) (sym c.settle.ensures.variant) c.settle.ensures.one in
-    let noted : IsNoted 1 (is_ok c.settle.result) old.host.log.events c.write_at-succeeded.new.self.log.events
-    = subst (λ ok. IsNoted 1 ok old.host.log.events c.write_at-succeeded.new.self.log.events) (sym c.settle.ensures.variant)
+    let noted : NotesAtMost 1 (is_ok c.settle.result) old.host.log.events c.write_at-succeeded.new.self.log.events
+    = subst (λ ok. NotesAtMost 1 ok old.host.log.events c.write_at-succeeded.new.self.log.events) (sym c.settle.ensures.variant)
     (inl (c.offset_of-at.result, c.args.bytes.now, c.write_at-succeeded.ensures)) in
     made-once IsOneCall (λ k. Writes (c.args.place + k) (part (bytes_of old.size) k c.args.bytes.now)) c.args._blocks old _ (is_ok c.settle.result) c.requires.run.some
     (λ k. record { counted = refl; noted = inr (refl, refl) }) (λ k. record { counted = counted; noted = noted })
