@@ -1,5 +1,5 @@
 -- Why an image is not opened, before it is said of which file; and what a file is that has a journal's superblock at its front.
-use Rattle.std.specs.Prelude.{◌≡◌, ◌<◌, ℕ, ⊤, List, None, Some, Err}
+use Rattle.std.specs.Prelude.{◌≡◌, ◌<◌, ℕ, ⊤, Bool, if◌then◌else◌, List, None, Some, Err}
 use Rattle.jb_block.specs.Size.{bytes_of}
 use Rattle.jb_disk.specs.File.{IsMeasured, count_of, size_of_blocks}
 use Rattle.jb_disk.specs.declared.file.FileDisk.{FileDisk}
@@ -11,6 +11,8 @@ use Rattle.jb_image.specs.Lists.{extents_in, list_of}
 use Rattle.jb_map.specs.declared.extent.Extent.{Extent}
 use Rattle.jb_image.specs.declared.extents_disk.ExtentsDisk.{ExtentsDisk}
 use Rattle.jb_image.specs.declared.image.ImageDisk.{ImageDisk}
+use Rattle.jb_image.specs.declared.opening.Opening.{Opening}
+use Rattle.jb_image.specs.declared.opening.Opening.TheVariants.{Change, Forced, Read}
 use Rattle.jb_super.specs.Faults.{super_in}
 use Rattle.jb_super.specs.Superblock.{Superblock}
 use Rattle.jb_commands.specs.Files.{SaysSuper}
@@ -26,7 +28,11 @@ use Rattle.jb_commands.specs.declared.files.shut.OwnShut.TheVariants as own
 use Rattle.jb_commands.specs.declared.files.shut.WithinFault.{WithinFault}
 use Rattle.jb_commands.specs.declared.files.shut.WithinFault.TheVariants.{Extents, File, List as NoList, System}
 
--- a file was not read, or another program has locked it, or some bytes of it are refused as a superblock
+-- how an image is opened that is to be recovered: to be read where nothing is written, else to be changed, which may be forced
+abbrev pub opening_for : Bool → Bool → Opening
+opening_for dry_run force = if dry_run then Read else if force then Forced else Change
+
+-- a file was not read, or another program has locked it, or it is not known whether it is mounted, or some bytes of it are refused as a superblock
 abbrev pub IsFileShut : FileFault → Type 0
 IsFileShut (Super fault) = (front : List ℕ) × (super_in front ≡ Err fault)
 IsFileShut _ = ⊤

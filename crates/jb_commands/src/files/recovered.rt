@@ -6,6 +6,7 @@ ghost use Rattle.jb_commands.specs.Foresee.{foreseen_end as foreseen_so, own_che
 ghost use Rattle.jb_commands.specs.ListText.{reads_list};
 ghost use Rattle.jb_commands.specs.JournalPlace.{EndsOfRecover, is_beside as stands_beside, use_of as use_so};
 ghost use Rattle.jb_commands.specs.JournalPlace.{JudgesBeside, RecoversImage, RecoversOpened};
+ghost use Rattle.jb_commands.specs.OpenRefusals.{opening_for};
 
 use crate::command_end::CommandEnd;
 use crate::fault::CommandFault;
@@ -62,7 +63,9 @@ pub fn recover_file<'a, S: Start, T: Start, R: Files<File = File> + AllocGlobal,
 }
 
 /// How an image is opened that is to be recovered, also by force, or only read.
-fn opening_of(dry_run: bool, force: bool) -> Opening {
+fn opening_of(dry_run: bool, force: bool) -> Opening
+    ensures { result ≡ opening_for dry_run force }
+{
     if dry_run {
         Opening::Read
     } else if force {
