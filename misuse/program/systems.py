@@ -70,9 +70,9 @@ def ext(content, parts=((20, 33),), kind=EXTENTS, front=superblock_of, inode=(),
         at += count
     root, more = (tree(parts), {}) if kind else block_map(parts, (1190, 1191, 1192, 1193, 1194))
     node = bytearray(128)
+    node[0x28:0x64] = root
     for place, form, number in ((0x00, "H", 0x8180), (0x04, "I", PLACES * BS), (0x1A, "H", 1), (0x20, "I", 0x80000 if kind else 0)) + tuple(inode):
         struct.pack_into("<" + form, node, place, number)
-    node[0x28:0x64] = root if not says.pop("other_root", None) else bytes(60)
     descriptor = le("III", SPARE, SPARE, INODES).ljust(BS, b"\0")
     own = {1: front(root, incompat=4 | kind, **says) if "incompat" not in says else front(root, **says), DESCRIPTORS: descriptor, INODES: bytes(7 * 128) + bytes(node)}
     for block, raw in {**own, **more, **dict(laid)}.items():

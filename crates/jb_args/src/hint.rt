@@ -92,8 +92,24 @@ pub enum Hint {
     OwnNone,
     /// A file system's journal is on another device.
     OwnExternal,
-    /// What a file system says of where its journal stands is damaged.
-    OwnDamaged,
+    /// An image has no superblock of a file system.
+    OwnNoSystem,
+    /// A field of a file system's superblock is refused.
+    OwnField,
+    /// A group's descriptor is outside of the file system.
+    OwnDescriptor,
+    /// A group's table of inodes is outside of the file system.
+    OwnTable,
+    /// The inode of a journal is refused.
+    OwnInode,
+    /// The map of a journal's blocks is damaged.
+    OwnMap,
+    /// The superblock's copy of the map has other blocks.
+    OwnDiffers,
+    /// No journal begins at the first block of a journal's file.
+    OwnNoSuper,
+    /// A journal has more blocks than its file.
+    OwnShort,
     /// A journal may not have so many blocks.
     Geometry,
     /// A revoke block is damaged.

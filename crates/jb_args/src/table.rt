@@ -110,9 +110,30 @@ macro_rules! diagnostics {
                 OwnNone, "Own None", "", "the file system has no journal, so there is nothing to recover";
                 OwnExternal, "Own External", "",
                     "the journal is on another device: run e2fsck, or mount the file system; it is as it was";
-                OwnDamaged, "Own ", "WHY",
-                    "the file system does not say where its journal is, or it is damaged there: see the table of faults \
-                     in docs/TEXTS.md; it is as it was; e2fsck on a copy of it tells more, and may delete the journal";
+                OwnNoSystem, "Own NoSystem", "", "the image is no longer a file system of ext2, ext3 or ext4";
+                OwnField, "Own Field ", "NAME #",
+                    "this field of the file system's superblock is damaged: run e2fsck, which may know a copy of the \
+                     superblock; it is as it was";
+                OwnDescriptor, "Own Descriptor ", "#",
+                    "the block with the descriptor of the journal's group is not in the file system: run e2fsck; it is \
+                     as it was";
+                OwnTable, "Own Table ", "#",
+                    "the inodes of the journal's group are not in the file system: run e2fsck; it is as it was";
+                OwnInode, "Own Inode ", "NAME",
+                    "the journal's inode is damaged, and no copy of it serves: e2fsck may delete the journal then; it is \
+                     as it was";
+                OwnMap, "Own Map ", "NAME #",
+                    "the map of the journal's blocks is damaged, and no copy of it serves: e2fsck may delete the journal \
+                     then; it is as it was";
+                OwnDiffers, "Own Differs", "",
+                    "the journal's inode and the superblock's copy of it have other blocks: debugfs -R 'stat <8>' shows \
+                     the inode's; it is as it was";
+                OwnNoSuper, "Own NoSuper ", "#",
+                    "this block is the first of the journal's file, and no journal begins there: e2fsck makes it anew, \
+                     and what it held is lost; it is as it was";
+                OwnShort, "Own Short", "",
+                    "the journal says more blocks than its file has: e2fsck makes it anew, and what it held is lost; it \
+                     is as it was";
                 Geometry, "Geometry", "", "--journal is 9 at least and 2147483647 at most";
                 BadRevoke, "BadRevoke ", "#", "this block of the journal is damaged; the image is as it was";
                 HomeOutOfRange, "HomeOutOfRange ", "# #",

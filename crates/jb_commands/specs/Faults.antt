@@ -147,19 +147,19 @@ extents_hint (extents.Broken place) = hint.ExtentsBroken
 
 -- the same of a file system's own journal that is not found
 abbrev pub own_hint : OwnFault → Hint
-own_hint own.NoSystem = hint.OwnDamaged
+own_hint own.NoSystem = hint.OwnNoSystem
 own_hint own.Device = hint.OwnDevice
 own_hint (own.Feature bits) = hint.OwnFeature
 own_hint own.NoJournal = hint.OwnNone
 own_hint own.External = hint.OwnExternal
-own_hint (own.Field field number) = hint.OwnDamaged
-own_hint (own.Descriptor block) = hint.OwnDamaged
-own_hint (own.Table block) = hint.OwnDamaged
-own_hint (own.Inode fault) = hint.OwnDamaged
-own_hint (own.Map fault) = hint.OwnDamaged
-own_hint own.Differs = hint.OwnDamaged
-own_hint (own.NoSuper block) = hint.OwnDamaged
-own_hint own.Short = hint.OwnDamaged
+own_hint (own.Field field number) = hint.OwnField
+own_hint (own.Descriptor block) = hint.OwnDescriptor
+own_hint (own.Table block) = hint.OwnTable
+own_hint (own.Inode fault) = hint.OwnInode
+own_hint (own.Map fault) = hint.OwnMap
+own_hint own.Differs = hint.OwnDiffers
+own_hint (own.NoSuper block) = hint.OwnNoSuper
+own_hint own.Short = hint.OwnShort
 
 -- what a second line is about after the line of a fault
 abbrev pub hint_of : CommandFault → Hint

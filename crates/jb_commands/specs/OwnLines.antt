@@ -35,22 +35,22 @@ inode_words inode.Large = codes "jb: Own Inode Large"
 
 -- the line of a node of the map, for this place of the journal: the fault's name, the place, and the number that the node has
 abbrev pub node_line : ℕ → NodeFault → List ℕ
-node_line place (node.Magic number) = line_naming (codes "jb: Own Node Magic " ∷ decimal place ∷ codes " " ∷ decimal number ∷ []) None
-node_line place (node.Depth number) = line_naming (codes "jb: Own Node Depth " ∷ decimal place ∷ codes " " ∷ decimal number ∷ []) None
-node_line place (node.Room number) = line_naming (codes "jb: Own Node Room " ∷ decimal place ∷ codes " " ∷ decimal number ∷ []) None
-node_line place (node.Count number) = line_naming (codes "jb: Own Node Count " ∷ decimal place ∷ codes " " ∷ decimal number ∷ []) None
-node_line place node.Empty = line_naming (codes "jb: Own Node Empty " ∷ decimal place ∷ []) None
+node_line place (node.Magic number) = line_naming (codes "jb: Own Map Node Magic " ∷ decimal place ∷ codes " " ∷ decimal number ∷ []) None
+node_line place (node.Depth number) = line_naming (codes "jb: Own Map Node Depth " ∷ decimal place ∷ codes " " ∷ decimal number ∷ []) None
+node_line place (node.Room number) = line_naming (codes "jb: Own Map Node Room " ∷ decimal place ∷ codes " " ∷ decimal number ∷ []) None
+node_line place (node.Count number) = line_naming (codes "jb: Own Map Node Count " ∷ decimal place ∷ codes " " ∷ decimal number ∷ []) None
+node_line place node.Empty = line_naming (codes "jb: Own Map Node Empty " ∷ decimal place ∷ []) None
 
 -- the line of a map of the journal's blocks that is damaged: the fault's name, and a place of the journal; of `Twice` a block of the
 -- image
 abbrev pub map_line : MapFault → List ℕ
 map_line (map.Node place fault) = node_line place fault
-map_line (map.Unwritten place) = line_naming (codes "jb: Own Unwritten " ∷ decimal place ∷ []) None
-map_line (map.Apart place) = line_naming (codes "jb: Own Apart " ∷ decimal place ∷ []) None
-map_line (map.OutOfRange place) = line_naming (codes "jb: Own OutOfRange " ∷ decimal place ∷ []) None
-map_line (map.Hole place) = line_naming (codes "jb: Own Hole " ∷ decimal place ∷ []) None
-map_line (map.Short place) = line_naming (codes "jb: Own Short " ∷ decimal place ∷ []) None
-map_line (map.Twice block) = line_naming (codes "jb: Own Twice " ∷ decimal block ∷ []) None
+map_line (map.Unwritten place) = line_naming (codes "jb: Own Map Unwritten " ∷ decimal place ∷ []) None
+map_line (map.Apart place) = line_naming (codes "jb: Own Map Apart " ∷ decimal place ∷ []) None
+map_line (map.OutOfRange place) = line_naming (codes "jb: Own Map OutOfRange " ∷ decimal place ∷ []) None
+map_line (map.Hole place) = line_naming (codes "jb: Own Map Hole " ∷ decimal place ∷ []) None
+map_line (map.Short place) = line_naming (codes "jb: Own Map Short " ∷ decimal place ∷ []) None
+map_line (map.Twice block) = line_naming (codes "jb: Own Map Twice " ∷ decimal block ∷ []) None
 
 -- the line of a journal that is not found: the fault's name and its number
 abbrev pub own_line : OwnFault → List ℕ

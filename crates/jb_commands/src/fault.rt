@@ -276,10 +276,18 @@ fn own_hint(fault: OwnFault) -> Hint
     ensures { result ≡ own_hint_of fault }
 {
     match fault {
+        OwnFault::NoSystem => Hint::OwnNoSystem,
         OwnFault::Device => Hint::OwnDevice,
         OwnFault::Feature(_) => Hint::OwnFeature,
         OwnFault::NoJournal => Hint::OwnNone,
         OwnFault::External => Hint::OwnExternal,
-        _ => Hint::OwnDamaged,
+        OwnFault::Field(_, _) => Hint::OwnField,
+        OwnFault::Descriptor(_) => Hint::OwnDescriptor,
+        OwnFault::Table(_) => Hint::OwnTable,
+        OwnFault::Inode(_) => Hint::OwnInode,
+        OwnFault::Map(_) => Hint::OwnMap,
+        OwnFault::Differs => Hint::OwnDiffers,
+        OwnFault::NoSuper(_) => Hint::OwnNoSuper,
+        OwnFault::Short => Hint::OwnShort,
     }
 }

@@ -66,12 +66,12 @@ fn words_of_map(fault: MapFault) -> (&'static str, Numbers)
 {
     match fault {
         MapFault::Node(place, fault) => words_of_node(place, fault),
-        MapFault::Unwritten(place) => ("jb: Own Unwritten ", Numbers::One(place)),
-        MapFault::Apart(place) => ("jb: Own Apart ", Numbers::One(place)),
-        MapFault::OutOfRange(place) => ("jb: Own OutOfRange ", Numbers::One(place)),
-        MapFault::Hole(place) => ("jb: Own Hole ", Numbers::One(place)),
-        MapFault::Short(place) => ("jb: Own Short ", Numbers::One(place)),
-        MapFault::Twice(block) => ("jb: Own Twice ", Numbers::One(block)),
+        MapFault::Unwritten(place) => ("jb: Own Map Unwritten ", Numbers::One(place)),
+        MapFault::Apart(place) => ("jb: Own Map Apart ", Numbers::One(place)),
+        MapFault::OutOfRange(place) => ("jb: Own Map OutOfRange ", Numbers::One(place)),
+        MapFault::Hole(place) => ("jb: Own Map Hole ", Numbers::One(place)),
+        MapFault::Short(place) => ("jb: Own Map Short ", Numbers::One(place)),
+        MapFault::Twice(block) => ("jb: Own Map Twice ", Numbers::One(block)),
     }
 }
 
@@ -80,10 +80,10 @@ fn words_of_node(place: u64, fault: NodeFault) -> (&'static str, Numbers)
     ensures { node_line place fault ≡ line_naming (parts_of result.0.now result.1) None }
 {
     match fault {
-        NodeFault::Magic(number) => ("jb: Own Node Magic ", Numbers::Two(place, u64::from(number))),
-        NodeFault::Depth(number) => ("jb: Own Node Depth ", Numbers::Two(place, u64::from(number))),
-        NodeFault::Room(number) => ("jb: Own Node Room ", Numbers::Two(place, u64::from(number))),
-        NodeFault::Count(number) => ("jb: Own Node Count ", Numbers::Two(place, u64::from(number))),
-        NodeFault::Empty => ("jb: Own Node Empty ", Numbers::One(place)),
+        NodeFault::Magic(number) => ("jb: Own Map Node Magic ", Numbers::Two(place, u64::from(number))),
+        NodeFault::Depth(number) => ("jb: Own Map Node Depth ", Numbers::Two(place, u64::from(number))),
+        NodeFault::Room(number) => ("jb: Own Map Node Room ", Numbers::Two(place, u64::from(number))),
+        NodeFault::Count(number) => ("jb: Own Map Node Count ", Numbers::Two(place, u64::from(number))),
+        NodeFault::Empty => ("jb: Own Map Node Empty ", Numbers::One(place)),
     }
 }
