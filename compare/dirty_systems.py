@@ -242,5 +242,8 @@ def make(kind, target, folder):
         errno_put(kind, image + ".crashed")
     if kind.special == "clean copy":
         clean_copy(image + ".crashed")
+    if kind.special == "mmp":
+        # as if nobody else could have it mounted: e2fsck and the kernel need not wait to see
+        run("debugfs", "-w", "-R", "smmp seq 0xff4d4d50", image + ".crashed")
     os.rename(image + ".crashed", target)
     os.unlink(image)

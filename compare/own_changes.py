@@ -1,19 +1,21 @@
-"""Changed and hostile file systems for own_journal.py: a field is set to 0, 1, the most, a neighbour or the block that it
-stands in, or random bytes are changed, in what says where the journal is. `JB recover IMAGE` then does what ext_finder.py and
-jbref_read.py mean of these bytes: it names the fault and writes nothing, or recovers the journal that they find."""
+"""Changed and hostile file systems for own_journal.py, in what says where the journal is.
+
+A field is set to 0, 1, the most, a neighbour or the block that it stands in, or random bytes are changed. `JB recover
+IMAGE` then does what ext_finder.py and jbref_read.py mean of these bytes: it names the fault and writes nothing, or
+recovers the journal that they find."""
 import collections
 
 
 from ext_map import NODE_MAGIC, u16
-from own_image import Image, Recovery, is_meant, limited, put, whole
+from own_image import Image, Recovery, is_meant, put, whole
 
-NAMES = ["ext3-1k", "ext3-4k", "ext3-1k-272-stretches", "ext3-1k-no-backup", "ext4-1k", "ext4-2k-inode-1024", "ext4-4k-64bit",
-         "ext4-1k-depth-1", "ext4-1k-depth-2", "ext4-4k-depth-1", "ext4-4k-no-backup", "ext4-1k-no-flex", "ext4-1k-bigalloc",
-         "ext4-1k-far-inode", "ext4-1k-sparse_super2", "ext4-1k-bigalloc-far"]
+NAMES = ["ext3-1k", "ext3-4k", "ext3-1k-272-stretches", "ext3-1k-no-backup", "ext4-1k", "ext4-2k-inode-1024",
+         "ext4-4k-64bit", "ext4-1k-depth-1", "ext4-1k-depth-2", "ext4-4k-depth-1", "ext4-4k-no-backup",
+         "ext4-1k-no-flex", "ext4-1k-bigalloc", "ext4-1k-far-inode", "ext4-1k-sparse_super2", "ext4-1k-bigalloc-far"]
 # fields: offset and bytes; of the superblock, of a descriptor, of an inode
-SUPER = [(0x0, 4), (0x4, 4), (0x14, 4), (0x18, 4), (0x1C, 4), (0x20, 4), (0x28, 4), (0x38, 2), (0x4C, 4), (0x58, 2), (0x5C, 4),
-         (0x60, 4), (0x64, 4), (0x68, 4), (0xD0, 4), (0xDC, 4), (0xE0, 4), (0xE4, 4), (0xFD, 1), (0xFE, 2), (0x104, 4),
-         (0x148, 4), (0x14C, 4), (0x150, 4), (0x24C, 4), (0x250, 4)] + [(0x10C + at, 4) for at in range(0, 60, 4)]
+SUPER = [(0x0, 4), (0x4, 4), (0x14, 4), (0x18, 4), (0x1C, 4), (0x20, 4), (0x28, 4), (0x38, 2), (0x4C, 4), (0x58, 2),
+         (0x5C, 4), (0x60, 4), (0x64, 4), (0x68, 4), (0xD0, 4), (0xDC, 4), (0xE0, 4), (0xE4, 4), (0xFD, 1), (0xFE, 2),
+         (0x104, 4), (0x150, 4), (0x24C, 4), (0x250, 4)] + [(0x10C + at, 4) for at in range(0, 68, 4)]
 DESCRIPTOR = [(at, 4) for at in range(0, 32, 4)] + [(0x28, 4)]
 INODE = [(0x0, 2), (0x4, 4), (0x1A, 2), (0x20, 4), (0x6C, 4)] + [(0x28 + at, 4) for at in range(0, 60, 4)]
 NODE = [(at, 2) for at in range(0, 8, 2)]
@@ -24,7 +26,7 @@ class Changes:
     """The changes of one file system: in its superblock, in the descriptor, the inode and the nodes of the journal."""
 
     def __init__(self, jb, image):
-        self.words, self.image = [jb, "recover", "changed.img"], image
+        self.jb, self.image = jb, image
         self.data = bytearray(image.data)
         fs = image.fs
         self.size = fs.size
@@ -76,8 +78,9 @@ class Changes:
             base, count = (chance.choice(self.nodes) * self.size, self.size) if name == "node" else self.parts[name]
             wide = chance.choice([1, 2, 4])
             at = base + chance.randrange(0, chance.choice([64, count]) if count > 64 else count, wide)
+            now = int.from_bytes(self.image.data[at:at + wide], "little")
             value = chance.choice([0, 1, 2, 255, chance.randrange(1 << 32), chance.randrange(self.image.fs.blocks),
-                                   int.from_bytes(self.image.data[at:at + wide], "little") ^ 1 << chance.randrange(8 * wide)])
+                                   now ^ 1 << chance.randrange(8 * wide)])
             names.append(name)
             writes.append((at, (value % (1 << 8 * wide)).to_bytes(wide, "little")))
         return "+".join(sorted(set(names))), writes
@@ -94,7 +97,7 @@ class Changes:
         try:
             self.written(writes)
             recovery = Recovery(self.data)
-            ended = limited(self.words)
+            ended = self.jb.run("recover", "changed.img")
             left = whole("changed.img")
             wrong = self.judged(recovery, ended, left)
             if left == self.data:
@@ -139,7 +142,8 @@ def tried(jb, images, chance, count):
             if recovery.fault is not None and not fault.startswith("jb: " + recovery.fault):
                 names += 1
                 if names <= 20:
-                    print("%s, %s %s: %s, and not %s" % (image.name, name, told_of(writes), fault, recovery.fault), flush=True)
+                    print("%s, %s %s: %s, and not %s" % (
+                        image.name, name, told_of(writes), fault, recovery.fault), flush=True)
             if why:
                 wrong += 1
                 if wrong <= 20:

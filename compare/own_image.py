@@ -1,4 +1,6 @@
-"""One dirty file system for own_journal.py: its bytes, its own journal by ext_finder.py, and what its recovery has to leave."""
+"""One dirty file system for own_journal.py: its bytes, its own journal, and what its recovery has to leave."""
+import os
+import shutil
 import struct
 import subprocess
 
@@ -6,7 +8,7 @@ import ext_finder
 from in_place import changed_but, run
 from jbref_read import Refused, Super, replay
 
-SECONDS, MEMORY = 5, 512 << 10  # of one run: the longest, and KiB of address space
+SECONDS = 5  # of one run, the longest
 JOURNAL_ONLY = ["e2fsck", "-E", "journal_only", "-y"]
 # what JB may leave otherwise in the file system's superblock than the log means it: offset and bytes
 JB_FIELDS = {"needs_recovery": (0x60, 4)}
@@ -91,14 +93,22 @@ def is_meant(left, meant, fs):
     return alone and not changed_but(left[1024:2048], meant[1024:2048], JB_FIELDS)
 
 
-def limited(words):
-    """How a run ended: status (None where it took too long), standard output and error; with bounded time and memory."""
-    try:
-        done = subprocess.run(["sh", "-c", 'ulimit -v %d; exec "$0" "$@"' % MEMORY, *words], capture_output=True, text=True,
-                              check=False, timeout=SECONDS, errors="replace")
-        return done.returncode, done.stdout.strip(), done.stderr.strip()
-    except subprocess.TimeoutExpired:
-        return None, "", "no end after %d seconds" % SECONDS
+class Program:
+    """JB, with at most so many KiB of address space, or with any where that is 0."""
+
+    def __init__(self, name, memory):
+        self.name = os.path.realpath(shutil.which(name) or name)
+        limit = "ulimit -v %d; " % memory if memory else ""
+        self.front = ["sh", "-c", limit + 'exec "$0" "$@"', self.name]
+
+    def run(self, *words):
+        """How it ended: status (None where it took too long), standard output and error."""
+        try:
+            done = subprocess.run(self.front + list(words), capture_output=True, text=True, check=False,
+                                  timeout=SECONDS, errors="replace")
+            return done.returncode, done.stdout.strip(), done.stderr.strip()[:200]
+        except subprocess.TimeoutExpired:
+            return None, "", "no end after %d seconds" % SECONDS
 
 
 def whole(name):

@@ -2,17 +2,18 @@
 """own_journal.py JB [OPTION..]: is the journal that JB recovers the file system's own, and no list another's?
 
 ext3 and ext4 file systems of many kinds (dirty_systems.py) are made dirty by the running kernel, and kept in --cache
-FOLDER. Of each, ext_finder.py finds the journal, which has to be as `debugfs bmap` says block by block. Then, in --parts:
-  recover  `JB recover IMAGE` (without --own `JB recover IMAGE --extents LIST`, with the list that debugfs prints) leaves
-           what the log means, by jbref_read.py, but for the named words of the file system's superblock; `e2fsck -E
-           journal_only` leaves the same but for what a line names; after JB it leaves the same as without it. `e2fsck -p`
-           and `e2fsck -fn` then find nothing, and the kernel mounts it, with the same names and bytes in it as after
-           e2fsck. --dry-run changes nothing, a second run nothing more. JB is killed at --kills N of its writes and
-           syncs, and run again: the same.
-  lists    --lists N changed lists over five of them: JB never ends with status 0 and another image (own_lists.py).
-  changes  --changes N file systems with changed fields and random bytes (own_changes.py), with --own alone.
-Needs to be root, with loop devices, e2fsprogs and strace: else it says so, and ends with status 0. Prints a line for each
-file system; the last one has the number of faults."""
+FOLDER. Of each, ext_finder.py finds the journal, which has to be as `debugfs bmap` says block by block. In --parts:
+  recover  `JB recover IMAGE` (without --own `JB recover IMAGE --extents LIST`, with the finder's list) leaves what the
+           log means, by jbref_read.py, but for the named words of the file system's superblock; `e2fsck -E
+           journal_only` leaves the same but for what a line names, and after JB the same as without it. `e2fsck -fn`
+           and `-p` then find nothing, and the kernel mounts it, with the same names and bytes as after e2fsck.
+           --dry-run changes nothing, a second run nothing more. JB is killed at --kills N of its writes and syncs, and
+           run again: the same.
+  lists    --lists N changed lists over some of them: JB never ends with status 0 and another image (own_lists.py).
+  changes  with --own, all fields and --changes N random changes of some of them (own_changes.py).
+A run of JB may take five seconds and --memory KiB (0: any). Of --names a,b only these; ext4-4k-mmp, over which e2fsck
+waits for two minutes, only so. Needs to be root, with loop devices, e2fsprogs and strace: else it says `skipped`, and
+ends with status 0. Prints a line for each file system; the last line has the number of faults."""
 import argparse
 import hashlib
 import os
@@ -31,11 +32,15 @@ import own_changes
 import own_lists
 from ext_finder import RECOVER, listed
 from in_place import changed_but, run
-from own_image import JOURNAL_ONLY, Image, blocks_differing, is_meant, limited, whole
+from own_image import JOURNAL_ONLY, Image, Program, blocks_differing, is_meant, whole
 
 # what e2fsck writes besides in_place.FIELDS in the file system's superblock, of some kinds
 MORE = {"errno": {"s_state": (0x3A, 2)}, "no backup": {"s_jnl_backup_type": (0xFD, 1), "s_jnl_blocks": (0x10C, 68)}}
 CLEANED = {"s_sequence": (0x18, 4), "s_start": (0x1C, 4), "s_errno": (0x20, 4)}
+
+
+def recover_words(name, image, own):
+    return ["recover", name] + ([] if own else ["--extents", listed(image.recovery.stretches)])
 
 
 class Trial(in_place.Trial):
@@ -45,7 +50,7 @@ class Trial(in_place.Trial):
         self.image, self.chance, self.kills, self.faults, self.told = image, chance, kills, [], []
         self.size, self.meant = image.size, image.meant
         self.log = image.recovery.places[0]
-        self.words = [jb, "recover", "jb.img"] + ([] if own else ["--extents", listed(image.recovery.stretches)])
+        self.jb, self.words = jb, recover_words("jb.img", image, own)
         self.fields = dict(in_place.FIELDS, **MORE.get(image.kind.special, {}))
 
     def new_jb(self):
@@ -64,14 +69,14 @@ class Trial(in_place.Trial):
     def recovered(self):
         recovery = self.image.recovery
         self.new_jb()
-        status, line, fault = limited(self.words + ["--dry-run"])
+        status, line, fault = self.jb.run(*self.words, "--dry-run")
         self.expect("--dry-run: %s %s %s" % (status, line, fault), (status, line) == (0, recovery.line))
         self.expect("--dry-run changes blocks", whole("jb.img") == self.image.data)
-        status, line, fault = limited(self.words)
+        status, line, fault = self.jb.run(*self.words)
         self.expect("JB: %s %s %s" % (status, line, fault), (status, line) == (0, recovery.line))
         self.left = whole("jb.img")
         self.as_meant(self.left, "JB")
-        status, line, fault = limited(self.words)
+        status, line, fault = self.jb.run(*self.words)
         again = "transactions 0 copies 0 revoked 0 next " + recovery.line.split()[-1]
         self.expect("again: %s %s %s" % (status, line, fault), (status, line) == (0, again))
         self.expect("a second run changes blocks", whole("jb.img") == self.left)
@@ -99,20 +104,19 @@ class Trial(in_place.Trial):
         self.expect("e2fsck after JB: %s" % other[:9], not other or self.image.kind.special in ("mmp", "dot"))
 
     def writes_more(self):
-        """Whether e2fsck does more than to recover: it empties the list of orphans, makes .journal inode 8 and the backup
-        of its map, claims a file system with mmp, and writes all descriptors of meta_bg."""
+        """Whether e2fsck does more than to recover: it empties the list of orphans, makes .journal inode 8, makes the
+        backup of the map, claims a file system with mmp, and writes all descriptors of meta_bg."""
         kind = self.image.kind
         return kind.special in ("orphans", "dot", "mmp", "no backup") or "meta_bg" in kind.features
 
     def sound(self):
         """e2fsck -fn and -p on JB's image, and what the kernel finds in it."""
-        told = subprocess.run(["e2fsck", "-fn", "jb.img"], capture_output=True, text=True, check=False)
-        preened = subprocess.run(["e2fsck", "-p", self.image_of("preen.img")], capture_output=True, text=True, check=False)
-        after = subprocess.run(["e2fsck", "-fn", "preen.img"], capture_output=True, text=True, check=False)
         wanted = 4 if self.image.kind.special == "orphans" else 0
-        self.expect("e2fsck -fn %d: %s" % (told.returncode, told.stdout[-300:]), told.returncode == wanted)
-        self.expect("e2fsck -p %d: %s" % (preened.returncode, preened.stdout[-300:]), preened.returncode in (0, 1))
-        self.expect("e2fsck -fn after -p %d: %s" % (after.returncode, after.stdout[-300:]), after.returncode == 0)
+        self.image_of("preen.img")
+        for option, name, statuses in (("-fn", "jb.img", (wanted,)), ("-p", "preen.img", (0, 1)), ("-fn", "preen.img", (0,))):
+            ended = subprocess.run(["e2fsck", option, name], capture_output=True, text=True, check=False)
+            told = "e2fsck %s %s: %d: %s" % (option, name, ended.returncode, ended.stdout[-300:])
+            self.expect(told, ended.returncode in statuses)
         mine, theirs = mounted(self.image_of("mounted.img")), mounted("e2fsck.img")
         self.expect("the kernel finds other names or bytes", mine == theirs and len(mine) > 20)
         return len(mine)
@@ -127,7 +131,7 @@ class Trial(in_place.Trial):
         if not self.faults:
             self.beside()
             names = self.sound()
-            calls = self.killed(self.new_jb, self.words, self.check_jb) if self.kills else 0
+            calls = self.killed(self.new_jb, [self.jb.name] + self.words, self.check_jb) if self.kills else 0
         recovery = self.image.recovery
         print("%s, %d stretches by the %s: %s; %d names%s; killed at %d of %d calls: %s" % (
             self.image.name, len(recovery.stretches), recovery.by, recovery.line, names,
@@ -158,7 +162,7 @@ def images_of(cache, names):
     os.makedirs(cache, exist_ok=True)
     for kind in dirty_systems.KINDS:
         path = os.path.join(cache, kind.name + ".img")
-        if names and kind.name not in names:
+        if kind.name not in names if names else kind.special == "mmp":
             continue
         if not os.path.exists(path):
             with tempfile.TemporaryDirectory(dir=cache) as folder:
@@ -182,8 +186,7 @@ def recovered(jb, image, chance, given):
         return True
     if image.recovery.fault is None:
         return Trial(jb, image, chance, given.kills, given.own).all()
-    words = [jb, "recover", image.new("jb.img")] + ([] if given.own else ["--extents", listed(image.recovery.stretches)])
-    ended = limited(words)
+    ended = jb.run(*recover_words(image.new("jb.img"), image, given.own))
     is_right = ended == (1, "", "jb: " + image.recovery.fault) and whole("jb.img") == image.data
     print("%s: %s%s" % (image.name, ended[2] or ended[1], "" if is_right else ": WRONG"), flush=True)
     return not is_right
@@ -196,14 +199,14 @@ def main():
     given.add_argument("--own", action="store_true")
     given.add_argument("--parts", default="recover,lists,changes")
     given.add_argument("--names", default="")
-    for name, usual in (("lists", 1000), ("changes", 10000), ("kills", 12), ("seed", 0)):
+    for name, usual in (("lists", 1000), ("changes", 10000), ("kills", 12), ("seed", 0), ("memory", 512 << 10)):
         given.add_argument("--" + name, type=int, default=usual)
     given = given.parse_args()
     absent = dirty_systems.missing() or (None if shutil.which("strace") else "strace not installed")
     if absent:
         print("skipped: %s" % absent)
         return 0
-    jb, chance, wrong, begin = os.path.realpath(shutil.which(given.jb) or given.jb), random.Random(given.seed), 0, time.time()
+    jb, chance, wrong, begin = Program(given.jb, given.memory), random.Random(given.seed), 0, time.time()
     memory = "/dev/shm" if os.access("/dev/shm", os.W_OK) else None
     with tempfile.TemporaryDirectory(dir=memory) as folder:
         cache = os.path.abspath(given.cache or os.path.join(folder, "cache"))

@@ -1,11 +1,11 @@
 """Changed lists of a journal's blocks, for own_journal.py: a list is taken where it is the right one, and else refused.
 
-A list is made of the right one's stretches, changed in one of the ways below, and written as debugfs prints it or as plain
-numbers, with white space of any kind between the words."""
+A list is made of the right one's stretches, changed in one of the ways below, and written as debugfs prints it or as
+plain numbers, with white space of any kind between the words."""
 import collections
 
 from ext_finder import places_of
-from own_image import Image, is_meant, limited, whole
+from own_image import Image, is_meant, whole
 
 NAMES = ["ext3-1k", "ext3-4k", "ext3-1k-272-stretches", "ext4-1k-depth-1", "ext4-1k-depth-2", "ext4-4k-depth-1",
          "ext4-1k-meta_bg", "ext4-4k-64bit"]
@@ -98,11 +98,12 @@ def same(*_):
     pass
 
 
-WAYS = [shifted, shortened, lengthened, moved, swapped, missing, twice, hull, ended, more, turned, other_blocks, parted, same]
+WAYS = [shifted, shortened, lengthened, moved, swapped, missing, twice, hull, ended, more, turned, other_blocks, parted,
+        same]
 
 
 def written(chance, own, nodes):
-    """The text of a list: as debugfs prints it, as plain numbers, or the two mixed, with the map's blocks by their names."""
+    """The words of a list: as debugfs prints it, as plain numbers, or mixed, with the map's blocks or without."""
     words, at = [], 0
     numbered = chance.choice([1.0, 0.0, 0.5])
     for low, count in own:
@@ -148,7 +149,7 @@ class Lists:
             own, name = mixed(chance, words, own, self.nodes), "map's blocks"
         text = joined(chance, words)
         is_right = places_of(own) == self.image.recovery.places
-        status, line, fault = limited([self.jb, "recover", "lists.img", "--extents", text])
+        status, line, fault = self.jb.run("recover", "lists.img", "--extents", text)
         left = whole("lists.img")
         if status == 0:
             wrong = not is_meant(left, self.image.meant, self.image.fs) or line != self.image.recovery.line
@@ -157,22 +158,25 @@ class Lists:
         if left != self.image.data:
             self.image.new("lists.img")
         answer = "taken" if status == 0 else " ".join(fault.split()[1:3])
-        return ("the right list: " if is_right else "") + name, answer, (text[:300], status, line, fault) if wrong else None
+        fault = "%r: %s %s %s" % (text[:200], status, line, fault)
+        return ("the right list: " if is_right else "") + name, answer, fault if wrong else None
 
 
 def tried(jb, images, chance, count):
     """So many lists over the file systems; how many are answered wrongly."""
     lists = [Lists(jb, Image(*one)) for one in images if one[0].name in NAMES]
-    answers, wrong = collections.defaultdict(collections.Counter), 0
+    answers, lost, refused = collections.defaultdict(collections.Counter), 0, 0
     for part, each in enumerate(lists):
         each.image.new("lists.img")
         for i in range(part, count, len(lists)):
             name, answer, fault = each.tried(chance, WAYS[i // len(lists) % len(WAYS)])
             answers[name][answer] += 1
-            wrong += fault is not None
-            if fault and wrong <= 20:
+            lost += fault is not None and answer == "taken"
+            refused += fault is not None and answer != "taken"
+            if fault and lost + refused <= 20:
                 print("%s, %s: WRONG: %s" % (each.image.name, name, fault), flush=True)
     for name, counted in sorted(answers.items()):
         print("lists, %s: %s" % (name, ", ".join("%s %d" % one for one in counted.most_common())), flush=True)
-    print("%d changed lists over %d file systems, %d wrong" % (count, len(lists), wrong), flush=True)
-    return wrong
+    print("%d changed lists over %d file systems: %d taken with another image, %d refused wrongly" % (
+        count, len(lists), lost, refused), flush=True)
+    return lost + refused
