@@ -4,9 +4,10 @@ A field is set to 0, 1, the most, a neighbour or the block that it stands in, or
 IMAGE` then does what ext_finder.py and jbref_read.py mean of these bytes: it names the fault and writes nothing, or
 recovers the journal that they find."""
 import collections
+import struct
 
-
-from ext_map import NODE_MAGIC, u16
+from ext_map import DEEPEST, NODE_MAGIC, u16
+from in_place import run
 from own_image import Image, Recovery, is_meant, put, whole
 
 NAMES = ["ext3-1k", "ext3-4k", "ext3-1k-272-stretches", "ext3-1k-no-backup", "ext4-1k", "ext4-2k-inode-1024",
@@ -85,6 +86,34 @@ class Changes:
             writes.append((at, (value % (1 << 8 * wide)).to_bytes(wide, "little")))
         return "+".join(sorted(set(names))), writes
 
+    def crafted(self):
+        """Nodes that lead to themselves or to each other, and the highest tree that is right."""
+        at, room = self.parts["inode"][0] + 0x28, (self.size - 12) // 12
+        if not self.is_tree:
+            for word, node in enumerate(self.nodes[:3]):
+                full = [(node * self.size, struct.pack("<I", node) * (self.size // 4))]
+                yield "itself", full
+                yield "itself", full + [(at + 48 + 4 * word, struct.pack("<I", node))]
+            return
+        for node in self.nodes[:2]:
+            height = u16(self.image.data, node * self.size + 6)
+            yield "itself", [(node * self.size, node_of(height, [(i, node, 1) for i in range(room)], room))]
+        told = run("debugfs", "-R", "ffb %d" % DEEPEST, self.image.path)
+        free = [int(word) for word in told.split() if word.isdigit()]
+        for many in (1, room) if len(free) == DEEPEST else ():
+            nodes = [node_of(0, self.leaves()[:room], room)]
+            nodes += [node_of(height, [(i, free[height - 1], 1) for i in range(many)], room) for height in range(1, DEEPEST)]
+            root = node_of(DEEPEST, [(0, free[-1], 1)], 4)
+            yield "highest", [(at, root)] + [(block * self.size, node) for block, node in zip(free, nodes)]
+
+    def leaves(self):
+        """The entries of the stretches."""
+        found, first = [], 0
+        for low, count in self.image.recovery.stretches:
+            found.append((first, low, count))
+            first += count
+        return found
+
     def written(self, writes):
         with open("changed.img", "r+b") as file:
             for at, new in writes:
@@ -122,8 +151,17 @@ class Changes:
         return "something is written" if left != self.data else None
 
 
+def node_of(height, entries, most):
+    """A node of a tree with these entries: place, block, and in a leaf how many."""
+    node = struct.pack("<4HI", NODE_MAGIC, len(entries), most, height, 0)
+    for first, low, count in entries:
+        leaf, index = struct.pack("<IHHI", first, count, 0, low), struct.pack("<IIHH", first, low, 0, 0)
+        node += index if height else leaf
+    return node
+
+
 def told_of(writes):
-    return ", ".join("%d: %s" % (at, new.hex()) for at, new in writes)
+    return ", ".join("%d: %s" % (at, new[:8].hex()) for at, new in writes)
 
 
 def tried(jb, images, chance, count):
@@ -135,7 +173,7 @@ def tried(jb, images, chance, count):
         changes = Changes(jb, image)
         image.new("changed.img")
         hers = [changes.random(chance) for _ in range(count // len(chosen))]
-        for name, writes in list(changes.systematic()) + hers:
+        for name, writes in list(changes.crafted()) + list(changes.systematic()) + hers:
             recovery, (status, line, fault), why = changes.tried(writes)
             done += 1
             answers[recovery.by if recovery.fault is None else " ".join(recovery.fault.split()[:2])] += 1

@@ -48,8 +48,6 @@ class Recovery:
 
     def guarded(self, sup):
         """What is asked of a journal beside a file system."""
-        if sup.bs != self.fs.size:
-            raise Refused("FileSystem BlockSize %d" % self.fs.size)
         if sup.start and any(sup.uuid) and sup.uuid != self.fs.raw[0x68:0x78]:
             raise Refused("FileSystem Uuid")
         self.perhaps = bool(sup.start) and not self.fs.needs_recovery

@@ -113,7 +113,8 @@ class Trial(in_place.Trial):
         """e2fsck -fn and -p on JB's image, and what the kernel finds in it."""
         wanted = 4 if self.image.kind.special == "orphans" else 0
         self.image_of("preen.img")
-        for option, name, statuses in (("-fn", "jb.img", (wanted,)), ("-p", "preen.img", (0, 1)), ("-fn", "preen.img", (0,))):
+        for option, name, statuses in (("-fn", "jb.img", (wanted,)), ("-p", "preen.img", (0, 1)),
+                                       ("-fn", "preen.img", (0,))):
             ended = subprocess.run(["e2fsck", option, name], capture_output=True, text=True, check=False)
             told = "e2fsck %s %s: %d: %s" % (option, name, ended.returncode, ended.stdout[-300:])
             self.expect(told, ended.returncode in statuses)
