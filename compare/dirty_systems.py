@@ -66,7 +66,6 @@ KINDS = [
     Kind("ext4-4k-many-features", "ext4", 4096, 32, "inline_data,ea_inode,large_dir,encrypt"),
     Kind("ext4-4k-fast_commit", "ext4", 4096, 32, "fast_commit", special="fast_commit"),
 ]
-BY_NAME = {kind.name: kind for kind in KINDS}
 
 
 def missing():

@@ -88,12 +88,12 @@ class Changes:
 
     def crafted(self):
         """Nodes that lead to themselves or to each other, and the highest tree that is right."""
-        at, room = self.parts["inode"][0] + 0x28, (self.size - 12) // 12
+        map_at, room = self.parts["inode"][0] + 0x28, (self.size - 12) // 12
         if not self.is_tree:
             for word, node in enumerate(self.nodes[:3]):
                 full = [(node * self.size, struct.pack("<I", node) * (self.size // 4))]
                 yield "itself", full
-                yield "itself", full + [(at + 48 + 4 * word, struct.pack("<I", node))]
+                yield "itself", full + [(map_at + 48 + 4 * word, struct.pack("<I", node))]
             return
         for node in self.nodes[:2]:
             height = u16(self.image.data, node * self.size + 6)
@@ -102,9 +102,9 @@ class Changes:
         free = [int(word) for word in told.split() if word.isdigit()]
         for many in (1, room) if len(free) == DEEPEST else ():
             nodes = [node_of(0, self.leaves()[:room], room)]
-            nodes += [node_of(height, [(i, free[height - 1], 1) for i in range(many)], room) for height in range(1, DEEPEST)]
+            nodes += [node_of(i + 1, [(at, free[i], 1) for at in range(many)], room) for i in range(DEEPEST - 1)]
             root = node_of(DEEPEST, [(0, free[-1], 1)], 4)
-            yield "highest", [(at, root)] + [(block * self.size, node) for block, node in zip(free, nodes)]
+            yield "highest", [(map_at, root)] + [(block * self.size, node) for block, node in zip(free, nodes)]
 
     def leaves(self):
         """The entries of the stretches."""

@@ -24,6 +24,7 @@ import subprocess
 import sys
 import tempfile
 import time
+import zlib
 
 sys.dont_write_bytecode = True
 import dirty_systems
@@ -162,7 +163,7 @@ def images_of(cache, names):
     """The dirty file systems, made where the cache has them not."""
     os.makedirs(cache, exist_ok=True)
     for kind in dirty_systems.KINDS:
-        path = os.path.join(cache, kind.name + ".img")
+        path = os.path.join(cache, "%s-%08x.img" % (kind.name, zlib.crc32(repr(sorted(vars(kind).items())).encode())))
         if kind.name not in names if names else kind.special == "mmp":
             continue
         if not os.path.exists(path):
