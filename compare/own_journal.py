@@ -9,7 +9,8 @@ FOLDER. Of each, ext_finder.py finds the journal, which has to be as `debugfs bm
            and `-p` then find nothing, and the kernel mounts it, with the same names and bytes as after e2fsck.
            --dry-run changes nothing, a second run nothing more. JB is killed at --kills N of its writes and syncs, and
            run again: the same.
-  lists    --lists N changed lists over some of them: JB never ends with status 0 and another image (own_lists.py).
+  lists    --lists N changed lists over some of them: JB never ends with status 0 and another image (own_lists.py);
+           with --own it takes no other list than the right one.
   changes  with --own, all fields and --changes N random changes of some of them (own_changes.py).
 A run of JB may take five seconds and --memory KiB (0: any). Of --names a,b only these; ext4-4k-mmp, over which e2fsck
 waits for two minutes, only so. Needs to be root, with loop devices, e2fsprogs and strace: else it says `skipped`, and
@@ -219,7 +220,7 @@ def main():
             if "recover" in given.parts:
                 wrong += sum(recovered(jb, image, chance, given) for image in images)
             if "lists" in given.parts:
-                wrong += own_lists.tried(jb, images, chance, given.lists)
+                wrong += own_lists.tried(jb, images, chance, given.lists, given.own)
             if "changes" in given.parts and given.own:
                 wrong += own_changes.tried(jb, images, chance, given.changes)
         finally:

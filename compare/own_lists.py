@@ -135,8 +135,8 @@ def joined(chance, words):
 class Lists:
     """The lists of one file system."""
 
-    def __init__(self, jb, image):
-        self.jb, self.image = jb, image
+    def __init__(self, jb, image, own):
+        self.jb, self.image, self.own = jb, image, own
         self.nodes = [tuple(word[1:].split("):")) for word in image.words() if not word[1].isdigit()]
         image.new("lists.img")
 
@@ -153,6 +153,7 @@ class Lists:
         left = whole("lists.img")
         if status == 0:
             wrong = not is_meant(left, self.image.meant, self.image.fs) or line != self.image.recovery.line
+            wrong = wrong or (self.own and not is_right)
         else:
             wrong = left != self.image.data or not fault.startswith("jb: ") or is_right
         if left != self.image.data:
@@ -162,9 +163,10 @@ class Lists:
         return ("the right list: " if is_right else "") + name, answer, fault if wrong else None
 
 
-def tried(jb, images, chance, count):
-    """So many lists over the file systems; how many are answered wrongly."""
-    lists = [Lists(jb, Image(*one)) for one in images if one[0].name in NAMES]
+def tried(jb, images, chance, count, own):
+    """So many lists over the file systems; how many are answered wrongly. A JB that finds the journal itself (`own`) has
+    to refuse all but the right list; another those with which it leaves another image."""
+    lists = [Lists(jb, Image(*one), own) for one in images if one[0].name in NAMES]
     answers, lost, refused = collections.defaultdict(collections.Counter), 0, 0
     for part, each in enumerate(lists):
         each.image.new("lists.img")
@@ -177,6 +179,6 @@ def tried(jb, images, chance, count):
                 print("%s, %s: WRONG: %s" % (each.image.name, name, fault), flush=True)
     for name, counted in sorted(answers.items()):
         print("lists, %s: %s" % (name, ", ".join("%s %d" % one for one in counted.most_common())), flush=True)
-    print("%d changed lists over %d file systems: %d taken with another image, %d refused wrongly" % (
+    print("%d changed lists over %d file systems: %d taken wrongly, %d refused wrongly" % (
         count, len(lists), lost, refused), flush=True)
     return lost + refused
