@@ -164,7 +164,7 @@ class Lists:
 
 
 def tried(jb, images, chance, count, own):
-    """So many lists over the file systems; how many are answered wrongly. A JB that finds the journal itself (`own`) has
+    """So many lists over the file systems; how many are answered wrongly. A JB that finds the journal (`own`) has
     to refuse all but the right list; another those with which it leaves another image."""
     lists = [Lists(jb, Image(*one), own) for one in images if one[0].name in NAMES]
     answers, lost, refused = collections.defaultdict(collections.Counter), 0, 0
