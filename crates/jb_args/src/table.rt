@@ -65,9 +65,9 @@ macro_rules! diagnostics {
                     "the journal is that of another file system, or tune2fs -U has changed the UUID since: recover \
                      --force writes to it then; it is as it was";
                 FileSystemClean, "FileSystem Clean", "",
-                    "the file system needs no recovery (needs_recovery is clear), so the journal is an old copy, or the \
-                     kernel would not read what is loaded into it; it is as it was; recover --force writes to it all \
-                     the same";
+                    "the file system needs no recovery (needs_recovery is clear), so the journal is an old copy, or \
+                     the kernel would not read what is loaded into it; it is as it was; recover --force writes to it \
+                     all the same";
                 FileSystemNewer, "FileSystem Newer", "",
                     "the file system was mounted after the last commit of the journal, so that is an old copy: copy \
                      it out again; it is as it was; recover --force writes to it all the same, as where a clock was \
@@ -120,20 +120,20 @@ macro_rules! diagnostics {
                 OwnTable, "Own Table ", "#",
                     "the inodes of the journal's group are not in the file system: run e2fsck; it is as it was";
                 OwnInode, "Own Inode ", "NAME",
-                    "the journal's inode is damaged, and no copy of it serves: e2fsck may delete the journal then; it is \
-                     as it was";
+                    "the journal's inode is damaged, and no copy of it serves: e2fsck may delete the journal then; it \
+                     is as it was";
                 OwnMap, "Own Map ", "NAME #",
-                    "the map of the journal's blocks is damaged, and no copy of it serves: e2fsck may delete the journal \
-                     then; it is as it was";
+                    "the map of the journal's blocks is damaged, and no copy of it serves: e2fsck may delete the \
+                     journal then; it is as it was";
                 OwnDiffers, "Own Differs", "",
-                    "the journal's inode and the superblock's copy of it have other blocks: debugfs -R 'stat <8>' shows \
-                     the inode's; it is as it was";
+                    "the journal's inode and the superblock's copy of it have other blocks: debugfs -R 'stat <8>' \
+                     shows the inode's; it is as it was";
                 OwnNoSuper, "Own NoSuper ", "#",
                     "this block is the first of the journal's file, and no journal begins there: e2fsck makes it anew, \
                      and what it held is lost; it is as it was";
                 OwnShort, "Own Short", "",
-                    "the journal says more blocks than its file has: e2fsck makes it anew, and what it held is lost; it \
-                     is as it was";
+                    "the journal says more blocks than its file has: e2fsck makes it anew, and what it held is lost; \
+                     it is as it was";
                 Geometry, "Geometry", "", "--journal is 9 at least and 2147483647 at most";
                 BadRevoke, "BadRevoke ", "#", "this block of the journal is damaged; the image is as it was";
                 HomeOutOfRange, "HomeOutOfRange ", "# #",

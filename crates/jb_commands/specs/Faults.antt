@@ -21,7 +21,7 @@ use Rattle.jb_recover.specs.declared.fault.RecoverFault.TheVariants as recoverin
 use Rattle.jb_super.specs.declared.fault.SuperFault.{SuperFault}
 use Rattle.jb_super.specs.declared.fault.SuperFault.TheVariants as super
 use Rattle.jb_commands.specs.Lines.{Names, image_named, journal_named, line_naming}
-use Rattle.jb_commands.specs.OwnLines.{own_line}
+use Rattle.jb_commands.specs.OwnLines.{own_fault_line}
 use Rattle.jb_commands.specs.declared.fault.CommandFault.{CommandFault}
 use Rattle.jb_commands.specs.declared.fault.CommandFault.TheVariants.{CannotRead, InUse, MountsUnknown, NoLinks, SameFile, CannotMake, BadOption, TooLong, ReadFault, Super, JournalLength, FileSystem, Extents, BadRevoke, HomeOutOfRange, NoHome, NeedsRecovery, NumbersSpent, BlockSize, Accounts, Geometry, DeviceFault, Memory, WriteFault}
 use Rattle.jb_commands.specs.declared.fault.CommandFault.TheVariants.{CannotRead, InUse, SameFile, CannotMake, BadOption, TooLong, ReadFault, Super, JournalLength, FileSystem, Extents, Own, BadRevoke, HomeOutOfRange, NoHome, NeedsRecovery, NumbersSpent, BlockSize, Accounts, Geometry, DeviceFault, Memory, WriteFault}
@@ -101,7 +101,7 @@ line_of names (JournalLength blocks maxlen) =
     line_naming (codes "jb: JournalLength " ∷ decimal blocks ∷ codes " " ∷ decimal maxlen ∷ []) (journal_named names)
 line_of names (FileSystem fault) = system_line (image_named names) fault
 line_of names (Extents fault) = extents_line fault
-line_of names (Own fault) = own_line fault
+line_of names (Own fault) = own_fault_line fault
 line_of names (BadRevoke place) = line_naming (codes "jb: BadRevoke " ∷ decimal place ∷ []) (journal_named names)
 line_of names (HomeOutOfRange home number homes) =
     line_naming (codes "jb: HomeOutOfRange " ∷ decimal home ∷ codes " " ∷ decimal number ∷ []) (image_named names)

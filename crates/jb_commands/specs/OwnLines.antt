@@ -53,17 +53,17 @@ map_line (map.Short place) = line_naming (codes "jb: Own Map Short " ∷ decimal
 map_line (map.Twice block) = line_naming (codes "jb: Own Map Twice " ∷ decimal block ∷ []) None
 
 -- the line of a journal that is not found: the fault's name and its number
-abbrev pub own_line : OwnFault → List ℕ
-own_line own.NoSystem = line_naming (codes "jb: Own NoSystem" ∷ []) None
-own_line own.Device = line_naming (codes "jb: Own Device" ∷ []) None
-own_line (own.Feature bits) = line_naming (codes "jb: Own Feature " ∷ decimal bits ∷ []) None
-own_line own.NoJournal = line_naming (codes "jb: Own None" ∷ []) None
-own_line own.External = line_naming (codes "jb: Own External" ∷ []) None
-own_line (own.Field field number) = line_naming (field_words field ∷ decimal number ∷ []) None
-own_line (own.Descriptor block) = line_naming (codes "jb: Own Descriptor " ∷ decimal block ∷ []) None
-own_line (own.Table block) = line_naming (codes "jb: Own Table " ∷ decimal block ∷ []) None
-own_line (own.Inode fault) = line_naming (inode_words fault ∷ []) None
-own_line (own.Map fault) = map_line fault
-own_line own.Differs = line_naming (codes "jb: Own Differs" ∷ []) None
-own_line (own.NoSuper block) = line_naming (codes "jb: Own NoSuper " ∷ decimal block ∷ []) None
-own_line own.Short = line_naming (codes "jb: Own Short" ∷ []) None
+abbrev pub own_fault_line : OwnFault → List ℕ
+own_fault_line own.NoSystem = line_naming (codes "jb: Own NoSystem" ∷ []) None
+own_fault_line own.Device = line_naming (codes "jb: Own Device" ∷ []) None
+own_fault_line (own.Feature bits) = line_naming (codes "jb: Own Feature " ∷ decimal bits ∷ []) None
+own_fault_line own.NoJournal = line_naming (codes "jb: Own None" ∷ []) None
+own_fault_line own.External = line_naming (codes "jb: Own External" ∷ []) None
+own_fault_line (own.Field field number) = line_naming (field_words field ∷ decimal number ∷ []) None
+own_fault_line (own.Descriptor block) = line_naming (codes "jb: Own Descriptor " ∷ decimal block ∷ []) None
+own_fault_line (own.Table block) = line_naming (codes "jb: Own Table " ∷ decimal block ∷ []) None
+own_fault_line (own.Inode fault) = line_naming (inode_words fault ∷ []) None
+own_fault_line (own.Map fault) = map_line fault
+own_fault_line own.Differs = line_naming (codes "jb: Own Differs" ∷ []) None
+own_fault_line (own.NoSuper block) = line_naming (codes "jb: Own NoSuper " ∷ decimal block ∷ []) None
+own_fault_line own.Short = line_naming (codes "jb: Own Short" ∷ []) None

@@ -1,5 +1,6 @@
 ghost use Rattle.std.specs.Prelude.{◌≡◌};
-ghost use Rattle.jb_commands.specs.Faults.{extents_hint as extents_hint_of, own_hint as own_hint_of, super_hint as super_hint_of};
+ghost use Rattle.jb_commands.specs.Faults.{extents_hint as extents_hint_of, own_hint as own_hint_of};
+ghost use Rattle.jb_commands.specs.Faults.{super_hint as super_hint_of};
 ghost use Rattle.jb_commands.specs.Faults.{system_hint as system_hint_of};
 
 use jb_args::{Hint, OptionName};

@@ -6,7 +6,8 @@ use Rattle.std.proofs.lemmas.Bool.Decides.{nat_tests}
 use Rattle.std.proofs.lemmas.List.Elements.{All-cons, All-head, All-nil, All-tail}
 use Rattle.std.proofs.lemmas.Option.{none-some, same_Some}
 use Rattle.jb_map.specs.Blocks.{extent_count}
-use Rattle.jb_image.specs.Lists.{AreForward, attached, extents_count_from, is_attached}
+use Rattle.jb_image.specs.Lists.{attached, extents_count_from, is_attached}
+use Rattle.jb_map.specs.Twice.{AreForward}
 use Rattle.jb_map.specs.declared.extent.Extent.{Extent}
 
 -- what the last of others decides

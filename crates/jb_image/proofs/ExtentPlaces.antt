@@ -10,7 +10,8 @@ use Rattle.jb_disk.specs.Time.{Goes}
 use Rattle.jb_disk.specs.declared.disk.Disk.{Ghosts}
 use Rattle.jb_map.specs.Blocks.{extent_count}
 use Rattle.jb_image.specs.Disks.{at_block, spread_count, whole_disk}
-use Rattle.jb_image.specs.Lists.{AreDisjoint, AreForward, holds_in, list_of, place_within, times}
+use Rattle.jb_image.specs.Lists.{AreDisjoint, holds_in, list_of, place_within, times}
+use Rattle.jb_map.specs.Twice.{AreForward}
 use Rattle.jb_image.specs.ExtentImage.{AreApart, at_block-is, block_given, block-spread, length-spread, spread, within, WithinLeaves, WithinLeft}
 use Rattle.jb_image.specs.declared.extents_disk.ExtentsDisk.{ExtentsDisk}
 use Rattle.jb_map.specs.declared.extent.Extent.{Extent}

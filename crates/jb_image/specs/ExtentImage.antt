@@ -9,7 +9,8 @@ use Rattle.std.proofs.lemmas.Option.{cond_some, none-some, option_and_then_some}
 use Rattle.jb_disk.specs.Image.{Image, block, HasShape}
 use Rattle.jb_disk.specs.declared.disk.Disk.{Ghosts}
 use Rattle.jb_image.specs.Disks.{at_block, extents_of, in_image, journal_blocks, spread_count, whole_disk}
-use Rattle.jb_image.specs.Lists.{AreDisjoint, AreForward, holds_in, list_of, place_within}
+use Rattle.jb_image.specs.Lists.{AreDisjoint, holds_in, list_of, place_within}
+use Rattle.jb_map.specs.Twice.{AreForward}
 use Rattle.jb_image.specs.declared.extents_disk.ExtentsDisk.{ExtentsDisk}
 use Rattle.jb_map.specs.declared.extent.Extent.{Extent}
 use Rattle.jb_image.specs.declared.extents.Extents.{Extents}

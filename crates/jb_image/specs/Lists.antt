@@ -76,10 +76,6 @@ abbrev pub past_in : ℕ → List Extent → Option ℕ
 past_in count [] = None
 past_in count (e ∷ es) = if nat_lt e.last count then past_in count es else Some e.last
 
--- none of them ends before it begins
-abbrev pub AreForward : List Extent → Type 0
-AreForward es = All (λ e. e.first ≤ e.last) es
-
 -- an extent goes on where the last of others ends
 abbrev pub is_attached : List Extent → Extent → Bool
 is_attached [] e = false

@@ -1,6 +1,7 @@
 ghost use Rattle.std.specs.Prelude.{◌≡◌, ◌∷◌, ◌<◌, false, IfErr, IfOk, IfSome, OnOk, length};
 ghost use Rattle.std.specs.Option.{option_copied};
-ghost use Rattle.jb_image.specs.Lists.{AreForward, attached, extents_count, follows_at, is_attached};
+ghost use Rattle.jb_image.specs.Lists.{attached, extents_count, follows_at, is_attached};
+ghost use Rattle.jb_map.specs.Twice.{AreForward};
 ghost use Rattle.jb_image.specs.Lists.{is_between as stands_between, listed, listed_in, TakesWord};
 
 use jb_map::Extent;

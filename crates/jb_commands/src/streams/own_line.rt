@@ -2,7 +2,7 @@
 ghost use Rattle.std.specs.Prelude.{◌≡◌, None};
 ghost use Rattle.jb_commands.specs.FaultLines.{parts_of};
 ghost use Rattle.jb_commands.specs.Lines.{line_naming};
-ghost use Rattle.jb_commands.specs.OwnLines.{field_words, inode_words, map_line, node_line, own_line};
+ghost use Rattle.jb_commands.specs.OwnLines.{field_words, inode_words, map_line, node_line, own_fault_line};
 
 use crate::streams::fault_line::Numbers;
 use jb_ext::{FieldName, InodeFault, OwnFault};
@@ -10,7 +10,7 @@ use jb_map::{MapFault, NodeFault};
 
 /// The words of the line, and its numbers.
 pub(crate) fn words_of_own(fault: OwnFault) -> (&'static str, Numbers)
-    ensures { own_line fault ≡ line_naming (parts_of result.0.now result.1) None }
+    ensures { own_fault_line fault ≡ line_naming (parts_of result.0.now result.1) None }
 {
     match fault {
         OwnFault::NoSystem => ("jb: Own NoSystem", Numbers::None),

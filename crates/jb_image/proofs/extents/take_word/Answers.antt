@@ -1,5 +1,6 @@
 use Rattle.std.proofs.Common.{rules, ap, sym, ◌∙◌}
-use Rattle.jb_image.specs.Lists.{AreForward, extents_count}
+use Rattle.jb_image.specs.Lists.{extents_count}
+use Rattle.jb_map.specs.Twice.{AreForward}
 use Rattle.jb_image.proofs.Attached.{attached-count, attached-forward}
 use Rattle.jb_image.proofs.extents.take_word.Goals as goal
 

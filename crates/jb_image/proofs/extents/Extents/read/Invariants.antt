@@ -1,6 +1,7 @@
 use Rattle.std.proofs.Common.{◌≡◌}
 use Rattle.std.specs.Option.{option_copied}
-use Rattle.jb_image.specs.Lists.{AreForward, extents_count, listed_in}
+use Rattle.jb_image.specs.Lists.{extents_count, listed_in}
+use Rattle.jb_map.specs.Twice.{AreForward}
 use Rattle.jb_image.proofs.TakenWords.{AreTaken, left_len}
 use Rattle.jb_image.proofs.extents.Extents.read.Given as goal
 
