@@ -40,6 +40,8 @@ mod joined;
 #[cfg(test)]
 mod logs;
 #[cfg(test)]
+mod maps;
+#[cfg(test)]
 mod mixtures;
 #[cfg(test)]
 mod pairs;
