@@ -6,12 +6,14 @@ use crate::runs::Host;
 use jb_args::{Hint, OptionName};
 use jb_desk::Ended;
 use jb_disk::Unknown;
+use jb_ext::{FieldName, InodeFault, OwnFault};
 use jb_image::{ExtentsFault, FileSystemFault};
+use jb_map::{MapFault, NodeFault};
 use jb_super::SuperFault;
 use jb_tool::{CommandFault, LoadDone, LoadReport, Loaded, QueueHandleFault, Refused};
 
 /// Each fault of a command, with what the second line says beside the words of its row.
-static FAULTS: [(CommandFault<'static>, &str); 46] = [
+static FAULTS: [(CommandFault<'static>, &str); 61] = [
     (
         CommandFault::CannotRead("a", Some(2)),
         ": No such file or directory (os error 2)",
@@ -65,6 +67,26 @@ static FAULTS: [(CommandFault<'static>, &str); 46] = [
     (CommandFault::Extents(ExtentsFault::Home(9)), ""),
     (CommandFault::Extents(ExtentsFault::Nothing), ""),
     (CommandFault::Extents(ExtentsFault::Broken(9)), ""),
+    (CommandFault::Own(OwnFault::NoSystem), ""),
+    (CommandFault::Own(OwnFault::Device), ""),
+    (CommandFault::Own(OwnFault::Feature(4096)), ""),
+    (CommandFault::Own(OwnFault::NoJournal), ""),
+    (CommandFault::Own(OwnFault::External), ""),
+    (
+        CommandFault::Own(OwnFault::Field(FieldName::InodeSize, 130)),
+        "",
+    ),
+    (CommandFault::Own(OwnFault::Descriptor(9)), ""),
+    (CommandFault::Own(OwnFault::Table(9)), ""),
+    (CommandFault::Own(OwnFault::Inode(InodeFault::NoLink)), ""),
+    (
+        CommandFault::Own(OwnFault::Map(MapFault::Node(9, NodeFault::Depth(6)))),
+        "",
+    ),
+    (CommandFault::Own(OwnFault::Map(MapFault::Twice(9))), ""),
+    (CommandFault::Own(OwnFault::Differs), ""),
+    (CommandFault::Own(OwnFault::NoSuper(9)), ""),
+    (CommandFault::Own(OwnFault::Short), ""),
     (CommandFault::BadRevoke(2), ""),
     (CommandFault::HomeOutOfRange(20, 2, Some(16)), ": 16"),
     (CommandFault::HomeOutOfRange(20, 2, None), ""),
