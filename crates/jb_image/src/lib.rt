@@ -20,6 +20,7 @@ mod mount_line;
 mod mounted;
 mod opening;
 mod pair;
+mod parting;
 mod past;
 mod shared;
 mod system;

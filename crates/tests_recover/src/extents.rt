@@ -130,7 +130,24 @@ fn check_shared(test: &impl Bench) {
         apart.meets(Extent { first: 2, last: 5 }),
         apart.meets(Extent { first: 7, last: 8 }),
     );
-    check(test, met == (Some(4), None), "the first of 2 to 5")
+    check(test, met == (Some(4), None), "the first of 2 to 5");
+    for (text, place) in [
+        ("4-6, 0-1, 9", None),
+        ("4-5, 0-1, 9", Some(2)),
+        ("4-7, 0-1, 9", Some(3)),
+        ("4-6, 0, 9", Some(4)),
+        ("4-6, 0-1", Some(5)),
+        ("4-6, 0-1, 9-10", Some(6)),
+        ("5", Some(0)),
+    ] {
+        let other = listed(test, text);
+        check_row(
+            test,
+            apart.first_other(&other) == place,
+            text,
+            "where it parts",
+        )
+    }
 }
 
 /// The lowest block that stands in two extents.
