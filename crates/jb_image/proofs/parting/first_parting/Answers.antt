@@ -1,4 +1,4 @@
-use Rattle.std.proofs.Common.{rules, ◌<◌, ◌+◌, ◌^◌, arith, sym, ◌∙◌}
+use Rattle.std.proofs.Common.{rules, ◌<◌, ◌+◌, ◌^◌, sym, ◌∙◌}
 use Rattle.jb_image.specs.declared.extent.Extent.{Extent}
 use Rattle.jb_image.proofs.PartedLists.{alike-more, fits-more, parts-ended, parts-first, parts-here, stands-more}
 use Rattle.jb_image.proofs.parting.first_parting.Goals as goal
