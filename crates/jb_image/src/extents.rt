@@ -21,8 +21,8 @@ pub struct Extents {
 impl Extents {
     ghost use Rattle.std.specs.Prelude.{◌≡◌};
     ghost use Rattle.std.specs.Prelude.{◌<◌, ◌-◌, ◌^◌, IfOk};
-    ghost use Rattle.jb_image.specs.Lists.{PartsFirst, ReadsList, SharesFirst, extents_count, holds_in, list_of, meets_in};
-    ghost use Rattle.jb_image.specs.Lists.{past_in, place_within};
+    ghost use Rattle.jb_image.specs.Lists.{PartsFirst, ReadsList, SharesFirst, extents_count, holds_in, list_of};
+    ghost use Rattle.jb_image.specs.Lists.{meets_in, past_in, place_within};
 
     /// The extents that a text lists, as `stat` of debugfs does: `(0-1023):8193-9216, (1024):9300, (IND):8192`. Words
     /// are separated by white space, commas or both. A stretch without a place, as `8193-9216`, has the next blocks of
