@@ -5,6 +5,7 @@ mod JoinedImages
 pub mod OpenedFile
 mod PairCalls
 mod PairKept
+pub mod PartedLists
 pub mod SharedBlocks
 pub mod TakenWords
 pub mod WordBytes

@@ -57,6 +57,11 @@ meets_in e [] = None
 meets_in e (f ∷ fs) =
     if not (nat_lt f.last e.first) && not (nat_lt e.last f.first) then Some (max e.first f.first) else meets_in e fs
 
+-- at no place of a journal do two lists of extents have another block; or this is the first at which they do
+abbrev pub PartsFirst : List Extent → List Extent → Option ℕ → Type 0
+PartsFirst es fs None = (i : ℕ) → place_within es i ≡ place_within fs i
+PartsFirst es fs (Some at) = (place_within es at ≡ place_within fs at → ⊥) × ((i : ℕ) → i < at → place_within es i ≡ place_within fs i)
+
 -- how many of the extents have this block
 abbrev pub times : List Extent → ℕ → ℕ
 times [] block = 0

@@ -7,6 +7,7 @@ ghost use Rattle.jb_image.specs.Lists.{is_between as stands_between, listed, lis
 use jb_map::Extent;
 use crate::extents_fault::ListFault;
 use crate::list_word::{Named, read_word};
+use crate::parting::first_parting;
 use crate::shared::lowest_shared;
 use jb_block::Memory;
 use std::alloc::Global;
@@ -20,9 +21,9 @@ pub struct Extents {
 
 impl Extents {
     ghost use Rattle.std.specs.Prelude.{◌≡◌};
-    ghost use Rattle.std.specs.Prelude.{IfOk};
-    ghost use Rattle.jb_image.specs.Lists.{ReadsList, SharesFirst, extents_count, holds_in, list_of, meets_in};
-    ghost use Rattle.jb_image.specs.Lists.{past_in, place_within};
+    ghost use Rattle.std.specs.Prelude.{◌<◌, ◌-◌, ◌^◌, IfOk};
+    ghost use Rattle.jb_image.specs.Lists.{PartsFirst, ReadsList, SharesFirst, extents_count, holds_in, list_of};
+    ghost use Rattle.jb_image.specs.Lists.{meets_in, past_in, place_within};
 
     /// The extents that a text lists, as `stat` of debugfs does: `(0-1023):8193-9216, (1024):9300, (IND):8192`. Words
     /// are separated by white space, commas or both. A stretch without a place, as `8193-9216`, has the next blocks of
@@ -107,6 +108,14 @@ impl Extents {
             }
         }
         None
+    }
+
+    /// The first block of the journal that does not stand where other extents have it.
+    pub fn first_other(&self, other: &Extents) -> Option<u64>
+        requires { extents_count (list_of self.now) < 2 ^ 64 - 1 }
+        ensures { PartsFirst (list_of self.now) (list_of other.now) result }
+    {
+        first_parting(self.list.as_slice(), other.list.as_slice())
     }
 
     /// The last block of the first of them that is not whole in an image of so many blocks.

@@ -19,6 +19,7 @@ mod mount_line;
 mod mounted;
 mod opening;
 mod pair;
+mod parting;
 mod past;
 mod refusals;
 mod shared;

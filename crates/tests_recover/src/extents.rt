@@ -130,7 +130,29 @@ fn check_shared(test: &impl Bench) {
         apart.meets(Extent { first: 2, last: 5 }),
         apart.meets(Extent { first: 7, last: 8 }),
     );
-    check(test, met == (Some(4), None), "the first of 2 to 5")
+    check(test, met == (Some(4), None), "the first of 2 to 5");
+}
+
+/// Checks where a list parts from another one.
+fn check_parted(test: &impl Bench) {
+    let apart = listed(test, "4-6, 0-1, 9");
+    for (text, place) in [
+        ("4-6, 0-1, 9", None),
+        ("4-5, 0-1, 9", Some(2)),
+        ("4-7, 0-1, 9", Some(3)),
+        ("4-6, 0, 9", Some(4)),
+        ("4-6, 0-1", Some(5)),
+        ("4-6, 0-1, 9-10", Some(6)),
+        ("5", Some(0)),
+    ] {
+        let other = listed(test, text);
+        check_row(
+            test,
+            apart.first_other(&other) == place,
+            text,
+            "where it parts",
+        )
+    }
 }
 
 /// The lowest block that stands in two extents.
@@ -140,7 +162,8 @@ fn lowest(test: &impl Bench, extents: &Extents) -> Option<u64> {
 
 #[test]
 fn blocks_are_shared_or_past_the_end(rt: HostRuntime) {
-    check_shared(&By(&rt, rt.alloc()))
+    check_shared(&By(&rt, rt.alloc()));
+    check_parted(&By(&rt, rt.alloc()))
 }
 
 /// Writes a block of this byte.

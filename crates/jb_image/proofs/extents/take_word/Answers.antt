@@ -1,6 +1,4 @@
-use Rattle.std.proofs.Common.{rules, ap, sym, ◌∙◌}
-use Rattle.jb_image.specs.Lists.{extents_count}
-use Rattle.jb_map.specs.Twice.{AreForward}
+use Rattle.std.proofs.Common.{rules, sym}
 use Rattle.jb_image.proofs.Attached.{attached-count, attached-forward}
 use Rattle.jb_image.proofs.extents.take_word.Goals as goal
 
