@@ -84,6 +84,8 @@ pub enum Hint {
     ExtentsNothing,
     /// The log of a journal in extents ends inside a transaction, at a block that is none of a journal.
     ExtentsBroken,
+    /// The file system says another place of a block of the journal than the extents.
+    ExtentsOther,
     /// The image is a journal, of a file system that is elsewhere.
     OwnDevice,
     /// A file system has features that are not known.

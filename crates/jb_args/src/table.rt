@@ -103,6 +103,9 @@ macro_rules! diagnostics {
                     "the log ends at this block of the journal, inside a transaction, and the block is none of a \
                      journal: the extents are not the journal's, or a crash was in the midst of a commit; the image \
                      is as it was; recover --force recovers what is before it";
+                ExtentsOther, "Extents Other ", "#",
+                    "this block of the journal stands elsewhere, as the file system says itself: leave out --extents; \
+                     the image is as it was";
                 OwnDevice, "Own Device", "",
                     "the image is the journal of a file system that is elsewhere: run e2fsck on that one";
                 OwnFeature, "Own Feature ", "#",

@@ -2,7 +2,7 @@
 use Rattle.std.proofs.Common.{ℕ, List, Option, Result, Ok, Err, inr}
 use Rattle.std.specs.Prelude.{IfErr, IfOk}
 use Rattle.jb_map.specs.declared.extent.Extent.{Extent}
-use Rattle.jb_image.specs.declared.extents_fault.ExtentsFault.TheVariants.{BlockSizes, Broken, Front, Home, Long, NoJournal, Nothing, Overlap, PastEnd, Short}
+use Rattle.jb_image.specs.declared.extents_fault.ExtentsFault.TheVariants.{BlockSizes, Broken, Front, Home, Long, NoJournal, Nothing, Other, Overlap, PastEnd, Short}
 use Rattle.jb_super.specs.Superblock.{Superblock}
 use Rattle.jb_commands.specs.Files.{SaysSuper}
 use Rattle.jb_commands.specs.FoundWithin.{IsFoundWithin, IsNotFound, IsSaidSo, IsTried}
@@ -10,7 +10,7 @@ use Rattle.jb_commands.specs.JournalPlace.{IsShutListed, IsShutWithin}
 use Rattle.jb_commands.specs.ListText.{IsListOf}
 use Rattle.jb_commands.specs.OpenRefusals.{IsFoundShut, IsSpreadShut}
 use Rattle.jb_commands.specs.declared.fault.CommandFault.{CommandFault}
-use Rattle.jb_commands.specs.declared.files.shut.FileFault.TheVariants.{InUse, Memory, Super, Unread}
+use Rattle.jb_commands.specs.declared.files.shut.FileFault.TheVariants.{InUse, Memory, MountsUnknown, Super, Unread}
 use Rattle.jb_commands.specs.declared.files.shut.WithinFault.{WithinFault}
 use Rattle.jb_commands.specs.declared.files.shut.WithinFault.TheVariants.{Extents, File, List as NoList, System}
 
@@ -21,6 +21,7 @@ not-found (Err NoList) tried said = absurd said
 not-found (Err (File (Super fault))) tried said = (said, tried)
 not-found (Err (File (Unread code))) tried said = tt
 not-found (Err (File InUse)) tried said = tt
+not-found (Err (File MountsUnknown)) tried said = tt
 not-found (Err (File Memory)) tried said = tt
 not-found (Err (System fault)) tried said = absurd said
 not-found (Err (Extents fault)) tried said = (said, tried)
@@ -39,6 +40,7 @@ spread-shut es (Extents (Long blocks)) shut = absurd shut.0
 spread-shut es (Extents (Front block)) shut = absurd shut.0
 spread-shut es (Extents (Home home)) shut = absurd shut.0
 spread-shut es (Extents Nothing) shut = absurd shut.0
+spread-shut es (Extents (Other place)) shut = absurd shut.0
 spread-shut es (Extents (Broken place)) shut = absurd shut.0
 
 -- nor does the list that a word says

@@ -83,6 +83,7 @@ extents_line (extents.BlockSizes one other) = line_naming (codes "jb: Extents Bl
 extents_line (extents.Front block) = line_naming (codes "jb: Extents Front " ∷ decimal block ∷ []) None
 extents_line (extents.Home home) = line_naming (codes "jb: Extents Home " ∷ decimal home ∷ []) None
 extents_line extents.Nothing = line_naming (codes "jb: Extents Nothing" ∷ []) None
+extents_line (extents.Other place) = line_naming (codes "jb: Extents Other " ∷ decimal place ∷ []) None
 extents_line (extents.Broken place) = line_naming (codes "jb: Extents Broken " ∷ decimal place ∷ []) None
 
 -- the line on standard error. Of a command over two files it ends with the name of the one that it is about, where that is known
@@ -143,6 +144,7 @@ extents_hint (extents.BlockSizes one other) = hint.ExtentsBlockSizes
 extents_hint (extents.Front block) = hint.ExtentsFront
 extents_hint (extents.Home home) = hint.ExtentsHome
 extents_hint extents.Nothing = hint.ExtentsNothing
+extents_hint (extents.Other place) = hint.ExtentsOther
 extents_hint (extents.Broken place) = hint.ExtentsBroken
 
 -- the same of a file system's own journal that is not found

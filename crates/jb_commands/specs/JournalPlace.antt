@@ -29,7 +29,7 @@ use Rattle.jb_commands.specs.FoundWithin.{IsTried, IsFoundWithin, IsOtherSize}
 use Rattle.jb_commands.specs.Foresee.{Foretells, foreseen_end, own_checked}
 use Rattle.jb_commands.specs.Judge.{JudgesOn}
 use Rattle.jb_commands.specs.ListText.{HasNoList, IsListOf}
-use Rattle.jb_commands.specs.OwnPlace.{IsFrontShut, IsOpenedByFront}
+use Rattle.jb_commands.specs.OwnPlace.{IsComparedImage, IsFrontShut, IsOpenedByFront, IsOtherImage}
 use Rattle.jb_commands.specs.Recover.{RecoversOn}
 use Rattle.jb_commands.specs.Reports.{status_end}
 use Rattle.jb_commands.specs.declared.fault.CommandFault.{CommandFault}
@@ -85,13 +85,6 @@ abbrev pub IsShutListed : List ℕ → Option (List ℕ) → List ℕ → Comman
 IsShutListed name input word fault =
     HasNoList input word fault ⊎ ((list : List ℕ) × IsListOf input word list × IsShutWithin name list fault)
 
--- it was not opened: both places were named, or see those of the one
-abbrev pub IsShutAt : {S : Type 0} → Starts S → List ℕ → Option (List ℕ) → Option (List ℕ) → Option (List ℕ) → CommandFault → Type 0
-IsShutAt start name input None None fault = IsFrontShut start name fault
-IsShutAt start name input (Some journal) None fault = IsShut name (Some journal) fault
-IsShutAt start name input None (Some word) fault = IsShutListed name input word fault
-IsShutAt start name input (Some journal) (Some word) fault = IsBadOption option.Extents fault
-
 module _ {S T : Type 0} {start : Starts S} {other : Starts T} where
   -- the same of the disk that is used, which was asked its length and nothing else
   abbrev pub IsJournalWithin : List Extent → Superblock → ImageDisk (FileDisk S start) (FileDisk T other) → Type 0
@@ -109,12 +102,31 @@ module _ {S T : Type 0} {start : Starts S} {other : Starts T} where
   abbrev pub IsOpenedListed : Option (List ℕ) → List ℕ → ImageDisk (FileDisk S start) (FileDisk T other) → ℕ → Type 0
   IsOpenedListed input word disk homes = (list : List ℕ) × IsListOf input word list × IsOpenedWithin list disk homes
 
+  -- the same, and the list agrees with the file system's own journal, where there is a file system
+  abbrev pub IsOpenedCompared : Option (List ℕ) → List ℕ → ImageDisk (FileDisk S start) (FileDisk T other) → ℕ → Type 0
+  IsOpenedCompared input word disk homes =
+      (old : ImageDisk (FileDisk S start) (FileDisk T other)) × IsOpenedListed input word old homes × IsComparedImage old disk
+
   -- it is open, wherever its journal is
   abbrev pub IsOpenedAt : Option (List ℕ) → Option (List ℕ) → Option (List ℕ) → ImageDisk (FileDisk S start) (FileDisk T other) → ℕ → Type 0
   IsOpenedAt input None None disk homes = IsOpenedByFront disk homes
   IsOpenedAt input (Some journal) None disk homes = IsImageOpened (Some journal) disk homes
-  IsOpenedAt input None (Some word) disk homes = IsOpenedListed input word disk homes
+  IsOpenedAt input None (Some word) disk homes = IsOpenedCompared input word disk homes
   IsOpenedAt input (Some journal) (Some word) disk homes = ⊥
+
+-- the list that a word says was not read, or the image was not opened with it; or it was, and the file system's own journal stands
+-- elsewhere, or is not found
+abbrev pub IsShutCompared : {S T : Type 0} → Starts S → Starts T → List ℕ → Option (List ℕ) → List ℕ → CommandFault → Type 0
+IsShutCompared {S} {T} start other name input word fault =
+    IsShutListed name input word fault
+    ⊎ ((old : ImageDisk (FileDisk S start) (FileDisk T other)) × (homes : ℕ) × IsOpenedListed input word old homes × IsOtherImage old fault)
+
+-- it was not opened: both places were named, or see those of the one
+abbrev pub IsShutAt : {S T : Type 0} → Starts S → Starts T → List ℕ → Option (List ℕ) → Option (List ℕ) → Option (List ℕ) → CommandFault → Type 0
+IsShutAt start other name input None None fault = IsFrontShut start name fault
+IsShutAt start other name input (Some journal) None fault = IsShut name (Some journal) fault
+IsShutAt start other name input None (Some word) fault = IsShutCompared start other name input word fault
+IsShutAt start other name input (Some journal) (Some word) fault = IsBadOption option.Extents fault
 
 module _ {D E : Type 0} (G : Disks (ImageDisk D E)) where
   -- home blocks were written as their peeks gave them, unless this one that was asked for is the journal's own: then nothing was done
@@ -131,7 +143,7 @@ module _ {S T : Type 0} {start : Starts S} {other : Starts T} where
   -- the image was not opened, and nothing was done; or home blocks of it were written as their peeks gave them, in blocks of the size that
   -- its first bytes say, as many as asked for from one on, since it was opened; the first is peeked at where none is asked for
   abbrev pub EndsOfCat : List ℕ → CatWords → Option (List ℕ) → Option (List ℕ) → Option (List ℕ) → Option (ImageDisk (FileDisk S start) (FileDisk T other)) → Result Report CommandFault → Type 0
-  EndsOfCat name words input out_old out_new None end = (fault : CommandFault) × (end ≡ Err fault) × IsShutAt start name input words.journal words.extents fault × (out_new ≡ out_old)
+  EndsOfCat name words input out_old out_new None end = (fault : CommandFault) × (end ≡ Err fault) × IsShutAt start other name input words.journal words.extents fault × (out_new ≡ out_old)
   EndsOfCat name words input out_old out_new (Some new) end =
       (old : ImageDisk (FileDisk S start) (FileDisk T other)) × (homes : ℕ) × IsOpenedAt input words.journal words.extents old homes
       × ShowsAsked as_files homes words old new out_old out_new end
@@ -189,15 +201,15 @@ module _ {D E : Type 0} (G : Disks (ImageDisk D E)) where
       (mid : ImageDisk D E) × (judged : Result Unit CommandFault) × JudgesBeside G (is_beside words.journal (is_within old)) (use_of words.journal) words.force old mid judged × RecoversJudged words homes judged mid new end
 
 -- the words do not go together, or the image was not opened
-abbrev pub IsNotOpenedToRecover : {S : Type 0} → Starts S → List ℕ → RecoverWords → Option (List ℕ) → CommandFault → Type 0
-IsNotOpenedToRecover start name words input fault =
-    (IsBadOption option.List fault × (words.list ≡ true) × (words.dry_run ≡ false)) ⊎ IsShutAt start name input words.journal words.extents fault
+abbrev pub IsNotOpenedToRecover : {S T : Type 0} → Starts S → Starts T → List ℕ → RecoverWords → Option (List ℕ) → CommandFault → Type 0
+IsNotOpenedToRecover start other name words input fault =
+    (IsBadOption option.List fault × (words.list ≡ true) × (words.dry_run ≡ false)) ⊎ IsShutAt start other name input words.journal words.extents fault
 
 module _ {S T : Type 0} {start : Starts S} {other : Starts T} where
   -- the image was not opened, and nothing was done; or what was asked for was done since it was opened. If its files are honest, all that
   -- a recovery says of contents holds of them
   abbrev pub EndsOfRecover : List ℕ → RecoverWords → Option (List ℕ) → Option (ImageDisk (FileDisk S start) (FileDisk T other)) → Result Report CommandFault → Type 0
-  EndsOfRecover name words input None end = (fault : CommandFault) × (end ≡ Err fault) × IsNotOpenedToRecover start name words input fault
+  EndsOfRecover name words input None end = (fault : CommandFault) × (end ≡ Err fault) × IsNotOpenedToRecover start other name words input fault
   EndsOfRecover name words input (Some new) end =
       (old : ImageDisk (FileDisk S start) (FileDisk T other)) × (homes : ℕ) × IsOpenedAt input words.journal words.extents old homes
       × RecoversOpened as_files words homes old new end

@@ -1,5 +1,5 @@
 -- An image by its first bytes: a journal with home blocks, or a file system, whose own journal is looked for.
-use Rattle.std.specs.Prelude.{◌≡◌, ◌⊎◌, ℕ, ◌==◌, if◌then◌else◌, ⊤, List, Option, Some, None, Result, Ok, Err, length, drop, nat_lt, option_map}
+use Rattle.std.specs.Prelude.{◌≡◌, ◌⊎◌, ◌<◌, ◌-◌, ◌^◌, ℕ, ◌==◌, Bool, true, false, if◌then◌else◌, ⊤, List, Option, Some, None, Result, Ok, Err, length, drop, nat_lt, option_map}
 use Rattle.jb_block.specs.declared.size.BlockSize.{BlockSize}
 use Rattle.jb_block.specs.declared.size.BlockSize.TheVariants.{OneKib, TwoKib, FourKib}
 use Rattle.jb_disk.specs.File.{IsMeasured}
@@ -10,20 +10,25 @@ use Rattle.jb_ext.specs.OwnJournal.{FoundJournal}
 use Rattle.jb_ext.specs.System.{system_in}
 use Rattle.jb_ext.specs.declared.fault.FindFault.{FindFault}
 use Rattle.jb_ext.specs.declared.fault.FindFault.TheVariants as find
+use Rattle.jb_ext.specs.declared.fault.OwnFault.{OwnFault}
+use Rattle.jb_ext.specs.declared.fault.OwnFault.TheVariants.{NoSystem}
 use Rattle.jb_ext.specs.declared.system.FileSystem.{FileSystem}
 use Rattle.jb_format.specs.Front.{homes_in}
 use Rattle.jb_image.specs.Disks.{extents_of, journal_blocks, whole_disk}
 use Rattle.jb_image.specs.Files.{as_file, as_files}
-use Rattle.jb_image.specs.Lists.{list_of}
+use Rattle.jb_image.specs.Lists.{PartsFirst, extents_count, list_of}
+use Rattle.jb_image.specs.declared.extents_disk.ExtentsDisk.{ExtentsDisk}
+use Rattle.jb_image.specs.declared.extents_fault.ExtentsFault.TheVariants.{Other}
 use Rattle.jb_image.specs.declared.image.ImageDisk.{ImageDisk}
 use Rattle.jb_image.specs.declared.image.ImageDisk.TheVariants.{One, Two, Within}
+use Rattle.jb_map.specs.declared.extent.Extent.{Extent}
 use Rattle.jb_super.specs.Faults.{super_in}
 use Rattle.jb_super.specs.Superblock.{Superblock}
 use Rattle.jb_super.specs.declared.fault.SuperFault.{SuperFault}
 use Rattle.jb_super.specs.declared.fault.SuperFault.TheVariants.{ShortBlock, NoMagic, NotVersion2, BlockSize as OtherSize, Geometry, Feature}
 use Rattle.jb_commands.specs.Files.{IsImageOpened, IsUnread, SaysSuper}
 use Rattle.jb_commands.specs.declared.fault.CommandFault.{CommandFault}
-use Rattle.jb_commands.specs.declared.fault.CommandFault.TheVariants.{DeviceFault, Memory, Own, Super}
+use Rattle.jb_commands.specs.declared.fault.CommandFault.TheVariants.{DeviceFault, Extents, Memory, Own, Super}
 use Rattle.jb_commands.specs.declared.files.own.ImageFront.{ImageFront}
 use Rattle.jb_commands.specs.declared.files.own.ImageFront.TheVariants.{Journal, System}
 use Rattle.jb_commands.specs.declared.files.shut.FileFault.{FileFault}
@@ -102,3 +107,62 @@ module _ {S T : Type 0} {start : Starts S} {other : Starts T} where
   -- the image is open, by its first bytes: with the journal at its front, or with its file system's own
   abbrev pub IsOpenedByFront : ImageDisk (FileDisk S start) (FileDisk T other) → ℕ → Type 0
   IsOpenedByFront disk homes = IsImageOpened None disk homes ⊎ IsOwnOpened disk homes
+
+-- ---- a list of extents beside it
+
+-- there is no file system
+abbrev pub is_no_system : OwnFault → Bool
+is_no_system NoSystem = true
+is_no_system _ = false
+
+-- why a file system's own journal is not found, where there is a file system
+abbrev pub find_told : FindFault → Option FindFault
+find_told (find.Own fault) = if is_no_system fault then None else Some (find.Own fault)
+find_told (find.Super fault) = Some (find.Super fault)
+find_told find.DeviceFault = Some find.DeviceFault
+find_told find.Memory = Some find.Memory
+
+-- a list agrees with the journal that was found: at no place of it has that another block; or there is no file system
+abbrev pub Agrees : List Extent → Result FoundJournal FindFault → Type 0
+Agrees es (Ok own) = PartsFirst es own.0 None
+Agrees es (Err fault) = find_told fault ≡ None
+
+-- what is said of a list that does not: the first place at which it has another block, or why the journal is not found
+abbrev pub Disagrees : List Extent → Result FoundJournal FindFault → CommandFault → Type 0
+Disagrees es (Ok own) fault = (place : ℕ) × PartsFirst es own.0 (Some place) × (fault ≡ Extents (Other place))
+Disagrees es (Err found) fault = (told : FindFault) × (find_told found ≡ Some told) × (fault ≡ of_find told)
+
+module _ {S : Type 0} {start : Starts S} where
+  -- the journal of the file system in an image was looked for, and the extents agree with it
+  pub record IsComparedTo (old new : ExtentsDisk (FileDisk S start)) : Type 0 where
+    pub answer : Result FoundJournal FindFault
+    pub finds : FindsJournal as_file answer (whole_disk old) (whole_disk new)
+    pub agrees : Agrees (list_of (extents_of old)) answer
+    pub extents : extents_of new ≡ extents_of old
+    pub journal : journal_blocks new ≡ journal_blocks old
+
+module _ {S : Type 0} {start : Starts S} where
+  -- it was looked for, and the extents do not
+  pub record IsOtherThan (old : ExtentsDisk (FileDisk S start)) (fault : CommandFault) : Type 0 where
+    pub answer : Result FoundJournal FindFault
+    pub new : FileDisk S start
+    pub finds : FindsJournal as_file answer (whole_disk old) new
+    pub disagrees : Disagrees (list_of (extents_of old)) answer fault
+
+module _ {S T : Type 0} {start : Starts S} {other : Starts T} where
+  -- the extents of an image have fewer blocks than the largest number
+  abbrev pub AreFew : ImageDisk (FileDisk S start) (FileDisk T other) → Type 0
+  AreFew (One file) = ⊤
+  AreFew (Two pair) = ⊤
+  AreFew (Within disk) = extents_count (list_of (extents_of disk)) < 2 ^ 64 - 1
+
+  -- an image whose journal stands within it was compared with its file system's own
+  abbrev pub IsComparedImage : ImageDisk (FileDisk S start) (FileDisk T other) → ImageDisk (FileDisk S start) (FileDisk T other) → Type 0
+  IsComparedImage (Within old) (Within new) = IsComparedTo old new
+  IsComparedImage old new = new ≡ old
+
+  -- its journal is another one
+  abbrev pub IsOtherImage : ImageDisk (FileDisk S start) (FileDisk T other) → CommandFault → Type 0
+  IsOtherImage (One file) fault = ⊥
+  IsOtherImage (Two pair) fault = ⊥
+  IsOtherImage (Within disk) fault = IsOtherThan disk fault

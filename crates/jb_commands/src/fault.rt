@@ -268,6 +268,7 @@ fn extents_hint(fault: ExtentsFault) -> Hint
         ExtentsFault::Front(_) => Hint::ExtentsFront,
         ExtentsFault::Home(_) => Hint::ExtentsHome,
         ExtentsFault::Nothing => Hint::ExtentsNothing,
+        ExtentsFault::Other(_) => Hint::ExtentsOther,
         ExtentsFault::Broken(_) => Hint::ExtentsBroken,
     }
 }

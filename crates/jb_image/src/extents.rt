@@ -4,12 +4,12 @@ ghost use Rattle.jb_image.specs.Lists.{attached, extents_count, follows_at, is_a
 ghost use Rattle.jb_map.specs.Twice.{AreForward};
 ghost use Rattle.jb_image.specs.Lists.{is_between as stands_between, listed, listed_in, TakesWord};
 
-use jb_map::Extent;
 use crate::extents_fault::ListFault;
 use crate::list_word::{Named, read_word};
 use crate::parting::first_parting;
 use crate::shared::lowest_shared;
 use jb_block::Memory;
+use jb_map::Extent;
 use std::alloc::Global;
 
 /// Where the blocks of a journal stand in an image: in stretches, one after the other, none of which goes on where the

@@ -2,10 +2,10 @@ ghost use Rattle.std.specs.Prelude.{◌≡◌, ◌<◌, IfSome, IsErr, is_ok};
 ghost use Rattle.jb_disk.specs.Faults.{CountsFault, CountsOne, counted};
 ghost use Rattle.jb_image.specs.Disks.{ExtentsCalled, at_block, spread_count};
 
-use jb_map::Extent;
 use crate::extents::Extents;
 use jb_block::BlockSize;
 use jb_disk::{Disk, Fault};
+use jb_map::Extent;
 
 /// A journal and the file system that it stands in, as one disk: first the blocks of the journal, where the extents
 /// have them, and after them all blocks of the image by their own numbers.
@@ -45,6 +45,15 @@ impl<D: Disk> ExtentsDisk<D> {
         ensures { result ≡ whole_disk self }
     {
         self.disk
+    }
+
+    /// The image, where the journal stands in it, and how many blocks the journal has.
+    pub fn into_parts(self) -> (D, Extents, u64)
+        ensures disk { result.0 ≡ whole_disk self }
+        ensures extents { result.1 ≡ extents_of self }
+        ensures journal { result.2 ≡ journal_blocks self }
+    {
+        (self.disk, self.extents, self.journal)
     }
 
     /// The first of these home blocks that is one of the journal's own.

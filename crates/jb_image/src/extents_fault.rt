@@ -43,4 +43,6 @@ pub enum ExtentsFault {
     Nothing,
     /// The log is not clean, and ends inside a transaction, at this block of the journal, which has not its magic.
     Broken(u64),
+    /// This block of the journal stands elsewhere in the file system, as that says itself.
+    Other(u64),
 }

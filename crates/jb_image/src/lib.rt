@@ -26,15 +26,15 @@ mod shared;
 mod stretch;
 mod unfinished;
 
-pub use jb_map::Extent;
 pub use extents::Extents;
 pub use extents_disk::ExtentsDisk;
 pub use extents_fault::{ExtentsFault, ListFault};
 pub use fault::{ImageFault, MakeFault, SystemFault};
 pub use image::ImageDisk;
 pub use image_geometry::ImageGeometry;
-pub use judging::{FileSystemFault, JournalUse, judge};
 pub use jb_ext::{FRONT, FileSystem};
+pub use jb_map::Extent;
+pub use judging::{FileSystemFault, JournalUse, judge};
 pub use making::{create_holding, create_image};
 pub use opening::{Opening, open_file, open_holding, open_image};
 pub use pair::PairDisk;

@@ -3,8 +3,8 @@ ghost use Rattle.std.specs.Prelude.{◌≡◌, IfOk};
 ghost use Rattle.std.specs.List.Sorted.{IsNonDecreasingBy};
 ghost use Rattle.jb_image.specs.Lists.{SharesFirst, reaches_to};
 
-use jb_map::Extent;
 use jb_block::Memory;
+use jb_map::Extent;
 use std::alloc::Global;
 
 /// The lowest block that stands in two of these extents.

@@ -13,7 +13,7 @@ use jb_super::SuperFault;
 use jb_tool::{CommandFault, LoadDone, LoadReport, Loaded, QueueHandleFault, Refused};
 
 /// Each fault of a command, with what the second line says beside the words of its row.
-static FAULTS: [(CommandFault<'static>, &str); 61] = [
+static FAULTS: [(CommandFault<'static>, &str); 62] = [
     (
         CommandFault::CannotRead("a", Some(2)),
         ": No such file or directory (os error 2)",
@@ -67,6 +67,7 @@ static FAULTS: [(CommandFault<'static>, &str); 61] = [
     (CommandFault::Extents(ExtentsFault::Home(9)), ""),
     (CommandFault::Extents(ExtentsFault::Nothing), ""),
     (CommandFault::Extents(ExtentsFault::Broken(9)), ""),
+    (CommandFault::Extents(ExtentsFault::Other(9)), ""),
     (CommandFault::Own(OwnFault::NoSystem), ""),
     (CommandFault::Own(OwnFault::Device), ""),
     (CommandFault::Own(OwnFault::Feature(4096)), ""),

@@ -1,17 +1,22 @@
 //! Images by their first bytes: with a journal at the front, or as a file system, whose own journal is found.
-ghost use Rattle.std.specs.Prelude.{◌≡◌, None, IfErr, IfOk};
+ghost use Rattle.std.specs.Prelude.{◌≡◌, ◌<◌, ◌-◌, ◌^◌, None, IfErr, IfOk};
 ghost use Rattle.jb_disk.specs.File.{IsMeasured};
 ghost use Rattle.jb_commands.specs.Files.{IsImageOpened, SaysSuper};
 ghost use Rattle.jb_commands.specs.OpenRefusals.{IsFileShut, IsOwnShut};
 ghost use Rattle.jb_commands.specs.OwnPlace.{IsOpenedByFront, IsOwnOpened, IsOwnUnfound};
 ghost use Rattle.jb_commands.specs.OwnPlace.{SaysFront, front_of_image, size_said, system_size};
+ghost use Rattle.jb_commands.specs.OwnPlace.{AreFew, IsComparedImage, IsComparedTo, IsOtherImage, IsOtherThan};
+ghost use Rattle.jb_commands.specs.OwnPlace.{find_told as told_of, is_no_system as has_no_system};
+ghost use Rattle.jb_image.specs.Disks.{extents_of};
+ghost use Rattle.jb_image.specs.Lists.{extents_count, list_of};
 
+use crate::fault::CommandFault;
 use crate::files::opening::{counted, disk_of, open_image};
-use crate::files::shut::{FileFault, OwnShut};
+use crate::files::shut::{FileFault, OwnShut, fault_of_find};
 use jb_block::BlockSize;
 use jb_disk::{FileDisk, Start};
-use jb_ext::{FindFault, find_journal};
-use jb_image::{Extents, ExtentsDisk, FileSystem, ImageDisk, Opening};
+use jb_ext::{FindFault, OwnFault, find_journal};
+use jb_image::{Extents, ExtentsDisk, ExtentsFault, FileSystem, ImageDisk, Opening};
 use jb_super::{Super, SuperFault};
 use jb_text::{ReadFault, read_front};
 use std::alloc::Global;
@@ -178,4 +183,75 @@ fn open_own<S: Start, T: Start>(
         }
         Err(fault) => Err(fault),
     }
+}
+
+/// An image whose journal stands in the extents of a list. Where it is a file system of ext2, ext3 or ext4, these have
+/// to be the blocks of its own journal.
+///
+/// # Errors
+/// `CommandFault::Extents` with the first place at which the file system has another block; where its journal is not
+/// found, why.
+pub(crate) fn compare_own<'a, S: Start, T: Start>(
+    alloc: Global,
+    image: ImageDisk<FileDisk<S>, FileDisk<T>>,
+) -> Result<ImageDisk<FileDisk<S>, FileDisk<T>>, CommandFault<'a>>
+    requires { AreFew image }
+    ensures compared { IfOk result (IsComparedImage image) }
+    ensures shut { IfErr result (IsOtherImage image) }
+{
+    match image {
+        ImageDisk::Within(disk) => match compare(alloc, disk) {
+            Ok(disk) => Ok(ImageDisk::Within(disk)),
+            Err(fault) => Err(fault),
+        },
+        ImageDisk::One(disk) => Ok(ImageDisk::One(disk)),
+        ImageDisk::Two(pair) => Ok(ImageDisk::Two(pair)),
+    }
+}
+
+/// The same of the disk that it is.
+fn compare<'a, S: Start>(
+    alloc: Global,
+    whole: ExtentsDisk<FileDisk<S>>,
+) -> Result<ExtentsDisk<FileDisk<S>>, CommandFault<'a>>
+    requires { extents_count (list_of (extents_of whole)) < 2 ^ 64 - 1 }
+    ensures compared { IfOk result (IsComparedTo whole) }
+    ensures shut { IfErr result (IsOtherThan whole) }
+{
+    let (mut disk, extents, journal) = whole.into_parts();
+    match find_journal(alloc, &mut disk) {
+        Ok(own) => match extents.first_other(&Extents::of(own.extents)) {
+            None => Ok(ExtentsDisk::of(disk, extents, journal)),
+            Some(place) => Err(CommandFault::Extents(ExtentsFault::Other(place))),
+        },
+        Err(fault) => match find_told(fault) {
+            None => Ok(ExtentsDisk::of(disk, extents, journal)),
+            Some(fault) => Err(fault_of_find(fault)),
+        },
+    }
+}
+
+/// Why a file system's own journal is not found, where there is a file system.
+fn find_told(fault: FindFault) -> Option<FindFault>
+    ensures { result ≡ told_of fault }
+{
+    match fault {
+        FindFault::Own(own) => {
+            if is_no_system(own) {
+                None
+            } else {
+                Some(FindFault::Own(own))
+            }
+        }
+        FindFault::Super(fault) => Some(FindFault::Super(fault)),
+        FindFault::DeviceFault => Some(FindFault::DeviceFault),
+        FindFault::Memory => Some(FindFault::Memory),
+    }
+}
+
+/// Whether there is no file system.
+fn is_no_system(fault: OwnFault) -> bool
+    ensures { result ≡ has_no_system fault }
+{
+    matches!(fault, OwnFault::NoSystem)
 }

@@ -5,7 +5,8 @@ ghost use Rattle.jb_image.specs.Disks.{whole_disk};
 ghost use Rattle.jb_image.specs.Lists.{AreDisjoint, extents_in, list_of};
 ghost use Rattle.jb_commands.specs.Files.{SaysSuper};
 ghost use Rattle.jb_commands.specs.JournalPlace.{IsNoPlaceFor, IsOpenedAt, IsOpenedListed};
-ghost use Rattle.jb_commands.specs.JournalPlace.{IsOpenedWithin, IsShutAt, IsShutListed};
+ghost use Rattle.jb_commands.specs.JournalPlace.{IsOpenedCompared, IsOpenedWithin, IsShutAt, IsShutCompared};
+ghost use Rattle.jb_commands.specs.JournalPlace.{IsShutListed};
 ghost use Rattle.jb_commands.specs.ListText.{is_input, list_file, reads_list};
 ghost use Rattle.jb_commands.specs.OpenRefusals.{IsFoundShut, IsFrontWithin, IsListShut, IsOpenedOver};
 ghost use Rattle.jb_commands.specs.OpenRefusals.{IsSpreadShut, JoinsFile};
@@ -14,7 +15,7 @@ use crate::fault::CommandFault;
 use crate::files::found::super_within;
 use crate::files::listed::file_of;
 use crate::files::opening::{Opening, counted, disk_of, open_counted, open_image};
-use crate::files::own::open_by_front;
+use crate::files::own::{compare_own, open_by_front};
 use crate::files::shut::{FileFault, WithinFault, named_front, named_within};
 use crate::files::texts::read_text;
 use jb_args::OptionName;
@@ -27,7 +28,8 @@ use std::io::Read;
 use std::rt::Files;
 
 /// The image of this name as a disk, with the number of its home blocks: as `open_by_front`, with a journal's own file
-/// as `open_counted`, or with extents as `open_listed`.
+/// as `open_counted`, or with extents as
+/// `open_compared`.
 ///
 /// # Errors
 /// Those of the three, and `CommandFault::BadOption` where both places of the journal are given.
@@ -39,7 +41,7 @@ pub(crate) fn open_placed<'a, S: Start, T: Start, R: Files<File = File> + AllocG
     opening: Opening,
     input: &mut I,
 ) -> Result<(ImageDisk<FileDisk<S>, FileDisk<T>>, u64), CommandFault<'a>>
-    ensures shut { IfErr result (IsShutAt S.Start name.entry.now (I.remaining input.old)
+    ensures shut { IfErr result (IsShutAt S.Start T.Start name.entry.now (I.remaining input.old)
         (option_map (λ word. word.now) journal.entry) (option_map (λ word. word.now) extents.entry)) }
     ensures opened { IfOk result (λ opened. IsOpenedAt (I.remaining input.old)
         (option_map (λ word. word.now) journal.entry) (option_map (λ word. word.now) extents.entry) opened.0 opened.1) }
@@ -48,8 +50,34 @@ pub(crate) fn open_placed<'a, S: Start, T: Start, R: Files<File = File> + AllocG
     match (journal, extents) {
         (None, None) => named_front::<S, _>(open_by_front(rt, name, opening), name),
         (Some(journal), None) => open_counted(rt, name, Some(journal), opening),
-        (None, Some(word)) => open_listed(rt, name, word, opening, input),
+        (None, Some(word)) => open_compared(rt, name, word, opening, input),
         (Some(_), Some(_)) => Err(CommandFault::BadOption(OptionName::Extents)),
+    }
+}
+
+/// The file of this name as a disk whose journal stands in the blocks of a list, and the number of its home blocks: as
+/// `open_listed`. Where it is a file system of ext2, ext3 or ext4, these have to be its own journal's.
+///
+/// # Errors
+/// Those of `open_listed`, and those of `compare_own`.
+fn open_compared<'a, S: Start, T: Start, R: Files<File = File> + AllocGlobal, I: Read>(
+    rt: &R,
+    name: &'a str,
+    word: &'a str,
+    opening: Opening,
+    input: &mut I,
+) -> Result<(ImageDisk<FileDisk<S>, FileDisk<T>>, u64), CommandFault<'a>>
+    ensures shut { IfErr result
+        (IsShutCompared S.Start T.Start name.entry.now (I.remaining input.old) word.entry.now) }
+    ensures opened { IfOk result (λ opened. IsOpenedCompared (I.remaining input.old) word.entry.now opened.0 opened.1) }
+    ensures unread { is_input (list_file word.entry.now) ≡ false → input.new ≡ input.old }
+{
+    match open_listed(rt, name, word, opening, input) {
+        Ok((image, homes)) => match compare_own(rt.alloc(), image) {
+            Ok(image) => Ok((image, homes)),
+            Err(fault) => Err(fault),
+        },
+        Err(fault) => Err(fault),
     }
 }
 

@@ -95,7 +95,7 @@ pub(crate) fn named_front<'a, S: Start, V>(
 }
 
 /// The fault of a command over a file system whose own journal is not found.
-fn fault_of_find<'a>(fault: FindFault) -> CommandFault<'a>
+pub(crate) fn fault_of_find<'a>(fault: FindFault) -> CommandFault<'a>
     ensures { result ≡ of_find fault }
 {
     match fault {

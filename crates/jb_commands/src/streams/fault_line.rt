@@ -134,6 +134,7 @@ fn words_of_extents(fault: ExtentsFault) -> (&'static str, Numbers)
         ExtentsFault::Front(block) => ("jb: Extents Front ", Numbers::One(block)),
         ExtentsFault::Home(home) => ("jb: Extents Home ", Numbers::One(home)),
         ExtentsFault::Nothing => ("jb: Extents Nothing", Numbers::None),
+        ExtentsFault::Other(place) => ("jb: Extents Other ", Numbers::One(place)),
         ExtentsFault::Broken(place) => ("jb: Extents Broken ", Numbers::One(place)),
     }
 }

@@ -80,10 +80,22 @@ fn words_of_node(place: u64, fault: NodeFault) -> (&'static str, Numbers)
     ensures { node_line place fault ≡ line_naming (parts_of result.0.now result.1) None }
 {
     match fault {
-        NodeFault::Magic(number) => ("jb: Own Map Node Magic ", Numbers::Two(place, u64::from(number))),
-        NodeFault::Depth(number) => ("jb: Own Map Node Depth ", Numbers::Two(place, u64::from(number))),
-        NodeFault::Room(number) => ("jb: Own Map Node Room ", Numbers::Two(place, u64::from(number))),
-        NodeFault::Count(number) => ("jb: Own Map Node Count ", Numbers::Two(place, u64::from(number))),
+        NodeFault::Magic(number) => (
+            "jb: Own Map Node Magic ",
+            Numbers::Two(place, u64::from(number)),
+        ),
+        NodeFault::Depth(number) => (
+            "jb: Own Map Node Depth ",
+            Numbers::Two(place, u64::from(number)),
+        ),
+        NodeFault::Room(number) => (
+            "jb: Own Map Node Room ",
+            Numbers::Two(place, u64::from(number)),
+        ),
+        NodeFault::Count(number) => (
+            "jb: Own Map Node Count ",
+            Numbers::Two(place, u64::from(number)),
+        ),
         NodeFault::Empty => ("jb: Own Map Node Empty ", Numbers::One(place)),
     }
 }
