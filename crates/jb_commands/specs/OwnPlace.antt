@@ -1,8 +1,8 @@
 -- An image by its first bytes: a journal with home blocks, or a file system, whose own journal is looked for.
-use Rattle.std.specs.Prelude.{◌≡◌, ◌⊎◌, ◌<◌, ◌-◌, ◌^◌, ℕ, ◌==◌, Bool, true, false, if◌then◌else◌, ⊤, List, Option, Some, None, Result, Ok, Err, length, drop, nat_lt, option_map}
+use Rattle.std.specs.Prelude.{◌≡◌, ◌⊎◌, ◌<◌, ◌-◌, ◌^◌, ℕ, ◌==◌, Bool, true, false, if◌then◌else◌, ⊤, List, Option, Some, None, Result, Ok, Err, length, drop, nat_lt}
 use Rattle.jb_block.specs.declared.size.BlockSize.{BlockSize}
 use Rattle.jb_block.specs.declared.size.BlockSize.TheVariants.{OneKib, TwoKib, FourKib}
-use Rattle.jb_disk.specs.File.{IsMeasured}
+use Rattle.jb_disk.specs.File.{IsMeasured, count_of}
 use Rattle.jb_disk.specs.declared.file.FileDisk.{FileDisk}
 use Rattle.jb_disk.specs.declared.start.Start.{Ghosts as Starts}
 use Rattle.jb_ext.specs.Finds.{FindsJournal}
@@ -14,8 +14,8 @@ use Rattle.jb_ext.specs.declared.fault.OwnFault.{OwnFault}
 use Rattle.jb_ext.specs.declared.fault.OwnFault.TheVariants.{NoSystem}
 use Rattle.jb_ext.specs.declared.system.FileSystem.{FileSystem}
 use Rattle.jb_format.specs.Front.{homes_in}
-use Rattle.jb_image.specs.Disks.{extents_of, journal_blocks, whole_disk}
-use Rattle.jb_image.specs.Files.{as_file, as_files}
+use Rattle.jb_image.specs.Disks.{extents_of, journal_blocks, spread_count, whole_disk}
+use Rattle.jb_image.specs.Files.{as_file}
 use Rattle.jb_image.specs.Lists.{PartsFirst, extents_count, list_of}
 use Rattle.jb_image.specs.declared.extents_disk.ExtentsDisk.{ExtentsDisk}
 use Rattle.jb_image.specs.declared.extents_fault.ExtentsFault.TheVariants.{Other}
@@ -40,10 +40,14 @@ use Rattle.jb_commands.specs.declared.files.shut.FileFault.TheVariants.{Super as
 abbrev pub size_said : ℕ → BlockSize
 size_said bytes = if bytes == 2048 then TwoKib else if bytes == 4096 then FourKib else OneKib
 
+-- the size of the blocks of a file system, if there is one
+abbrev pub said_size : Option FileSystem → Option BlockSize
+said_size None = None
+said_size (Some system) = Some (size_said system.block_size)
+
 -- the size of the blocks of the file system whose superblock stands after 1,024 of these bytes, if there is one
 abbrev pub system_size : List ℕ → Option BlockSize
-system_size front =
-    if nat_lt (length front) 2048 then None else option_map (λ (s : FileSystem). size_said s.block_size) (system_in (drop 1024 front))
+system_size front = if nat_lt (length front) 2048 then None else said_size (system_in (drop 1024 front))
 
 -- an image without a journal at its front is a file system, or nothing
 abbrev pub system_front : Option BlockSize → Result ImageFront FileFault
@@ -102,7 +106,7 @@ module _ {S T : Type 0} {start : Starts S} {other : Starts T} where
   IsOwnOpened (Two pair) homes = ⊥
   IsOwnOpened (Within disk) homes =
       (own : FoundJournal) × LooksFor (Ok own) (whole_disk disk) × (list_of (extents_of disk) ≡ own.0) × (journal_blocks disk ≡ own.2.maxlen)
-      × (homes ≡ homes_in own.2 (as_files.count (Within disk)))
+      × (homes ≡ homes_in own.2 (spread_count (journal_blocks disk) (count_of (whole_disk disk))))
 
   -- the image is open, by its first bytes: with the journal at its front, or with its file system's own
   abbrev pub IsOpenedByFront : ImageDisk (FileDisk S start) (FileDisk T other) → ℕ → Type 0

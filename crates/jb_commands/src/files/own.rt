@@ -4,7 +4,7 @@ ghost use Rattle.jb_disk.specs.File.{IsMeasured};
 ghost use Rattle.jb_commands.specs.Files.{IsImageOpened, SaysSuper};
 ghost use Rattle.jb_commands.specs.OpenRefusals.{IsFileShut, IsOwnShut};
 ghost use Rattle.jb_commands.specs.OwnPlace.{IsOpenedByFront, IsOwnOpened, IsOwnUnfound};
-ghost use Rattle.jb_commands.specs.OwnPlace.{SaysFront, front_of_image, size_said, system_size};
+ghost use Rattle.jb_commands.specs.OwnPlace.{SaysFront, front_of_image, said_size, size_said, system_size};
 ghost use Rattle.jb_commands.specs.OwnPlace.{AreFew, IsComparedImage, IsComparedTo, IsOtherImage, IsOtherThan};
 ghost use Rattle.jb_commands.specs.OwnPlace.{find_told as told_of, is_no_system as has_no_system};
 ghost use Rattle.jb_image.specs.Disks.{extents_of};
@@ -52,9 +52,24 @@ pub(crate) fn open_by_front<S: Start, T: Start, R: Files<File = File> + AllocGlo
     ensures opened { IfOk result (λ opened. IsOpenedByFront opened.0 opened.1) }
 {
     match open_fronted(rt, name, opening) {
-        Ok((file, ImageFront::Journal(sb))) => open_journal(file, &sb),
-        Ok((file, ImageFront::System(size))) => open_system(rt.alloc(), file, size),
+        Ok((file, front)) => open_front(rt.alloc(), file, front),
         Err(fault) => Err(OwnShut::File(fault)),
+    }
+}
+
+/// An image that is this by its first bytes, as a disk, and the number of its home blocks.
+fn open_front<S: Start, T: Start>(
+    alloc: Global,
+    file: File,
+    front: ImageFront,
+) -> Result<(ImageDisk<FileDisk<S>, FileDisk<T>>, u64), OwnShut>
+    requires { SaysFront front }
+    ensures shut { IfErr result (IsOwnShut S.Start) }
+    ensures opened { IfOk result (λ opened. IsOpenedByFront opened.0 opened.1) }
+{
+    match front {
+        ImageFront::Journal(sb) => open_journal(file, sb),
+        ImageFront::System(size) => open_system(alloc, file, size),
     }
 }
 
@@ -108,8 +123,17 @@ fn system_size(front: &[u8]) -> Option<BlockSize>
     if front.len() < FRONT {
         return None;
     }
-    let system = FileSystem::read(&front[1024..])?;
-    Some(size_said(system.block_size))
+    said_size(FileSystem::read(&front[1024..]))
+}
+
+/// The size of the blocks of a file system, if there is one.
+fn said_size(system: Option<FileSystem>) -> Option<BlockSize>
+    ensures { result ≡ said_size system }
+{
+    match system {
+        Some(system) => Some(size_said(system.block_size)),
+        None => None,
+    }
 }
 
 /// The size of blocks with so many bytes; of 1 KiB where a journal's have another one, which is refused once the
@@ -127,15 +151,15 @@ fn size_said(bytes: u32) -> BlockSize
 /// A file as a disk with a journal at its front, which has this superblock, and the number of its home blocks.
 fn open_journal<S: Start, T: Start>(
     file: File,
-    sb: &Super,
+    sb: Super,
 ) -> Result<(ImageDisk<FileDisk<S>, FileDisk<T>>, u64), OwnShut>
-    requires { SaysSuper sb.now }
+    requires { SaysSuper sb }
     ensures shut { IfErr result (IsOwnShut S.Start) }
     ensures opened { IfOk result (λ opened. IsImageOpened None opened.0 opened.1) }
 {
     match disk_of(file, sb.block_size()) {
         Ok(disk) => {
-            let (disk, homes) = counted(disk, sb);
+            let (disk, homes) = counted(disk, &sb);
             Ok((ImageDisk::One(disk), homes))
         }
         Err(fault) => Err(OwnShut::File(fault)),
