@@ -1,19 +1,17 @@
-use Rattle.std.proofs.Common.{◌≡◌, ℕ, ◌+◌, ◌≤◌, List, [], ◌∷◌, ◌++◌, map, refl, ap, ap₂, ◌∙◌, arith, append-nil}
-use Rattle.jb_disk.specs.Image.{Image}
-use Rattle.jb_format.specs.Ready.{revoking}
+use Rattle.std.proofs.Common.{◌≡◌, ◌+◌, List, [], ◌∷◌, ◌++◌, map, refl, ap, ap₂, ◌∙◌, arith, append-nil}
 use Rattle.jb_log.specs.declared.log.Log.{Log}
 use Rattle.jb_deck.specs.Changes.{Change, settled_in, settles}
 use Rattle.jb_deck.specs.GroupsOfBatch.{groups_in}
 use Rattle.jb_deck.specs.Since.{in_commit}
 use Rattle.jb_deck.specs.GroupByGroup.{handles_to}
 use Rattle.jb_deck.proofs.HomeChanges.{settled-append, settled-map}
-use Rattle.proof_clients.specs.Client.{HasPrefix}
+use Rattle.jb_deck.proofs.HomesSinceOpen.{all-handles}
 use Rattle.proof_clients.specs.Programs.{all_changes, commits}
-use Rattle.proof_clients.proofs.Programs.{LeftIn, SoFar, before, left-to, opening-runs}
+use Rattle.proof_clients.proofs.Programs.{SoFar, left-to, opening-runs}
 use Rattle.proof_clients.proofs.ProgramCalls.{begun, commit-on, commit-runs, idle-on, idle-runs}
-use Rattle.proof_clients.proofs.prefix.commit_three.Given.{Over}
-use Rattle.proof_clients.proofs.prefix.commit_three.Goals.{After-commit, After-checkpoint_one, After-commit-3}
-use Rattle.proof_clients.proofs.prefix.commit_three.Goals as goal
+use Rattle.proof_clients.proofs.three.commit_three.Given.{Over}
+use Rattle.proof_clients.proofs.three.commit_three.Goals.{After-commit, After-checkpoint_one, After-commit-3}
+use Rattle.proof_clients.proofs.three.commit_three.Goals as goal
 
 opened : (g : Over) (c : After-commit g)
     → SoFar g.D.Disk c.args.disk c.in-Ok.deck [] (commits c.args.first ∷ commits c.args.second ∷ commits c.args.third ∷ []) c.in-Ok.deck
@@ -68,10 +66,10 @@ returns-in-Ok-commit-3-clause-leaves g c =
     let at = goal.at.returns-in-Ok-commit-3-clause-leaves g c in
     commit-runs (checkpointed g at.After-commit-3 (two g at.After-checkpoint_one (opened g at.After-commit))) refl c.commit-3.ensures.kept c.commit-3.ensures.left
 
-pub returns-in-Ok-commit-3-clause-prefix : goal.returns-in-Ok-commit-3-clause-prefix
-returns-in-Ok-commit-3-clause-prefix g c = λ held.
+pub returns-in-Ok-commit-3-clause-all : goal.returns-in-Ok-commit-3-clause-all
+returns-in-Ok-commit-3-clause-all g c = λ held.
     let G = g.D.Disk in
-    let at = goal.at.returns-in-Ok-commit-3-clause-prefix g c in
+    let at = goal.at.returns-in-Ok-commit-3-clause-all g c in
     let so = checkpointed g at.After-commit-3 (two g at.After-checkpoint_one (opened g at.After-commit)) in
     let honest = c.commit-3.ensures.kept.was_honest held in
     let own = (so.is honest).opens.sb in
@@ -79,29 +77,23 @@ returns-in-Ok-commit-3-clause-prefix g c = λ held.
     let second = c.args.second in
     let third = c.args.third in
     let now = c.checkpoint_one.new.self in
-    let numbers = groups_in first.groups + groups_in second.groups in
     let made : List Change = all_changes (commits first ∷ commits second ∷ []) in
     let hs = first.batch.handles ++ second.batch.handles in
     let settled : settled_in made ≡ hs =
     rw (settled-append (map settles first.batch.handles) (map settles second.batch.handles ++ []), settled-map first.batch.handles, append-nil (map settles second.batch.handles))
     (ap (λ xs. first.batch.handles ++ xs) (settled-map second.batch.handles)) in
-    let has : (least groups : ℕ) (image : Image) → least ≤ groups → groups ≤ groups_in third.groups
-    → LeftIn G now (map settles (handles_to third.groups groups third.batch.handles)) (now.log.next + groups) image
-    → HasPrefix (revoking own) (own.sequence + 1 + numbers) (G.size c.args.disk) (G.count c.args.disk) (before G c.args.disk) hs third least image
-    = λ least groups image from within left.
-    let more = handles_to third.groups groups third.batch.handles in
-    let all : settled_in (made ++ map settles more) ≡ hs ++ more = settled-append made (map settles more) ∙ ap₂ (λ xs ys. xs ++ ys) settled (settled-map more) in
-    let many : own.sequence + 1 + (groups_in first.groups + (groups_in second.groups + 0) + groups) ≡ own.sequence + 1 + numbers + groups = omega arith in
-    record { groups = groups; from = from; within = within; recovered = left-to G c.args.disk so honest (map settles more) groups image left refl all many } in
     let left = c.commit-3.ensures.left so.up held in
     record {
       own = own;
       was = (so.is honest).opens.taken;
-      since = G.moment now.disk;
-      past = left.later;
-      each = λ image may. let l = left.each image may in has 0 l.groups image (omega arith) l.within l.left;
-      ends = λ image may.
+      each = λ image may.
+          let n = groups_in third.groups in
           let f = (c.in-Ok-commit-3.ensures.now so.up held).each image may in
           let frame = (left.each image (g.met.D.Disk.counts_now c.commit-3.new.deck.disk (G.moment now.disk) image held left.later may)).frame in
-          has (groups_in third.groups) f.groups image f.from f.to (in_commit third (groups_in third.groups) (groups_in third.groups) image f frame);
+          let more = handles_to third.groups f.groups third.batch.handles in
+          let whole : f.groups ≡ n = omega (arith, f.from, f.to) in
+          let handles : more ≡ third.batch.handles = ap (λ k. handles_to third.groups k third.batch.handles) whole ∙ all-handles third.groups third.batch.handles c.commit-3.ensures.planned.least.fitting.cut in
+          let all : settled_in (made ++ map settles more) ≡ hs ++ third.batch.handles = settled-append made (map settles more) ∙ ap₂ (λ xs ys. xs ++ ys) settled (settled-map more ∙ handles) in
+          let many : own.sequence + 1 + (groups_in first.groups + (groups_in second.groups + 0) + f.groups) ≡ own.sequence + 1 + (groups_in first.groups + groups_in second.groups + n) = omega (arith, whole) in
+          left-to G c.args.disk so honest (map settles more) f.groups image (in_commit third n n image f frame) refl all many;
     }

@@ -2,7 +2,7 @@
 ghost use Rattle.std.specs.Prelude.{IfOk, ◌+◌, ◌∷◌, ◌⊎◌, ◌++◌, []};
 ghost use Rattle.jb_disk.specs.Time.{LeavesOnly};
 ghost use Rattle.jb_deck.specs.GroupsOfBatch.{groups_in};
-ghost use Rattle.proof_clients.specs.Client.{LeavesPrefix};
+ghost use Rattle.proof_clients.specs.Client.{LeavesAll};
 ghost use Rattle.proof_clients.specs.Programs.{commits, disk_after, LeftByProgram};
 
 use crate::commit::{commit, give_up};
@@ -13,9 +13,8 @@ use jb_plan::Prepared;
 use std::alloc::Global;
 
 /// Opens the journal of a disk, commits two batches, checkpoints the oldest transaction and commits a third batch.
-/// Whatever a crash leaves while the third is committed has the journal's own superblock. It is recovered to the homes
-/// as they stood at first, with the handles of the first two batches and those of the first groups of the third: of all
-/// its groups once it is committed.
+/// Whatever a crash leaves of the disk afterwards has the journal's own superblock, and is recovered to the homes as
+/// they stood at first, with all handles of the three batches.
 ///
 /// # Errors
 ///
@@ -30,9 +29,9 @@ pub fn commit_three<D: Disk + Drop>(
     third: Prepared,
     stamp: Stamp,
 ) -> Result<Deck<D>, D>
-    ensures prefix { D.honest (disk_after result) → IfOk result (λ deck. LeavesPrefix D.may_leave D.moment
-        D.left_since (D.size disk) (D.count disk) (D.newest disk) (first.batch.handles ++ second.batch.handles)
-        (groups_in first.groups + groups_in second.groups) third deck.disk) }
+    ensures all { D.honest (disk_after result) → IfOk result (λ deck. LeavesAll D.may_leave (D.size disk)
+        (D.count disk) (D.newest disk) (first.batch.handles ++ second.batch.handles ++ third.batch.handles)
+        (groups_in first.groups + groups_in second.groups + groups_in third.groups) deck.disk) }
     ensures leaves { D.honest (disk_after result) → LeavesOnly D.moment D.left_since disk (disk_after result)
         (λ c. D.may_leave disk c ⊎ LeftByProgram (D.size disk) (D.count disk) (D.newest disk)
         (commits first ∷ commits second ∷ commits third ∷ []) c) }
