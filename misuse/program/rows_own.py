@@ -23,6 +23,18 @@ row("cat a 20", 1, err="jb: Extents Home 20\n", files=ext(FULL))
 # the copy in the superblock serves where the inode or its map is refused
 for inode in ((0x00, "H", 0x4180),), ((0x1A, "H", 0),), ((0x04, "I", 5 * BS),), ((0x28, "H", 0xF30B),), ((0x28 + 6, "H", 6),), ((0x28 + 12 + 4, "H", 0),), ((0x28 + 12 + 8, "I", 2000),):
     row("recover a", 0, LINE, files=ext(FULL, inode=inode), after=ext(RECOVERED, inode=inode))
+# a list has to be that of the file system's own journal, forced or not
+for more in "", " --dry-run", " --force":
+    row("recover a --extents 20-52" + more, 0, LINE, files=ext(FULL), after={} if "dry" in more else ext(RECOVERED))
+    row("recover a --extents (0-9):20-29,~(IND):19,^(10-32):30-52" + more, 0, LINE, files=ext(FULL), after={} if "dry" in more else ext(RECOVERED))
+    for said, place in ("(0-9):20-29,~(10-32):31-53", 10), ("(0):20,~(1-32):22-53", 1), ("(0-31):20-51,~(32):60", 32), ("(0-15):20-35,~(16-16):37,~(17-17):36,~(18-32):38-52", 16):
+        row("recover a --extents " + said + more, 1, err="jb: Extents Other %d\n" % place, files=ext(FULL))
+    row("recover a --extents 20-52" + more, 1, err="jb: Own Inode NoLink\n", files=ext(FULL, backup=False, inode=((0x1A, "H", 0),)))
+    row("recover a --extents 20-52" + more, 1, err="jb: Own None\n", files=ext(FULL, compat=0))
+row("cat a 9 --extents 20-52", 0, NINE, files=ext(FULL))
+row("cat a 9 --extents (0):20,~(1-32):22-53", 1, err="jb: Extents Other 1\n", files=ext(FULL))
+row("recover a --extents 20-52", 1, err="jb: FileSystem Uuid\n", files=ext(FULL, uuid=bytes(16)))
+row("recover a --extents 20-52", 0, LINE, files=ext(FULL, incompat=EXTENTS), after=ext(RECOVERED, incompat=EXTENTS))
 OWN = [
     # the superblock
     (dict(incompat=4 | EXTENTS | 8), "Device"), (dict(incompat=4 | EXTENTS | 0x1000), "Feature 4096"), (dict(compat=0), "None"), (dict(inum=0), "None"),

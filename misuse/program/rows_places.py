@@ -169,20 +169,19 @@ row("recover a --journal j --dry-run --list", 0, LINE + "home 5\n", files=parted
 for home, err in ((system(), ""), (system(log=2), "BlockSize 4096"), (system(log=9), "BlockSize 0"), (system(uuid=bytes(16)), "Uuid"), (system(incompat=2), "Clean"),
                   (system(uuid=bytes(16), incompat=0), "Uuid"), (system(magic=0xEF52, log=2), "")):
     before, after = over(FULL, home), over(RECOVERED, home)
-    for words, lay in (("recover a --journal j", parted), ("recover a --extents 20-52", lambda content: within(content, [(20, 33)]))):
-        of = " a" * (lay == parted)
-        # in blocks of the size that the file system says, the journal begins elsewhere
-        if err == "BlockSize 4096" and lay != parted:
-            for more in "", " --dry-run", " --force":
-                row(words + more, 1, err="jb: Extents NoJournal\n", files=lay(before))
-            continue
+    # a copy of its journal; one in its place is compared with what the file system says of it (rows_own.py)
+    words, lays = "recover a --journal j", [parted]
+    if b"\x53\xef" not in home:
+        lays.append(lambda content: within(content, [(20, 33)]))
+    for lay in lays:
+        words = words if lay == parted else "recover a --extents 20-52"
         if err:
-            row(words, 1, err="jb: FileSystem %s%s\n" % (err, of), files=lay(before))
-            row(words + " --dry-run", 1, err="jb: FileSystem %s%s\n" % (err, of), files=lay(before))
+            row(words, 1, err="jb: FileSystem %s a\n" % err, files=lay(before))
+            row(words + " --dry-run", 1, err="jb: FileSystem %s a\n" % err, files=lay(before))
         else:
             row(words, 0, LINE, files=lay(before), after=lay(after))
         if "BlockSize" in err:
-            row(words + " --force", 1, err="jb: FileSystem %s%s\n" % (err, of), files=lay(before))
+            row(words + " --force", 1, err="jb: FileSystem %s a\n" % err, files=lay(before))
         else:
             row(words + " --force", 0, LINE, files=lay(before), after=lay(after))
             row(words, 0, "transactions 0 copies 0 revoked 0 next 4\n", files=lay(after))
@@ -206,8 +205,6 @@ for secs, mounted, is_older in (((7,), 7, False), ((7,), 8, True), ((9, 7), 9, F
             row(words + " --force", 0, said, files=parted(before), after=parted(before if "dry" in words else after))
         else:
             row(words, 0, said, files=parted(before), after=parted(before if "dry" in words else after))
-    # in its place a journal is no copy
-    row("recover a --extents 20-52", 0, said, files=within(before, [(20, 33)]), after=within(after, [(20, 33)]))
 # no commit, and a clean journal
 for front in superblock(5, 1), superblock(2):
     row("recover a --journal j --dry-run", 0, "transactions 0 copies 0 revoked 0 next %d\n" % (6 if front == superblock(5, 1) else 3),
