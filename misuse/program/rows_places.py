@@ -4,6 +4,7 @@ import struct
 from images import BS, LAST_TAG, UUID, commit, data, descriptor, image, revoke, superblock
 from rows import BLOCK_5, CLEAN, CLEARED, FULL, HANDLE, MISSING, OLD, ONE, OUT_OF_RANGE, RECOVERED, SMALL, TWO_AND_REVOKED, TWO_COPIES
 from rows import queue, row
+from systems import ext
 
 
 def xxd(content, at=0):
@@ -146,7 +147,7 @@ for log, err in (([], "Nothing"), ([STRAY], "Nothing"), ([commit(9)], "Nothing")
     else:
         row("recover a --extents 20-52 --dry-run", 0, is_told, files=within(before, [(20, 33)]))
     # a file system of ext3 says that the journal is its own
-    row("recover a --extents 20-52 --dry-run", 0, is_told, files=within(over(before, system()), [(20, 33)]))
+    row("recover a --extents 20-52 --dry-run", 0, is_told, files=ext(before))
 row("cat a 9 --extents (0-31):20-51", 1, err="jb: Extents Short 32\n", files=HERE)
 row("recover a --extents (0-32):16-48", 1, err="jb: Extents Home 16\n", files=within(image(superblock(2, 1), OUT_OF_RANGE), [(16, 33)]))
 row("recover a --extents (0-32):16-48 --dry-run", 1, err="jb: Extents Home 16\n", files=within(image(superblock(2, 1), OUT_OF_RANGE), [(16, 33)]))
