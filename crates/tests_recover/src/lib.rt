@@ -44,6 +44,8 @@ mod maps;
 #[cfg(test)]
 mod mixtures;
 #[cfg(test)]
+mod own;
+#[cfg(test)]
 mod pairs;
 #[cfg(test)]
 mod peeks;
