@@ -48,6 +48,7 @@ pub(crate) fn commit<D: Disk>(
 ) -> Result<(), CommitFailed>
     ensures planned { IsPlanned batch }
     ensures kept { KeptOn D.Disk CountsAny deck.old.disk deck.new.disk }
+    ensures unfailed { OnOk result (D.faults deck.new.disk ≡ D.faults deck.old.disk) }
     ensures up { OnOk result ((deck.old.aborted ≡ false) × (deck.new.aborted ≡ false)) }
     ensures numbers { OnOk result (deck.new.log.next ≡ deck.old.log.next + groups_in batch.groups) }
     ensures ended { D.honest deck.new.disk → OnOk result (IsEnded D.newest deck.old

@@ -1,5 +1,6 @@
 use Rattle.std.proofs.Common.{◌≡◌, ap, true, Ok, [], ◌∷◌, sym, subst, ◌∙◌, add-zero}
 use Rattle.jb_disk.proofs.CallRuns.{at_the_end}
+use Rattle.jb_disk.proofs.KeptOverCalls.{kept_as, kept_ok, kept_on}
 use Rattle.jb_disk.specs.Throughout.{AllHave}
 use Rattle.jb_disk.specs.Time.{LeavesOnly}
 use Rattle.jb_super.specs.Superblock.{Superblock}
@@ -110,3 +111,8 @@ returns-clause-ends g c = λ held yes.
           at_the_end G.may_leave G.moment G.left_since old.disk new (LeftNow G old) (checked.left so.up later)
           (λ t c within left. g.met.D.Disk.counts_now new t c later within left) image (subst (λ d. G.may_leave d image) c.close-2.ensures.value may);
     }))
+
+pub returns-clause-kept : goal.returns-clause-kept
+returns-clause-kept g c =
+    let committed = kept_as c.in-Ok-commit.ensures.kept c.in-Ok-commit.ensures.unfailed in
+    rw c.close-2.ensures.value (kept_on (kept_ok c.in-Ok.ensures.kept committed) c.checkpoint_one-checked.ensures.kept tt)
