@@ -1,7 +1,6 @@
 //! Laws of the definitions alone.
 
-ghost use Rattle.std.specs.Prelude.{IsTrue};
-ghost use Rattle.jb_disk.specs.Laws.{ImagesAreChosen, ImagesTakeVersions};
+ghost use Rattle.jb_disk.specs.Laws.{ImagesAreChosen, ImagesTakeVersions, RunsAsCalls};
 
 use crate::{Disk, FileDisk, FuseDisk, MemoryDisk, OneFaultDisk, Start};
 
@@ -16,7 +15,7 @@ pub fn crash()
 /// Asks of a kind of disk that blocks in a row make of it what a call for each of them makes, so that `own` of
 /// `read_run` and `write_run` holds without its condition.
 pub fn runs_as_calls<D: Disk>()
-    requires { IsTrue D.runs_as_calls }
+    requires { RunsAsCalls D.Disk }
 {}
 
 /// It is so of a disk in memory, of a fuse, of a disk of one fault and of a file.
