@@ -13,5 +13,6 @@ pub mod RunWrites
 pub mod Sectors
 pub mod StartBound
 pub mod Stays
+pub mod Unsynced
 pub mod WriteBehindOwes
 pub mod WritesByPlace

@@ -1,9 +1,14 @@
 -- Laws of the definitions alone.
-use Rattle.std.specs.Prelude.{◌<◌, ◌↔◌, ℕ, ◌/◌, List}
+use Rattle.std.specs.Prelude.{IsTrue, ◌<◌, ◌↔◌, ℕ, ◌/◌, List}
 use Rattle.jb_block.specs.Size.{bytes_of}
 use Rattle.jb_disk.specs.Image.{Image, block, sector, HasShape}
 use Rattle.jb_disk.specs.History.{History, IsHistorySound, MayLeave}
 use Rattle.jb_disk.specs.Versions.{IsAmong, IsChosen, versions}
+use Rattle.jb_disk.specs.declared.disk.Disk.{Ghosts}
+
+-- `own` of a run of blocks holds of this kind of disk without its condition
+abbrev pub RunsAsCalls : {D : Type 0} → Ghosts D → Type 0
+RunsAsCalls G = IsTrue G.runs_as_calls
 
 -- an image of the disk's shape, each sector of which is one of its versions
 pub record TakesVersions (h : History) (c : Image) : Type 0 where

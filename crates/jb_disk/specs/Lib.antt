@@ -21,6 +21,7 @@ pub mod Stays
 pub mod Steps
 pub mod Throughout
 pub mod Time
+pub mod Unsynced
 pub mod Versions
 pub mod WriteBehind
 pub mod Writes
