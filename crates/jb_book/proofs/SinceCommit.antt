@@ -32,7 +32,7 @@ use Rattle.jb_deck.specs.declared.done.Done.{Done}
 use Rattle.jb_super.specs.Journal.{SameJournal}
 use Rattle.jb_log.proofs.OwnSuperblock.{same-then}
 use Rattle.jb_deck.specs.Since.{LiveOf, committed, deck_homes}
-use Rattle.jb_deck.proofs.HomesSinceOpen.{ended-is-call}
+use Rattle.jb_deck.proofs.EndedMakes.{ended-is-call}
 use Rattle.jb_deck.proofs.HomesStand.{call-stood}
 use Rattle.jb_book.specs.Journal.{EndsRound, RefusesRound}
 use Rattle.jb_book.specs.Origin.{Begun}
