@@ -10,7 +10,7 @@ use Rattle.jb_disk.specs.Image.{Image}
 use Rattle.jb_handle.specs.declared.stopped.Stopped.{Stopped}
 use Rattle.jb_super.specs.Journal.{SameJournal}
 use Rattle.jb_super.specs.Superblock.{Superblock}
-use Rattle.jb_log.specs.Follows.{Follows, FollowsNone, OldHeaders}
+use Rattle.jb_log.specs.Follows.{Follows, RecoversWith, OldHeaders}
 use Rattle.jb_deck.specs.GroupsOfBatch.{groups_in}
 use Rattle.jb_deck.specs.GroupByGroup.{FollowsSome, handles_to}
 use Rattle.jb_deck.specs.Calls.{IsRecoveredTo}
@@ -74,7 +74,7 @@ module _ (b : Begun) where
         let is = stood-recovered b.own own next n m b.homes given homes more c same stood f h in
         subst (λ k. IsRecoveredTo b.own next k b.count b.homes (given ++ more) c) sized (subst (λ k. IsRecoveredTo b.own next n k b.homes (given ++ more) c) counted is)
 
-    pub first-none : (least next : ℕ) (c : Image) → least ≤ length given → next ≤ b.own.sequence + 1 + length given → FollowsNone own next n m homes c → HasFirst b given least c
+    pub first-none : (least next : ℕ) (c : Image) → least ≤ length given → next ≤ b.own.sequence + 1 + length given → RecoversWith own next n m homes [] c → HasFirst b given least c
     first-none least next c low few none =
         subst (λ hs. HasFirst b hs least c) (append-nil given) (first-more given [] 0 least next c (omega arith) (omega (arith, low)) (omega (arith, few)) (recovered-more [] next c none.follows none.headers))
 
@@ -83,7 +83,7 @@ module _ (b : Begun) where
         let groups : some.groups ≤ groups_in bounds = omega (arith, within) in
         let rise = cut-rise (length hs) bounds least some.groups cut some.from groups in
         let high = cut-within (length hs) bounds some.groups cut groups in
-        first-more given hs (slice_index bounds some.groups) low (next + some.groups) c (omega (arith, high.1)) (omega (arith, below, rise)) (omega (arith, few, high.0)) (recovered-more (handles_to bounds some.groups hs) (next + some.groups) c some.follows some.headers)
+        first-more given hs (slice_index bounds some.groups) low (next + some.groups) c (omega (arith, high.1)) (omega (arith, below, rise)) (omega (arith, few, high.0)) (recovered-more (handles_to bounds some.groups hs) (next + some.groups) c some.recovers.follows some.recovers.headers)
 
 -- ---- entries of a list
 

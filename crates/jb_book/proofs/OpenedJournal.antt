@@ -16,7 +16,7 @@ use Rattle.jb_super.specs.Journal.{SameJournal}
 use Rattle.jb_super.specs.Superblock.{Superblock}
 use Rattle.jb_deck.specs.Deck.{IsShapeOf, OpenDeck}
 use Rattle.jb_deck.specs.Done.{past_after}
-use Rattle.jb_log.specs.Follows.{FollowsNone}
+use Rattle.jb_log.specs.Follows.{RecoversWith}
 use Rattle.jb_disk.specs.Throughout.{AllHave}
 use Rattle.jb_deck.specs.Open.{CountsOpen, FollowsEntry, IsNew, Opens, RefusesOpen, disk_in, opened_log, recovered_home}
 use Rattle.jb_deck.specs.declared.fault.OpenFault.{OpenFault}
@@ -59,7 +59,7 @@ module _ {D : Type 0} (G : Ghosts D) (disk : D) where
   pub open-since : ((d : D) (t : ℕ) (c : Image) → G.honest d → t ≤ G.moment d → G.may_leave d c → G.left_since d t c)
       → (b : Begun) → IsBegunOn G b disk → (r : Opened) → KeptOn G (CountsOpen r) disk (disk_in r) → IfOk r IsNew → OpensAs r
       → (G.honest (disk_in r) → LeavesOnly G.moment G.left_since disk (disk_in r) (λ c. G.may_leave disk c ⊎ FollowsEntry (G.size disk) (G.count disk) (G.newest disk) c))
-      → (G.honest (disk_in r) → IfOk r (λ deck. AllHave G.may_leave deck.disk (FollowsNone deck.log.sb deck.log.next (G.size disk) (G.count disk) (recovered_home (G.size disk) (G.count disk) (G.newest disk)))))
+      → (G.honest (disk_in r) → IfOk r (λ deck. AllHave G.may_leave deck.disk (RecoversWith deck.log.sb deck.log.next (G.size disk) (G.count disk) (recovered_home (G.size disk) (G.count disk) (G.newest disk)) [])))
       → (G.honest (disk_in r) → IfOk r (λ deck. (home : ℕ) → deck_homes G.newest deck home ≡ recovered_home (G.size disk) (G.count disk) (G.newest disk) home))
       → IfOk r (IsSince G b)
   open-since counts_now b begun (Ok deck) kept new opens leaves now stands =

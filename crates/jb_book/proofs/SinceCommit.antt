@@ -32,7 +32,7 @@ use Rattle.jb_deck.specs.declared.done.Done.{Done}
 use Rattle.jb_super.specs.Journal.{SameJournal}
 use Rattle.jb_log.proofs.OwnSuperblock.{same-then}
 use Rattle.jb_deck.specs.Since.{LiveOf, committed, deck_homes}
-use Rattle.jb_deck.proofs.HomesSinceOpen.{ended-is-call}
+use Rattle.jb_deck.proofs.EndedMakes.{ended-is-call}
 use Rattle.jb_deck.proofs.HomesStand.{call-stood}
 use Rattle.jb_book.specs.Journal.{EndsRound, RefusesRound}
 use Rattle.jb_book.specs.Origin.{Begun}
@@ -251,16 +251,24 @@ module _ {D : Type 0} (G : Ghosts D) (b : Begun) (known : Stopped → Type 0) (p
     commit-ends (Ok done) answers on_disk finds leaves now is = record {
       planned = planned;
       stamp = stamp;
-      old = old;
-      new = new;
+      cut = record {
+        least = planned.least;
+        old = old;
+        new = new;
+        takes = answers.0;
+        first = answers.2.first;
+        entries = answers.2.entries;
+        trail = answers.2.trail;
+        next = answers.2.next;
+        up = answers.2.up;
+        before = plain-is G b known plain old is.since;
+        after = plain-is G b known plain new (commit-marked ms (Ok done) answers on_disk leaves now is).since;
+        adds = refl;
+      };
       same_disk = kept;
-      takes = answers.0;
       commits = answers.2;
       on_disk = λ known_start held. on_disk held;
       finds = λ known_start held. finds held;
-      before = plain-is G b known plain old is.since;
-      after = plain-is G b known plain new (commit-marked ms (Ok done) answers on_disk leaves now is).since;
-      adds = refl;
     }
     commit-ends (Err (batch.Aborted back)) answers on_disk finds leaves now is = record { deck = old; since = plain-is G b known plain old is.since; failed = answers.0 }
     commit-ends (Err (batch.WrongTicket back expected)) answers on_disk finds leaves now is = refuses-round (batch.WrongTicket back expected) answers.0 (answers.0, answers.1, answers.2, answers.3) is

@@ -16,7 +16,7 @@ use Rattle.jb_deck.specs.Checkpoints.{AnswersCheckpoint, AnswersRun, Checkpoints
 use Rattle.jb_group.specs.declared.group.Group.{Group}
 use Rattle.jb_deck.specs.Deck.{OpenDeck, on_disk}
 use Rattle.jb_deck.specs.Done.{past_after, start_of}
-use Rattle.jb_log.specs.Follows.{FollowsNone, StandsBy}
+use Rattle.jb_log.specs.Follows.{RecoversWith, StandsBy}
 use Rattle.jb_log.specs.Log.{transactions, standing}
 use Rattle.jb_deck.specs.declared.checked.Checked.{Checked}
 use Rattle.jb_deck.specs.declared.checked.CheckedRun.{CheckedRun}
@@ -25,7 +25,7 @@ use Rattle.jb_deck.specs.declared.checked.CheckpointFault.TheVariants as checkpo
 use Rattle.jb_deck.specs.declared.done.Entry.{Entry}
 use Rattle.jb_log.proofs.OwnSuperblock.{same-then}
 use Rattle.jb_deck.specs.Since.{LiveOf, checkpointed, deck_homes}
-use Rattle.jb_deck.proofs.HomesSinceOpen.{ended-is-call}
+use Rattle.jb_deck.proofs.EndedMakes.{ended-is-call}
 use Rattle.jb_book.specs.Journal.{blocks_in_use, most_at_once, ChecksAt, ChecksRound, ReadsHome}
 use Rattle.jb_book.specs.declared.checkpoint.CheckpointRound.{CheckpointRound}
 use Rattle.jb_book.specs.declared.checkpoint.CheckpointRound.TheVariants.{Home}
@@ -98,7 +98,7 @@ still-as {D = D} G old new failed is more = record {
 
 module _ {D : Type 0} (G : Ghosts D) (counts_now : CountsNow G) (b : Begun) (known : Stopped → Type 0) (old new : OpenDeck D) (kept : KeptOn G CountsAny old.disk new.disk) where
   abbrev pub None : Image → Type 0
-  None c = FollowsNone old.log.sb old.log.next (G.size old.disk) (G.count old.disk) (deck_homes G.newest old) c
+  None c = RecoversWith old.log.sb old.log.next (G.size old.disk) (G.count old.disk) (deck_homes G.newest old) [] c
 
   abbrev pub LeavesNone : Type 0
   LeavesNone = old.aborted ≡ false → G.honest new.disk → LeavesOnly G.moment G.left_since old.disk new.disk None

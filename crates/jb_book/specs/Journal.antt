@@ -1,7 +1,9 @@
 -- What a round of a desk has done to its journal.
-use Rattle.std.specs.Prelude.{◌≡◌, ◌<◌, ◌≤◌, ◌⊎◌, ◌++◌, true, false, ℕ, List, [], All, Result, Ok, Err, OnOk}
+use Rattle.std.specs.Prelude.{◌≡◌, ◌+◌, ◌<◌, ◌≤◌, ◌⊎◌, ◌++◌, length, true, false, ℕ, List, [], All, Result, Ok, Err, OnOk}
 use Rattle.std.specs.Global.{Vec}
 use Rattle.std.specs.declared.alloc.AllocError.{AllocError}
+use Rattle.jb_cost.specs.Cut.{IsLeastCut}
+use Rattle.jb_plan.specs.Costs.{cost_in}
 use Rattle.jb_plan.specs.Prepare.{Planned, IsPlanned}
 use Rattle.jb_block.specs.declared.stamp.Stamp.{Stamp}
 use Rattle.jb_disk.specs.Faults.{CountsAny}
@@ -11,7 +13,8 @@ use Rattle.jb_scan.specs.Found.{log_blocks}
 use Rattle.jb_deck.specs.Checkpoints.{AnswersRun, Checkpoints, TakesOldest, TakesRun}
 use Rattle.jb_deck.specs.CommitBatch.{CommitsBatch, CommitsOnDisk, FindsLive, RefusesBatch, SettlesSome, TakesBatch}
 use Rattle.jb_deck.specs.Deck.{OpenDeck}
-use Rattle.jb_deck.specs.Done.{Follow, past_after, start_of}
+use Rattle.jb_deck.specs.GroupsOfBatch.{entries_for, groups_in}
+use Rattle.jb_deck.specs.Done.{Follow, entries_of, first_ticket, past_after, start_of}
 use Rattle.jb_log.specs.Log.{standing, transactions}
 use Rattle.jb_deck.specs.ReadHome.{AnswersRead}
 use Rattle.jb_deck.specs.TakeTrail.{MayTakeFirst, TakesTrail, oldest_number}
@@ -49,21 +52,31 @@ AnswersAt level before after old new (Ok (Home run)) = (level ≤ blocks_in_use 
 AnswersAt level before after old new (Err fault) = ((old.aborted ≡ true) ⊎ (level ≤ blocks_in_use old)) × AnswersRun most_at_once before after old new (Err fault)
 
 module _ {D : Type 0} (G : Ghosts D) (b : Begun) where
-  -- the desk's journal before and after it committed this batch, of which these are the groups; the handles that it was given are
-  -- those of before, and then the batch's
-  pub record IsRound (p : Planned) (done : Done) : Type 0 where
-    pub planned : IsPlanned p
-    pub stamp : Stamp
+  -- The desk's journal before and after it committed this batch, by a cut of its handles within the journal's limit that takes the fewest log blocks. The groups that
+  -- are settled are those of the cut, with their handles, numbers and blocks, and the trail has them. The handles that it was given are those of before, and then the batch's
+  pub record CutsBatch (p : Planned) (done : Done) : Type 0 where
+    pub least : IsLeastCut (cost_in p.batch.shape p.batch.handles) p.batch.shape.limit (length p.batch.handles) p.groups
     pub old : OpenDeck D
     pub new : OpenDeck D
-    pub same_disk : KeptOn G CountsAny old.disk new.disk
     pub takes : TakesBatch old p
-    pub commits : CommitsBatch p stamp old new done
-    pub on_disk : b.is_known → G.honest new.disk → CommitsOnDisk G.newest p stamp old new
-    pub finds : b.is_known → G.honest new.disk → FindsLive (G.size old.disk) (G.count old.disk) new.log new.groups (G.newest new.disk)
+    pub first : first_ticket done ≡ p.batch.first
+    pub entries : entries_of done ≡ entries_for (cost_in p.batch.shape p.batch.handles) p.batch.first old.log.next p.groups
+    pub trail : new.trail ≡ old.trail ++ entries_of done
+    pub next : new.log.next ≡ old.log.next + groups_in p.groups
+    pub up : new.aborted ≡ false
     pub before : IsSince G b old
     pub after : IsSince G b new
     pub adds : after.given ≡ before.given ++ p.batch.handles
+
+  -- so it has committed this batch, of which these are the groups; and so its log and its disk have them
+  pub record IsRound (p : Planned) (done : Done) : Type 0 where
+    pub planned : IsPlanned p
+    pub stamp : Stamp
+    pub cut : CutsBatch p done
+    pub same_disk : KeptOn G CountsAny cut.old.disk cut.new.disk
+    pub commits : CommitsBatch p stamp cut.old cut.new done
+    pub on_disk : b.is_known → G.honest cut.new.disk → CommitsOnDisk G.newest p stamp cut.old cut.new
+    pub finds : b.is_known → G.honest cut.new.disk → FindsLive (G.size cut.old.disk) (G.count cut.old.disk) cut.new.log cut.new.groups (G.newest cut.new.disk)
 
   -- the desk's journal before and after a commit of a prepared batch in which a call of its disk failed: these groups, first ones of the batch, are settled in it
   pub record FailsRound (p : Planned) (settled : Done) : Type 0 where

@@ -5,7 +5,7 @@ use Rattle.jb_board.specs.Steps.{raised_settled}
 use Rattle.jb_board.specs.declared.front.Front.{Front}
 use Rattle.jb_disk.specs.declared.disk.Disk.{Ghosts as Disks}
 use Rattle.jb_book.specs.Account.{Account}
-use Rattle.jb_desk.specs.Journal.{CommitsRound}
+use Rattle.jb_desk.specs.Journal.{CommitsRound, CutsRound}
 use Rattle.jb_book.specs.Origin.{Begun}
 use Rattle.jb_book.specs.Rounds.{end_of}
 use Rattle.jb_desk.specs.Rounds.{AnswersRound, GivesBatch, IdleKeeps}
@@ -69,6 +69,12 @@ round-up G begun held after b reached (Err round.Aborted) up is = tt
 round-up G begun held after b reached (Err round.DeviceFault) up is = (is.0, is.1, up-again held b is.0.batch up is.2, is.3, is.4)
 round-up G begun held after b reached (Err round.Memory) up is = tt
 round-up G begun held after b reached (Err round.Refused) up is = (is.0, is.1, up-again held b is.0.batch up is.2, is.3, is.4)
+
+-- a batch that a round has committed was cut
+pub round-cut : {D : Type 0} (G : Disks D) (begun : Begun) (held after : Option Gathered) (reached : ℕ) (r : Result Round RoundFault) → CommitsRound G begun held after reached r → CutsRound G begun held r
+round-cut G begun held after reached (Ok (Idle seen)) is = tt
+round-cut G begun held after reached (Ok (Committed done)) is = (is.0, is.1, is.2.cut)
+round-cut G begun held after reached (Err fault) is = tt
 
 -- a batch that was taken up is committed, so the round is not idle
 pub never-idle : {H N : Type 0} {O : Ghosts H} {P : Places H} (b : Gathered) (u w : Front) (old new : Seat H N O P) (r : Result Round RoundFault) → SeesCommit b u w r → IdleKeeps old new r

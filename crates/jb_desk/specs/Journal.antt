@@ -7,7 +7,7 @@ use Rattle.jb_deck.specs.Done.{entries_of, first_ticket, past_after}
 use Rattle.jb_deck.specs.declared.batched.BatchFault.{BatchFault}
 use Rattle.jb_deck.specs.declared.done.Done.{Done}
 use Rattle.jb_book.specs.Origin.{Begun}
-use Rattle.jb_book.specs.Journal.{FailsRound, IsRound, RefusesRound}
+use Rattle.jb_book.specs.Journal.{CutsBatch, FailsRound, IsRound, RefusesRound}
 use Rattle.jb_desk.specs.Views.{TakesUp}
 use Rattle.jb_desk.specs.declared.committer.Round.{Round}
 use Rattle.jb_desk.specs.declared.committer.Round.TheVariants.{Idle, Committed}
@@ -24,3 +24,9 @@ module _ {D : Type 0} (G : Ghosts D) (b : Begun) where
   CommitsRound held after reached (Err DeviceFault) = (p : Planned) × (settled : Done) × TakesUp held p.batch × FailsRound G b p settled × (past_after (first_ticket settled) (entries_of settled) ≤ reached)
   CommitsRound held after reached (Err Memory) = Unit {0}
   CommitsRound held after reached (Err Refused) = (p : Planned) × (fault : BatchFault) × TakesUp held p.batch × (after ≡ Some p.batch) × RefusesRound G b p fault
+
+  -- a round that has committed took up a batch, of one handle at least, and it is committed by a least cut of it
+  abbrev pub CutsRound : Option Gathered → Result Round RoundFault → Type 0
+  CutsRound held (Ok (Idle seen)) = Unit {0}
+  CutsRound held (Ok (Committed done)) = (p : Planned) × TakesUp held p.batch × CutsBatch G b p done
+  CutsRound held (Err fault) = Unit {0}

@@ -14,7 +14,7 @@ use Rattle.jb_deck.specs.Deck.{IsShapeOf, OpenDeck, on_disk}
 use Rattle.jb_deck.specs.GroupsOfBatch.{groups_in}
 use Rattle.jb_deck.specs.CallsSinceOpen.{CrashKeeps}
 use Rattle.jb_deck.specs.Open.{IsNew}
-use Rattle.jb_deck.specs.Since.{CrashHolds, IsEnded, IsLeft, SinceIsRecovered}
+use Rattle.jb_deck.specs.Since.{CrashHolds, EndedMakesChanges, IsEnded, IsLeft, SinceIsRecovered}
 use Rattle.jb_deck.specs.GroupByGroup.{handles_to}
 use Rattle.jb_deck.specs.declared.freed.FreeFault.{FreeFault}
 use Rattle.proof_clients.specs.Programs.{LeftByProgram, Part, all_changes, all_groups, commits, in_batch, no_more, writes}
@@ -24,11 +24,11 @@ use Rattle.proof_clients.proofs.Programs.{Ends, Has, Keeps, Leaving, Left, LeftC
 module _ {D : Type 0} {G : Ghosts D} {entry : D} where
   -- the journal was opened
   pub begun : {parts : List Part} {counts : ℕ → ℕ → Type 0} {opened : OpenDeck D} {shape : Shape}
-      → OpeningIsRecovered → SinceIsRecovered G.newest → CrashHolds G.newest → CrashKeeps G.newest → IsNew opened
+      → OpeningIsRecovered → EndedMakesChanges G.newest → SinceIsRecovered G.newest → CrashHolds G.newest → CrashKeeps G.newest → IsNew opened
       → (G.honest opened.disk → OpensAs G entry opened) → (G.honest opened.disk → Stands G entry opened) → KeptOn G counts entry opened.disk
       → (G.honest opened.disk → Opening G entry opened.disk) → shape ≡ opened.shape → IsShapeOf opened.log.sb (G.count opened.disk) shape
       → SoFar G entry opened [] parts opened
-  begun {opened = opened} recovers since holds keeps new opens stands kept run same shaped = record {
+  begun {opened = opened} recovers makes since holds keeps new opens stands kept run same shaped = record {
     next = sym (add-zero opened.log.next);
     up = new.aborted;
     same_size = kept.same_size;
@@ -61,7 +61,7 @@ module _ {D : Type 0} {G : Ghosts D} {entry : D} where
       same_size = kept.same_size ∙ so.same_size;
       same_count = kept.same_count ∙ so.same_count;
       is = λ honest. so.is (kept.was_honest honest);
-      calls = λ honest. rw all (one_more (all_changes made) now changes new (so.calls (kept.was_honest honest)) (ended honest));
+      calls = λ honest. rw all (one_more (all_changes made) now changes new (so.calls (kept.was_honest honest)) ((so.is (kept.was_honest honest)).makes now changes new (ended honest)));
       run = λ honest. subst (λ ps. Runs G entry ps new.disk) parts (run honest);
     }
 

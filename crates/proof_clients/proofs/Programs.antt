@@ -22,7 +22,7 @@ use Rattle.jb_disk.proofs.CallRuns.{weaken}
 use Rattle.jb_recover.specs.Outcomes.{recovered}
 use Rattle.jb_deck.specs.Changes.{Change, settled_in}
 use Rattle.jb_deck.specs.CallsSinceOpen.{CrashKeeps}
-use Rattle.jb_deck.specs.Since.{CrashHolds, IsEnded, IsLeft, LeftInCommit, SinceIsRecovered, deck_homes}
+use Rattle.jb_deck.specs.Since.{CrashHolds, EndedMakesChanges, IsEnded, IsLeft, LeftInCommit, MakesChanges, SinceIsRecovered, deck_homes}
 use Rattle.proof_clients.specs.Programs.{HasChanges, IsPartOf, LeftByProgram, Part, all_changes, all_groups, no_more}
 use Rattle.proof_clients.proofs.ProgramParts.{part-on}
 
@@ -138,6 +138,7 @@ module _ {D : Type 0} (G : Ghosts D) where
     Stands deck = (home : ℕ) → deck_homes G.newest deck home ≡ before home
 
     pub record IsOpened (deck : OpenDeck D) : Type 0 where
+      pub makes : EndedMakesChanges G.newest
       pub since : SinceIsRecovered G.newest
       pub holds : CrashHolds G.newest
       pub keeps : CrashKeeps G.newest
@@ -153,7 +154,7 @@ module _ {D : Type 0} (G : Ghosts D) where
       pub same_size : G.size now.disk ≡ size
       pub same_count : G.count now.disk ≡ count
       pub is : G.honest now.disk → IsOpened opened
-      pub calls : G.honest now.disk → Reaches (λ before. IsEnded G.newest) opened (all_changes made) now
+      pub calls : G.honest now.disk → Reaches (λ before. MakesChanges G.newest) opened (all_changes made) now
       pub run : G.honest now.disk → Runs (made ++ rest) now.disk
 
     -- what a crash left in the next call

@@ -38,6 +38,7 @@ pub fn commit_and_close<D: Disk>(
         (groups_in batch.groups))) }
     ensures kept { KeptOn D.Disk CountsAny disk (disk_either result) }
 {
+    jb_deck::laws::makes::<D>();
     jb_deck::laws::since::<D>();
     jb_deck::laws::holds::<D>();
     jb_deck::laws::keeps::<D>();

@@ -50,6 +50,7 @@ pub(crate) fn run<D: Disk>(
     ensures ends { D.honest result.0 → result.1 ≡ true → AllHave D.may_leave result.0
         (LeftByLife (D.size disk) (D.count disk) (D.newest disk) handles.items true) }
 {
+    jb_deck::laws::makes::<D>();
     jb_deck::laws::since::<D>();
     jb_deck::laws::holds::<D>();
     jb_deck::laws::keeps::<D>();

@@ -39,6 +39,7 @@ pub fn reuse_home<D: Disk>(
         (all_changes (commits first ∷ writes home bytes.now ∷ commits second ∷ []))
         (groups_in first.groups + groups_in second.groups))) }
 {
+    jb_deck::laws::makes::<D>();
     jb_deck::laws::since::<D>();
     jb_deck::laws::holds::<D>();
     jb_deck::laws::keeps::<D>();

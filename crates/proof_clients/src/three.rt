@@ -36,6 +36,7 @@ pub fn commit_three<D: Disk + Drop>(
         (λ c. D.may_leave disk c ⊎ LeftByProgram (D.size disk) (D.count disk) (D.newest disk)
         (commits first ∷ commits second ∷ commits third ∷ []) c) }
 {
+    jb_deck::laws::makes::<D>();
     jb_deck::laws::since::<D>();
     jb_deck::laws::holds::<D>();
     jb_deck::laws::keeps::<D>();

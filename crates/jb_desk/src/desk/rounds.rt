@@ -18,7 +18,7 @@ use std::sync::ledger::Ledger;
 
 impl<D: Disk, C: Clock, H: Origin, N: Ledger> Desk<D, C, H, N> {
     ghost use Rattle.jb_desk.specs.Desks.{desk_id};
-    ghost use Rattle.jb_desk.specs.Journal.{CommitsRound};
+    ghost use Rattle.jb_desk.specs.Journal.{CommitsRound, CutsRound};
     ghost use Rattle.jb_book.specs.Rounds.{end_of as end_in};
     ghost use Rattle.jb_desk.specs.Rounds.{seat_of, held_by, AnswersRound, IdleKeeps};
     ghost use Rattle.jb_desk.specs.Seats.{KeepsSeat, desk_of};
@@ -53,6 +53,7 @@ impl<D: Disk, C: Clock, H: Origin, N: Ledger> Desk<D, C, H, N> {
             (view_of (seat_of committer.new)) result }
         ensures round { CommitsRound D.Disk H.begun (held_by committer.old) (held_by committer.new)
             (view_of (seat_of committer.new)).settled result }
+        ensures cut { CutsRound D.Disk H.begun (held_by committer.old) result }
     {
         let held = committer.batch.take();
         let mut counter = self.counter.lock(rt);

@@ -12,7 +12,7 @@ use Rattle.proof_clients.proofs.closed.commit_and_close.Goals as goal
 opened : (g : Over) (c : After-commit g) → SoFar g.D.Disk c.args.disk c.in-Ok.deck [] (commits c.args.batch ∷ []) c.in-Ok.deck
 opened g c =
     let ok = c.in-Ok.ensures in
-    begun c.opening.ensures c.since.ensures c.holds.ensures c.keeps.ensures ok.new ok.opens ok.stands ok.kept ok.leaves
+    begun c.opening.ensures c.makes.ensures c.since.ensures c.holds.ensures c.keeps.ensures ok.new ok.opens ok.stands ok.kept ok.leaves
     c.shape-shape.ensures.value c.shape-shape.ensures.journal
 
 pub returns-in-Err-clause-leaves : goal.returns-in-Err-clause-leaves

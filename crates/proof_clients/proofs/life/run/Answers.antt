@@ -20,7 +20,7 @@ use Rattle.proof_clients.proofs.life.run.Goals as goal
 opened : (g : Over) (c : After-commit g) → SoFar g.D.Disk c.args.disk c.in-Ok.deck [] (commits c.in-Some.batch ∷ []) c.in-Ok.deck
 opened g c =
     let ok = c.in-Ok.ensures in
-    begun c.opening.ensures c.since.ensures c.holds.ensures c.keeps.ensures ok.new ok.opens ok.stands ok.kept ok.leaves
+    begun c.opening.ensures c.makes.ensures c.since.ensures c.holds.ensures c.keeps.ensures ok.new ok.opens ok.stands ok.kept ok.leaves
     c.shape.ensures.value c.shape.ensures.journal
 
 committed : (g : Over) (c : In-Ok-commit g) → SoFar g.D.Disk c.args.disk c.in-Ok.deck [] (commits c.in-Some.batch ∷ []) c.in-Ok.deck

@@ -2,7 +2,7 @@ use Rattle.std.proofs.Common.{◌≡◌, ◌+◌, List, [], ◌∷◌, ◌++◌,
 use Rattle.jb_log.specs.declared.log.Log.{Log}
 use Rattle.jb_deck.specs.Changes.{Change, settled_in, settles}
 use Rattle.jb_deck.specs.GroupsOfBatch.{groups_in}
-use Rattle.jb_deck.specs.Since.{in_commit}
+use Rattle.jb_deck.specs.Since.{with_handles}
 use Rattle.jb_deck.specs.GroupByGroup.{handles_to}
 use Rattle.jb_deck.proofs.HomeChanges.{settled-append, settled-map}
 use Rattle.jb_deck.proofs.HomesSinceOpen.{all-handles}
@@ -17,7 +17,7 @@ opened : (g : Over) (c : After-commit g)
     → SoFar g.D.Disk c.args.disk c.in-Ok.deck [] (commits c.args.first ∷ commits c.args.second ∷ commits c.args.third ∷ []) c.in-Ok.deck
 opened g c =
     let ok = c.in-Ok.ensures in
-    begun c.opening.ensures c.since.ensures c.holds.ensures c.keeps.ensures ok.new ok.opens ok.stands ok.kept ok.leaves
+    begun c.opening.ensures c.makes.ensures c.since.ensures c.holds.ensures c.keeps.ensures ok.new ok.opens ok.stands ok.kept ok.leaves
     c.shape-shape.ensures.value c.shape-shape.ensures.journal
 
 pub returns-in-Err-clause-leaves : goal.returns-in-Err-clause-leaves
@@ -95,5 +95,5 @@ returns-in-Ok-commit-3-clause-all g c = λ held.
           let handles : more ≡ third.batch.handles = ap (λ k. handles_to third.groups k third.batch.handles) whole ∙ all-handles third.groups third.batch.handles c.commit-3.ensures.planned.least.fitting.cut in
           let all : settled_in (made ++ map settles more) ≡ hs ++ third.batch.handles = settled-append made (map settles more) ∙ ap₂ (λ xs ys. xs ++ ys) settled (settled-map more ∙ handles) in
           let many : own.sequence + 1 + (groups_in first.groups + (groups_in second.groups + 0) + f.groups) ≡ own.sequence + 1 + (groups_in first.groups + groups_in second.groups + n) = omega (arith, whole) in
-          left-to G c.args.disk so honest (map settles more) f.groups image (in_commit third n n image f frame) refl all many;
+          left-to G c.args.disk so honest (map settles more) f.groups image (with_handles more (now.log.next + f.groups) image f.recovers frame) refl all many;
     }

@@ -10,7 +10,7 @@ use Rattle.jb_desk.specs.declared.committer.RoundFault.TheVariants.{Aborted}
 use Rattle.jb_desk.specs.Rounds.{held_by, seat_of}
 use Rattle.jb_desk.specs.Seats.{view_of}
 use Rattle.jb_desk.specs.Views.{TakesUp, with_taken}
-use Rattle.jb_desk.proofs.RoundCounts.{answers-held, answers-up, gives-none, keeps-same, never-idle, reached, round-up, sees-taken, takes-up}
+use Rattle.jb_desk.proofs.RoundCounts.{answers-held, answers-up, gives-none, keeps-same, never-idle, reached, round-cut, round-up, sees-taken, takes-up}
 use Rattle.jb_desk.proofs.desk.Desk.commit_round.Given.{Over}
 use Rattle.jb_desk.proofs.desk.Desk.commit_round.Goals.{After-from_residual, After-raise_taken}
 use Rattle.jb_desk.proofs.desk.Desk.commit_round.Goals as goal
@@ -86,6 +86,9 @@ returns-in-Ok-clause-round g c =
     let is = up g (goal.at.returns-in-Ok-clause-round g c).After-raise_taken _ c.in-Ok.ensures.batch in
     round-up g.D.Disk g.H.Origin.begun (held_by c.args.committer.now) (held_by c.commit.new.committer) c.in-Ok.prepared.batch (view_of (seat_of c.commit.new.committer)).settled c.commit.result is c.commit.ensures.round
 
+pub returns-in-Ok-clause-cut : goal.returns-in-Ok-clause-cut
+returns-in-Ok-clause-cut g c = round-cut g.D.Disk g.H.Origin.begun (held_by c.args.committer.now) (held_by c.commit.new.committer) (view_of (seat_of c.commit.new.committer)).settled c.commit.result (returns-in-Ok-clause-round g c)
+
 -- ---- there is no memory for its plan
 
 pub of-requires : goal.of-requires
@@ -116,6 +119,9 @@ returns-in-Memory-clause-view g c =
 pub returns-in-Memory-clause-round : goal.returns-in-Memory-clause-round
 returns-in-Memory-clause-round g c = tt
 
+pub returns-in-Memory-clause-cut : goal.returns-in-Memory-clause-cut
+returns-in-Memory-clause-cut g c = tt
+
 -- ---- there is no batch
 
 pub no_batch-requires-clause-running : goal.no_batch-requires-clause-running
@@ -143,6 +149,9 @@ returns-in_default-clause-view g c = inl (tt, refl)
 pub returns-in_default-clause-round : goal.returns-in_default-clause-round
 returns-in_default-clause-round g c = tt
 
+pub returns-in_default-clause-cut : goal.returns-in_default-clause-cut
+returns-in_default-clause-cut g c = tt
+
 -- ---- the journal has failed before
 
 lost : (g : Over) (c : After-from_residual g) → c.from_residual.result ≡ Err Aborted
@@ -164,3 +173,6 @@ returns-in_err-held-clause-view g c = rw (lost g (goal.at.returns-in_err-held-cl
 
 pub returns-in_err-held-clause-round : goal.returns-in_err-held-clause-round
 returns-in_err-held-clause-round g c = rw (lost g (goal.at.returns-in_err-held-clause-round g c).After-from_residual) tt
+
+pub returns-in_err-held-clause-cut : goal.returns-in_err-held-clause-cut
+returns-in_err-held-clause-cut g c = rw (lost g (goal.at.returns-in_err-held-clause-cut g c).After-from_residual) tt
