@@ -1,6 +1,7 @@
 pub mod AnswerSaid
 pub mod Cat
 pub mod Change
+pub mod ChangePlace
 pub mod Check
 pub mod Cost
 pub mod Dump

@@ -54,8 +54,8 @@ pub fn perform<
         Plain::Format { image, options } => format_file(rt, image, options),
         Plain::Cat { image, options } => cat_file(rt, image, options, input, out),
         Plain::Recover { image, options } => recover_file(rt, image, options, input),
-        Plain::Renumber { image } => renumber_file(rt, image),
-        Plain::Widen { image } => widen_file(rt, image),
+        Plain::Renumber { image, extents } => renumber_file(rt, image, extents, input),
+        Plain::Widen { image, extents } => widen_file(rt, image, extents, input),
     }
 }
 

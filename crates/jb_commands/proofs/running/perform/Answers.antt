@@ -52,7 +52,7 @@ pub returns-in-Recover-clause-unread : goal.returns-in-Recover-clause-unread
 returns-in-Recover-clause-unread g c = rw c.in-Recover.is c.recover_file.ensures.unread
 
 pub returns-in-Renumber-clause-unread : goal.returns-in-Renumber-clause-unread
-returns-in-Renumber-clause-unread g c = λ _. refl
+returns-in-Renumber-clause-unread g c = rw c.in-Renumber.is c.renumber_file.ensures.unread
 
 pub returns-in-Widen-clause-unread : goal.returns-in-Widen-clause-unread
-returns-in-Widen-clause-unread g c = λ _. refl
+returns-in-Widen-clause-unread g c = rw c.in-Widen.is c.widen_file.ensures.unread
