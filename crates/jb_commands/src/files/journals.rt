@@ -25,9 +25,9 @@ use std::fs::File;
 use std::io::{Read, Seek, Write};
 use std::rt::Files;
 
-/// Writes those lines of the text of the journal of the file of this name which the options ask for, and gives status 0;
-/// `-` is standard input. The file may be of any length: it is read for the journal's blocks and no further. A list of
-/// extents may be read from `input`.
+/// Writes those lines of the text of the journal of the file of this name which the options ask for, and gives status
+/// 0; `-` is standard input. The file may be of any length: it is read for the journal's blocks and no further. A list
+/// of extents may be read from `input`.
 ///
 /// # Errors
 /// Those of `dump_placed` where an option says where the journal is, and else those of `dump_file`, or for `-` those of
