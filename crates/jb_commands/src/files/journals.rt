@@ -163,7 +163,11 @@ fn choice_of(options: DumpOptions<'_>) -> DumpFilter
 fn is_placed(options: DumpOptions<'_>) -> bool
     ensures { result ≡ is_said (dump_said options.entry) }
 {
-    options.journal.is_some() || options.extents.is_some()
+    match (options.journal, options.extents) {
+        (None, None) => false,
+        (None, Some(_)) => true,
+        (Some(_), _) => true,
+    }
 }
 
 /// Whether a dump ended since its file does not begin with a journal.
