@@ -77,11 +77,12 @@ format_app =
     let parts = with_rule (with_rule sized (required_number (codes "journal"))) (required_number (codes "homes")) in
     with_rule (with_rule (with_rule parts (number_or (codes "max") (codes "0"))) uuid_option) (flag (codes "wide"))
 
--- `dump FILE [--home N] [--last N] [--super] [--summary]`
+-- `dump FILE [--home N] [--last N] [--super] [--summary] [--journal JOURNAL] [--extents LIST]`
 abbrev pub dump_app : App
 dump_app =
     let numbered = with_rule (with_rule (file_app (codes "dump")) (number_option (codes "home"))) (number_option (codes "last")) in
-    with_rule (with_rule numbered (flag (codes "super"))) (flag (codes "summary"))
+    let chosen = with_rule (with_rule numbered (flag (codes "super"))) (flag (codes "summary")) in
+    with_rule (with_rule chosen journal_option) extents_option
 
 -- `cat IMAGE HOME [-n N] [--hex] [--journal FILE] [--extents LIST]`
 abbrev pub cat_app : App
@@ -95,12 +96,17 @@ recover_app =
     let found = with_rule (with_rule (image_app (codes "recover")) extents_option) journal_option in
     with_rule (with_rule (with_rule found (flag (codes "force"))) (flag (codes "dry-run"))) (flag (codes "list"))
 
--- `load IMAGE FILE [--journal FILE] [--threads N] [--hold] [--stamp SEC] [--checkpoint]`
+-- `load IMAGE FILE [--journal FILE] [--extents LIST] [--threads N] [--hold] [--stamp SEC] [--checkpoint]`
 abbrev pub load_app : App
 load_app =
     let files = with_rule (image_app (codes "load")) (required_word (codes "FILE")) in
-    let held = with_rule (with_rule (with_rule files journal_option) (number_or (codes "threads") (codes "1"))) (flag (codes "hold")) in
+    let found = with_rule (with_rule files journal_option) extents_option in
+    let held = with_rule (with_rule found (number_or (codes "threads") (codes "1"))) (flag (codes "hold")) in
     with_rule (with_rule held (number_or (codes "stamp") (codes "0"))) (flag (codes "checkpoint"))
+
+-- a command over one image, whose journal may stand in extents of it
+abbrev pub change_app : Text → App
+change_app name = with_rule (image_app name) extents_option
 
 -- `jb`: its words begin with a command, and it has a version
 abbrev pub jb_top : App
@@ -120,4 +126,4 @@ jb_app =
     let over_files = with_subcommand read format_app.top in
     let loaded = with_subcommand over_files load_app.top in
     let recovered = with_subcommand loaded recover_app.top in
-    with_subcommand (with_subcommand recovered (image_app (codes "renumber")).top) (image_app (codes "widen")).top
+    with_subcommand (with_subcommand recovered (change_app (codes "renumber")).top) (change_app (codes "widen")).top

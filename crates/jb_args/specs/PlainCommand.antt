@@ -29,6 +29,15 @@ pub record CatWords : Type 0 where
   pub journal : Option Text
   pub extents : Option Text
 
+-- the options of `dump` as they were given
+pub record DumpWords : Type 0 where
+  pub home : Option ℕ
+  pub last : Option ℕ
+  pub superblock : Bool
+  pub summary : Bool
+  pub journal : Option Text
+  pub extents : Option Text
+
 -- the options of `recover` as they were given
 pub record RecoverWords : Type 0 where
   pub journal : Option Text
@@ -42,12 +51,12 @@ pub data Asked : Type 0 where
   AsksCost : Text → Asked
   AsksPlan : Text → Asked
   AsksCheck : Text → Text → Asked
-  AsksDump : Text → DumpOptions → Asked
+  AsksDump : Text → DumpWords → Asked
   AsksCat : Text → CatWords → Asked
   AsksFormat : Text → Options → Asked
   AsksRecover : Text → RecoverWords → Asked
-  AsksRenumber : Text → Asked
-  AsksWiden : Text → Asked
+  AsksRenumber : Text → Option Text → Asked
+  AsksWiden : Text → Option Text → Asked
 
 -- what a value of the program's own options says
 abbrev pub options_said : FormatOptions → Options
@@ -57,6 +66,11 @@ options_said o = record { bs = o.bs; journal = o.journal; homes = o.homes; max =
 abbrev pub cat_said : CatOptions → CatWords
 cat_said o =
     record { home = o.home; count = o.count; hex = o.hex; journal = option_map (λ word. word.now) o.journal; extents = option_map (λ word. word.now) o.extents }
+
+-- the same of `dump`
+abbrev pub dump_said : DumpOptions → DumpWords
+dump_said o =
+    record { home = o.home; last = o.last; superblock = o.superblock; summary = o.summary; journal = option_map (λ word. word.now) o.journal; extents = option_map (λ word. word.now) o.extents }
 
 -- the same of `recover`
 abbrev pub recover_said : RecoverOptions → RecoverWords
@@ -68,12 +82,12 @@ abbrev pub asks : Plain → Asked
 asks (Cost file) = AsksCost file.now
 asks (Plan file) = AsksPlan file.now
 asks (Check file cert) = AsksCheck file.now cert.now
-asks (Dump file options) = AsksDump file.now options
+asks (Dump file options) = AsksDump file.now (dump_said options)
 asks (Format image options) = AsksFormat image.now (options_said options)
 asks (Cat image options) = AsksCat image.now (cat_said options)
 asks (Recover image options) = AsksRecover image.now (recover_said options)
-asks (Renumber image) = AsksRenumber image.now
-asks (Widen image) = AsksWiden image.now
+asks (Renumber image extents) = AsksRenumber image.now (option_map (λ word. word.now) extents)
+asks (Widen image extents) = AsksWiden image.now (option_map (λ word. word.now) extents)
 
 -- the file of a command over one file
 abbrev pub file_in : List Row → Option Text
@@ -103,10 +117,19 @@ number_in name rows = option_and_then number_said (one_of name rows)
 abbrev pub flag_in : Text → List Row → Option Bool
 flag_in name rows = option_map (λ text. bytes_eq text (codes "true")) (first_of name rows)
 
+-- the file with the journal, where one was given
+abbrev pub journal_asked : List Row → Option Text
+journal_asked rows = first_of (codes "journal") rows
+
+-- the extents of the journal, where they were given
+abbrev pub extents_asked : List Row → Option Text
+extents_asked rows = first_of (codes "extents") rows
+
 -- `dump FILE ..`
 abbrev pub dump_in : List Row → Option Asked
 dump_in rows =
-    option_and_then (λ file. option_and_then (λ alone. option_map (λ sum. AsksDump file (record { home = number_in (codes "home") rows; last = number_in (codes "last") rows; superblock = alone; summary = sum }))
+    option_and_then (λ file. option_and_then (λ alone.
+    option_map (λ sum. AsksDump file (record { home = number_in (codes "home") rows; last = number_in (codes "last") rows; superblock = alone; summary = sum; journal = journal_asked rows; extents = extents_asked rows }))
     (flag_in (codes "summary") rows)) (flag_in (codes "super") rows)) (file_in rows)
 
 -- the options of `format`
@@ -121,14 +144,6 @@ options_in rows =
 abbrev pub format_in : List Row → Option Asked
 format_in rows =
     option_and_then (λ image. option_map (λ options. AsksFormat image options) (options_in rows)) (image_in rows)
-
--- the file with the journal, where one was given
-abbrev pub journal_asked : List Row → Option Text
-journal_asked rows = first_of (codes "journal") rows
-
--- the extents of the journal, where they were given
-abbrev pub extents_asked : List Row → Option Text
-extents_asked rows = first_of (codes "extents") rows
 
 -- `recover IMAGE ..`
 abbrev pub recover_in : List Row → Option Asked
@@ -154,6 +169,6 @@ asked name rows =
     else if bytes_eq name (codes "cat") then cat_in rows
     else if bytes_eq name (codes "format") then format_in rows
     else if bytes_eq name (codes "recover") then recover_in rows
-    else if bytes_eq name (codes "renumber") then option_map (λ image. AsksRenumber image) (image_in rows)
-    else if bytes_eq name (codes "widen") then option_map (λ image. AsksWiden image) (image_in rows)
+    else if bytes_eq name (codes "renumber") then option_map (λ image. AsksRenumber image (extents_asked rows)) (image_in rows)
+    else if bytes_eq name (codes "widen") then option_map (λ image. AsksWiden image (extents_asked rows)) (image_in rows)
     else None

@@ -50,8 +50,8 @@ app_named name.Cat = app.cat_app
 app_named name.Format = app.format_app
 app_named name.Load = app.load_app
 app_named name.Recover = app.recover_app
-app_named name.Renumber = app.image_app (codes "renumber")
-app_named name.Widen = app.image_app (codes "widen")
+app_named name.Renumber = app.change_app (codes "renumber")
+app_named name.Widen = app.change_app (codes "widen")
 
 -- a command line with these commands, one after the other
 abbrev pub with_commands : App → List CommandName → App

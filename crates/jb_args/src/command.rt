@@ -18,6 +18,8 @@ pub struct LoadWords<'a> {
     pub file: &'a str,
     /// `--journal`: the file with the journal, where the image has the home blocks alone.
     pub journal: Option<&'a str>,
+    /// `--extents`: where the journal stands within the image.
+    pub extents: Option<&'a str>,
     /// `--threads`: how many threads run the handles.
     pub threads: u64,
     /// `--hold`: whether the commits begin once all handles have run.

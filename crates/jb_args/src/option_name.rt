@@ -16,7 +16,7 @@ pub enum OptionName {
     Uuid,
     /// `--homes` of `format`, where the image would be too long.
     Homes,
-    /// `--extents` of `recover` and `cat`.
+    /// `--extents` of a command over an image.
     Extents,
     /// `--list` of `recover`.
     List,

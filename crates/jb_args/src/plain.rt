@@ -20,10 +20,11 @@ pub enum Plain<'a> {
     },
     /// `jb dump FILE ..`: the text of a journal.
     Dump {
-        /// The file with the whole journal.
+        /// The file with the whole journal at its front, or a file system with its journal in it, or the home blocks
+        /// alone.
         file: &'a str,
-        /// Which lines of the text.
-        options: DumpOptions,
+        /// Which lines of the text, and where the journal is.
+        options: DumpOptions<'a>,
     },
     /// `jb cat IMAGE HOME ..`: home blocks of an image, as recovery would leave them.
     Cat {
@@ -46,21 +47,25 @@ pub enum Plain<'a> {
         /// Where the journal is, and what is to be done.
         options: RecoverOptions<'a>,
     },
-    /// `jb renumber IMAGE`: the journal of an image, clean, with its first number again.
+    /// `jb renumber IMAGE ..`: the journal of an image, clean, with its first number again.
     Renumber {
         /// The file with the journal and the home blocks.
         image: &'a str,
+        /// `--extents`: where the journal stands within the image.
+        extents: Option<&'a str>,
     },
-    /// `jb widen IMAGE`: the journal of an image, clean, with block numbers of 64 bits.
+    /// `jb widen IMAGE ..`: the journal of an image, clean, with block numbers of 64 bits.
     Widen {
         /// The file with the journal and the home blocks.
         image: &'a str,
+        /// `--extents`: where the journal stands within the image.
+        extents: Option<&'a str>,
     },
 }
 
-/// The options of `jb dump` as they were given.
+/// The options of `jb dump` as they were given, not checked yet.
 #[derive(Clone, Copy)]
-pub struct DumpOptions {
+pub struct DumpOptions<'a> {
     /// `--home`: the home block whose lines alone are printed.
     pub home: Option<u64>,
     /// `--last`: how many last transactions alone have their lines printed.
@@ -69,6 +74,10 @@ pub struct DumpOptions {
     pub superblock: bool,
     /// `--summary`: whether the journal at a glance is printed in place of all lines.
     pub summary: bool,
+    /// `--journal`: the file with the journal, where the file has the home blocks alone.
+    pub journal: Option<&'a str>,
+    /// `--extents`: where the journal stands within the file.
+    pub extents: Option<&'a str>,
 }
 
 /// The words and options of `jb cat` after the image, as they were given, not checked yet.

@@ -91,6 +91,7 @@ fn load_of<'a>(found: &ArgMatches<'a>) -> Option<LoadWords<'a>>
         image: word_of(found, "IMAGE")?,
         file: word_of(found, "FILE")?,
         journal: word_of(found, "journal"),
+        extents: word_of(found, "extents"),
         threads: number_of(found, "threads")?,
         hold: flag_of(found, "hold")?,
         stamp: number_of(found, "stamp")?,
@@ -116,9 +117,11 @@ fn plain_of<'a>(name: &str, found: &ArgMatches<'a>) -> Option<Plain<'a>>
         "recover" => recover_of(found),
         "renumber" => Some(Plain::Renumber {
             image: word_of(found, "IMAGE")?,
+            extents: word_of(found, "extents"),
         }),
         "widen" => Some(Plain::Widen {
             image: word_of(found, "IMAGE")?,
+            extents: word_of(found, "extents"),
         }),
         _ => None,
     }
@@ -145,6 +148,8 @@ fn dump_of<'a>(found: &ArgMatches<'a>) -> Option<Plain<'a>>
             last: number_of(found, "last"),
             superblock: flag_of(found, "super")?,
             summary: flag_of(found, "summary")?,
+            journal: word_of(found, "journal"),
+            extents: word_of(found, "extents"),
         },
     })
 }

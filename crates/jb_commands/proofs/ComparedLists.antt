@@ -1,5 +1,5 @@
 -- A list of extents and a file system's own journal.
-use Rattle.std.proofs.Common.{◌≡◌, ◌<◌, ◌-◌, ◌^◌, ℕ, List, Option, Result, Ok, Err, Some, None, sym, subst, ap, ◌∙◌, arith}
+use Rattle.std.proofs.Common.{◌≡◌, ◌<◌, ◌-◌, ◌^◌, ℕ, List, Option, Result, Ok, Err, Some, None, refl, sym, subst, ap, ◌∙◌, arith}
 use Rattle.jb_disk.specs.File.{IsMeasured, count_of}
 use Rattle.jb_disk.specs.declared.file.FileDisk.{FileDisk}
 use Rattle.jb_disk.specs.declared.start.Start.{Ghosts as Starts}
@@ -57,7 +57,7 @@ module _ {S T : Type 0} {start : Starts S} {other : Starts T} where
 -- an image was made of a file and of the journal that was found in it
 pub own-opened : {S : Type 0} {start : Starts S} (T : Type 0) (other : Starts T) (own : FoundJournal) (old then : FileDisk S start) (whole made : ExtentsDisk (FileDisk S start)) (homes : ℕ) → IsMeasured old → FindsJournal as_file (Ok own) old then → whole ≡ made
     → whole_disk made ≡ then → list_of (extents_of made) ≡ own.0 → journal_blocks made ≡ own.2.maxlen
-    → homes ≡ homes_in own.2 (spread_count (journal_blocks made) (count_of (whole_disk made))) → IsOwnOpened {T = T} {other = other} (Within whole) homes
+    → homes ≡ homes_in own.2 (spread_count (journal_blocks made) (count_of (whole_disk made))) → IsOwnOpened {T = T} {other = other} (Within whole) homes (Some own.1)
 own-opened T other own old then whole made homes measured finds is disk list journal counted =
-    subst (λ w. IsOwnOpened {T = T} {other = other} (Within w) homes) (sym is)
-    (own, (old, measured, subst (λ d. FindsJournal as_file (Ok own) old d) (sym disk) finds), list, journal, counted)
+    subst (λ w. IsOwnOpened {T = T} {other = other} (Within w) homes (Some own.1)) (sym is)
+    (own, (old, measured, subst (λ d. FindsJournal as_file (Ok own) old d) (sym disk) finds), list, journal, counted, refl)

@@ -1,11 +1,9 @@
 -- How the commands over images end over files.
 use Rattle.std.specs.Prelude.{◌≡◌, ◌⊎◌, ◌<◌, ℕ, ⊤, List, [], Option, Some, None, Result, Ok, Err}
 use Rattle.jb_disk.specs.File.{IsMeasured, count_of, size_of_blocks}
-use Rattle.jb_disk.specs.Image.{Image}
 use Rattle.jb_disk.specs.declared.file.FileDisk.{FileDisk}
 use Rattle.jb_disk.specs.declared.start.Start.{Ghosts as Starts}
 use Rattle.jb_format.specs.Front.{homes_in}
-use Rattle.jb_format.specs.declared.change.ChangeFault.{ChangeFault}
 use Rattle.jb_image.specs.Create.{WasMade}
 use Rattle.jb_image.specs.declared.image_geometry.ImageGeometry.{ImageGeometry}
 use Rattle.jb_image.specs.Files.{as_files}
@@ -17,7 +15,6 @@ use Rattle.jb_super.specs.Faults.{super_in}
 use Rattle.jb_super.specs.Superblock.{Superblock}
 use Rattle.jb_super.specs.declared.fault.SuperFault.TheVariants.{Geometry as NoGeometry}
 use Rattle.jb_args.specs.PlainCommand.{Options}
-use Rattle.jb_commands.specs.Change.{ChangesOn}
 use Rattle.jb_commands.specs.Format.{new_limit_of}
 use Rattle.jb_commands.specs.Options.{AreGood, IsAskedBy, IsFirstBad, IsJournalLength}
 use Rattle.jb_commands.specs.declared.fault.CommandFault.{CommandFault}
@@ -78,14 +75,6 @@ module _ {S T : Type 0} {start : Starts S} {other : Starts T} where
   abbrev pub IsImageOpened : Option (List ℕ) → ImageDisk (FileDisk S start) (FileDisk T other) → ℕ → Type 0
   IsImageOpened journal disk homes =
       (front : List ℕ) × (sb : Superblock) × (super_in front ≡ Ok sb) × (as_files.size disk ≡ sb.block_size) × (homes ≡ homes_in sb (as_files.count disk)) × IsHeldBy journal disk sb
-
-  -- the image was not read, and nothing was done; or its clean journal was changed, in blocks of the size that its first bytes say, since
-  -- it was opened, and what the change answered is the end. If the file is honest, all that the change says of contents holds of it
-  abbrev pub EndsOfChange : {R : Type 0} → (ℕ → ℕ → Image → Image → Result R ChangeFault → Type 0) → (ℕ → ℕ → Image → Image → Type 0) → (ℕ → ℕ → Image → Image → Type 0)
-      → (R → Report) → List ℕ → Option (ImageDisk (FileDisk S start) (FileDisk T other)) → Result Report CommandFault → Type 0
-  EndsOfChange Does IsMidst EndsAlike report name None end = (fault : CommandFault) × (end ≡ Err fault) × IsUnread name fault
-  EndsOfChange Does IsMidst EndsAlike report name (Some new) end =
-      (old : ImageDisk (FileDisk S start) (FileDisk T other)) × (homes : ℕ) × IsImageOpened None old homes × ChangesOn as_files Does IsMidst EndsAlike report old new end
 
 -- ---- images that are made
 

@@ -1,5 +1,6 @@
 -- How `jb recover --dry-run` ends on a disk.
 use Rattle.std.specs.Prelude.{ℕ, Bool, if◌then◌else◌, List, [], ◌∷◌, ◌++◌, map, Option, Some, None, Result, Ok, Err, codes, decimal}
+use Rattle.jb_ext.specs.declared.choosing.MapSource.{MapSource}
 use Rattle.jb_image.specs.declared.extents_fault.ExtentsFault.TheVariants.{Home}
 use Rattle.jb_text.specs.TextParts.{spelled}
 use Rattle.jb_image.specs.Images.{own_home}
@@ -25,8 +26,8 @@ abbrev pub homes_lines : List ℕ → List ℕ
 homes_lines homes = spelled (map home_line homes)
 
 -- what is said of a recovery beforehand: the line that it has, and the home blocks where they are asked for
-abbrev pub foreseen_text : Bool → Foreseen → List ℕ
-foreseen_text list told = recovered_line told.counts ++ (if list then homes_lines told.homes.items else [])
+abbrev pub foreseen_text : Bool → Option MapSource → Foreseen → List ℕ
+foreseen_text list found told = recovered_line found told.counts ++ (if list then homes_lines told.homes.items else [])
 
 -- it was foreseen what a recovery of the disk answers, with these clauses; the disk's content stays, and a crash leaves what it
 -- could leave before
@@ -35,15 +36,15 @@ pub record Foretells {D : Type 0} (G : Disks D) (old new : D) (answer : Result F
   pub foresees : G.honest new → Foresees (G.size old) (G.count old) (G.newest old) answer
 
 -- what was foreseen of an image, by the first home block that would be written and is the journal's own, if there is one
-abbrev pub apart_end : Option ℕ → Bool → Foreseen → Result Report CommandFault
-apart_end None list told = Ok (ReportsForeseen told list)
-apart_end (Some home) list told = Err (InExtents (Home home))
+abbrev pub apart_end : Option ℕ → Option MapSource → Bool → Foreseen → Result Report CommandFault
+apart_end None found list told = Ok (ReportsForeseen told list found)
+apart_end (Some home) found list told = Err (InExtents (Home home))
 
--- what was foreseen of an image, as the command's end: its text; or its fault with the number of home blocks; or that a home block
+-- what was foreseen of an image, as the command's end: its text, with what said where the journal stands; or its fault with the number of home blocks; or that a home block
 -- that would be written is one of the journal's own
-abbrev pub foreseen_end : {D E : Type 0} → ImageDisk D E → ℕ → Bool → Result Foreseen RecoverFault → Result Report CommandFault
-foreseen_end disk homes list (Ok told) = apart_end (own_home disk told.homes.items) list told
-foreseen_end disk homes list (Err fault) = Err (recover_fault (Some homes) fault)
+abbrev pub foreseen_end : {D E : Type 0} → ImageDisk D E → ℕ → Option MapSource → Bool → Result Foreseen RecoverFault → Result Report CommandFault
+foreseen_end disk homes found list (Ok told) = apart_end (own_home disk told.homes.items) found list told
+foreseen_end disk homes found list (Err fault) = Err (recover_fault (Some homes) fault)
 
 -- whether a recovery may write, by the first home block that it would write and is the journal's own, if there is one
 abbrev pub apart_checked : Option ℕ → Result Unit CommandFault

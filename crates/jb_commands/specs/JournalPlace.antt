@@ -8,6 +8,7 @@ use Rattle.jb_disk.specs.declared.file.FileDisk.{FileDisk}
 use Rattle.jb_disk.specs.declared.start.Start.{Ghosts as Starts}
 use Rattle.jb_image.specs.Disks.{extents_of, journal_blocks, whole_disk}
 use Rattle.jb_image.specs.Lists.{AreDisjoint, SharesFirst, extents_count, extents_in, holds_in, list_of, past_in, place_within}
+use Rattle.jb_ext.specs.declared.choosing.MapSource.{MapSource}
 use Rattle.jb_map.specs.declared.extent.Extent.{Extent}
 use Rattle.jb_image.specs.declared.extents_fault.ExtentsFault.{ExtentsFault}
 use Rattle.jb_image.specs.declared.extents_fault.ExtentsFault.TheVariants.{BlockSizes, Front, Home, Long, NoJournal, Overlap, PastEnd, Short}
@@ -107,12 +108,12 @@ module _ {S T : Type 0} {start : Starts S} {other : Starts T} where
   IsOpenedCompared input word disk homes =
       (old : ImageDisk (FileDisk S start) (FileDisk T other)) × IsOpenedListed input word old homes × IsComparedImage old disk
 
-  -- it is open, wherever its journal is
-  abbrev pub IsOpenedAt : Option (List ℕ) → Option (List ℕ) → Option (List ℕ) → ImageDisk (FileDisk S start) (FileDisk T other) → ℕ → Type 0
-  IsOpenedAt input None None disk homes = IsOpenedByFront disk homes
-  IsOpenedAt input (Some journal) None disk homes = IsImageOpened (Some journal) disk homes
-  IsOpenedAt input None (Some word) disk homes = IsOpenedCompared input word disk homes
-  IsOpenedAt input (Some journal) (Some word) disk homes = ⊥
+  -- it is open, wherever its journal is, and this says where that stands, where it was looked for
+  abbrev pub IsOpenedAt : Option (List ℕ) → Option (List ℕ) → Option (List ℕ) → ImageDisk (FileDisk S start) (FileDisk T other) → ℕ → Option MapSource → Type 0
+  IsOpenedAt input None None disk homes found = IsOpenedByFront disk homes found
+  IsOpenedAt input (Some journal) None disk homes found = IsImageOpened (Some journal) disk homes × (found ≡ None)
+  IsOpenedAt input None (Some word) disk homes found = IsOpenedCompared input word disk homes × (found ≡ None)
+  IsOpenedAt input (Some journal) (Some word) disk homes found = ⊥
 
 -- the list that a word says was not read, or the image was not opened with it; or it was, and the file system's own journal stands
 -- elsewhere, or is not found
@@ -145,7 +146,7 @@ module _ {S T : Type 0} {start : Starts S} {other : Starts T} where
   abbrev pub EndsOfCat : List ℕ → CatWords → Option (List ℕ) → Option (List ℕ) → Option (List ℕ) → Option (ImageDisk (FileDisk S start) (FileDisk T other)) → Result Report CommandFault → Type 0
   EndsOfCat name words input out_old out_new None end = (fault : CommandFault) × (end ≡ Err fault) × IsShutAt start other name input words.journal words.extents fault × (out_new ≡ out_old)
   EndsOfCat name words input out_old out_new (Some new) end =
-      (old : ImageDisk (FileDisk S start) (FileDisk T other)) × (homes : ℕ) × IsOpenedAt input words.journal words.extents old homes
+      (old : ImageDisk (FileDisk S start) (FileDisk T other)) × (homes : ℕ) × (found : Option MapSource) × IsOpenedAt input words.journal words.extents old homes found
       × ShowsAsked as_files homes words old new out_old out_new end
 
 -- ---- a recovery
@@ -167,8 +168,8 @@ JudgesBeside G false used force old new judged = (new ≡ old) × (judged ≡ Ok
 
 module _ {D E : Type 0} (G : Disks (ImageDisk D E)) where
   -- it was foreseen what a recovery of an image would do, and that is the end, unless a copy is for a home block that is the journal's own
-  abbrev pub ForeseesImage : ℕ → Bool → ImageDisk D E → ImageDisk D E → Result Report CommandFault → Type 0
-  ForeseesImage homes list old new end = (answer : Result Foreseen RecoverFault) × Foretells G old new answer × (end ≡ foreseen_end new homes list answer)
+  abbrev pub ForeseesImage : ℕ → Option MapSource → Bool → ImageDisk D E → ImageDisk D E → Result Report CommandFault → Type 0
+  ForeseesImage homes found list old new end = (answer : Result Foreseen RecoverFault) × Foretells G old new answer × (end ≡ foreseen_end new homes found list answer)
 
   -- of a journal within its home blocks it was foreseen whether a copy is for one of its own
   abbrev pub ChecksOwn : ℕ → ImageDisk D E → ImageDisk D E → Result Unit CommandFault → Type 0
@@ -177,28 +178,29 @@ module _ {D E : Type 0} (G : Disks (ImageDisk D E)) where
       ⊎ ((is_within old ≡ true) × ((answer : Result Foreseen RecoverFault) × Foretells G old new answer × (checked ≡ own_checked new homes answer)))
 
   -- the image was recovered, or that is why not
-  abbrev pub RecoversChecked : ℕ → Result Unit CommandFault → ImageDisk D E → ImageDisk D E → Result Report CommandFault → Type 0
-  RecoversChecked homes (Ok done) old new end = RecoversOn G (Some homes) old new end
-  RecoversChecked homes (Err fault) old new end = (new ≡ old) × (end ≡ Err fault)
+  abbrev pub RecoversChecked : ℕ → Option MapSource → Result Unit CommandFault → ImageDisk D E → ImageDisk D E → Result Report CommandFault → Type 0
+  RecoversChecked homes found (Ok done) old new end = RecoversOn G (Some homes) found old new end
+  RecoversChecked homes found (Err fault) old new end = (new ≡ old) × (end ≡ Err fault)
 
   -- the image was recovered, unless a copy is for a home block that is the journal's own
-  abbrev pub RecoversImage : ℕ → ImageDisk D E → ImageDisk D E → Result Report CommandFault → Type 0
-  RecoversImage homes old new end = (mid : ImageDisk D E) × (checked : Result Unit CommandFault) × ChecksOwn homes old mid checked × RecoversChecked homes checked mid new end
+  abbrev pub RecoversImage : ℕ → Option MapSource → ImageDisk D E → ImageDisk D E → Result Report CommandFault → Type 0
+  RecoversImage homes found old new end = (mid : ImageDisk D E) × (checked : Result Unit CommandFault) × ChecksOwn homes old mid checked × RecoversChecked homes found checked mid new end
 
   -- it was said what a recovery would do, or the image was recovered
-  abbrev pub DoesRecover : Bool → Bool → ℕ → ImageDisk D E → ImageDisk D E → Result Report CommandFault → Type 0
-  DoesRecover true list homes = ForeseesImage homes list
-  DoesRecover false list homes = RecoversImage homes
+  abbrev pub DoesRecover : Bool → Bool → ℕ → Option MapSource → ImageDisk D E → ImageDisk D E → Result Report CommandFault → Type 0
+  DoesRecover true list homes found = ForeseesImage homes found list
+  DoesRecover false list homes found = RecoversImage homes found
 
   -- what was asked for was done, or that is why not
-  abbrev pub RecoversJudged : RecoverWords → ℕ → Result Unit CommandFault → ImageDisk D E → ImageDisk D E → Result Report CommandFault → Type 0
-  RecoversJudged words homes (Ok done) old new end = DoesRecover words.dry_run words.list homes old new end
-  RecoversJudged words homes (Err fault) old new end = (new ≡ old) × (end ≡ Err fault)
+  abbrev pub RecoversJudged : RecoverWords → ℕ → Option MapSource → Result Unit CommandFault → ImageDisk D E → ImageDisk D E → Result Report CommandFault → Type 0
+  RecoversJudged words homes found (Ok done) old new end = DoesRecover words.dry_run words.list homes found old new end
+  RecoversJudged words homes found (Err fault) old new end = (new ≡ old) × (end ≡ Err fault)
 
-  -- an image with so many home blocks was judged, where its journal is beside them, and then what was asked for was done
-  abbrev pub RecoversOpened : RecoverWords → ℕ → ImageDisk D E → ImageDisk D E → Result Report CommandFault → Type 0
-  RecoversOpened words homes old new end =
-      (mid : ImageDisk D E) × (judged : Result Unit CommandFault) × JudgesBeside G (is_beside words.journal (is_within old)) (use_of words.journal) words.force old mid judged × RecoversJudged words homes judged mid new end
+  -- an image with so many home blocks was judged, where its journal is beside them, and then what was asked for was done; what says where
+  -- its journal stands is reported
+  abbrev pub RecoversOpened : RecoverWords → ℕ → Option MapSource → ImageDisk D E → ImageDisk D E → Result Report CommandFault → Type 0
+  RecoversOpened words homes found old new end =
+      (mid : ImageDisk D E) × (judged : Result Unit CommandFault) × JudgesBeside G (is_beside words.journal (is_within old)) (use_of words.journal) words.force old mid judged × RecoversJudged words homes found judged mid new end
 
 -- the words do not go together, or the image was not opened
 abbrev pub IsNotOpenedToRecover : {S T : Type 0} → Starts S → Starts T → List ℕ → RecoverWords → Option (List ℕ) → CommandFault → Type 0
@@ -211,5 +213,5 @@ module _ {S T : Type 0} {start : Starts S} {other : Starts T} where
   abbrev pub EndsOfRecover : List ℕ → RecoverWords → Option (List ℕ) → Option (ImageDisk (FileDisk S start) (FileDisk T other)) → Result Report CommandFault → Type 0
   EndsOfRecover name words input None end = (fault : CommandFault) × (end ≡ Err fault) × IsNotOpenedToRecover start other name words input fault
   EndsOfRecover name words input (Some new) end =
-      (old : ImageDisk (FileDisk S start) (FileDisk T other)) × (homes : ℕ) × IsOpenedAt input words.journal words.extents old homes
-      × RecoversOpened as_files words homes old new end
+      (old : ImageDisk (FileDisk S start) (FileDisk T other)) × (homes : ℕ) × (found : Option MapSource) × IsOpenedAt input words.journal words.extents old homes found
+      × RecoversOpened as_files words homes found old new end

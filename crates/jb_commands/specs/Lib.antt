@@ -1,9 +1,11 @@
 pub mod AnswerSaid
 pub mod Cat
 pub mod Change
+pub mod ChangePlace
 pub mod Check
 pub mod Cost
 pub mod Dump
+pub mod DumpPlace
 pub mod Ends
 pub mod FaultLines
 pub mod Faults

@@ -8,6 +8,7 @@ use Rattle.jb_disk.specs.declared.start.Start.{Ghosts as Starts}
 use Rattle.jb_ext.specs.Finds.{FindsJournal}
 use Rattle.jb_ext.specs.OwnJournal.{FoundJournal}
 use Rattle.jb_ext.specs.System.{system_in}
+use Rattle.jb_ext.specs.declared.choosing.MapSource.{MapSource}
 use Rattle.jb_ext.specs.declared.fault.FindFault.{FindFault}
 use Rattle.jb_ext.specs.declared.fault.FindFault.TheVariants as find
 use Rattle.jb_ext.specs.declared.fault.OwnFault.{OwnFault}
@@ -99,18 +100,18 @@ abbrev pub IsFrontShut : {S : Type 0} → Starts S → List ℕ → CommandFault
 IsFrontShut start name fault = IsUnread name fault ⊎ ((found : FindFault) × (fault ≡ of_find found) × IsOwnUnfound start found)
 
 module _ {S T : Type 0} {start : Starts S} {other : Starts T} where
-  -- the journal of the file system in a file was found, and the image is that file, with the journal in those blocks; so many home blocks
-  -- can be named in it
-  abbrev pub IsOwnOpened : ImageDisk (FileDisk S start) (FileDisk T other) → ℕ → Type 0
-  IsOwnOpened (One file) homes = ⊥
-  IsOwnOpened (Two pair) homes = ⊥
-  IsOwnOpened (Within disk) homes =
+  -- the journal of the file system in a file was found, by what this says, and the image is that file, with the journal in those blocks;
+  -- so many home blocks can be named in it
+  abbrev pub IsOwnOpened : ImageDisk (FileDisk S start) (FileDisk T other) → ℕ → Option MapSource → Type 0
+  IsOwnOpened (One file) homes found = ⊥
+  IsOwnOpened (Two pair) homes found = ⊥
+  IsOwnOpened (Within disk) homes found =
       (own : FoundJournal) × LooksFor (Ok own) (whole_disk disk) × (list_of (extents_of disk) ≡ own.0) × (journal_blocks disk ≡ own.2.maxlen)
-      × (homes ≡ homes_in own.2 (spread_count (journal_blocks disk) (count_of (whole_disk disk))))
+      × (homes ≡ homes_in own.2 (spread_count (journal_blocks disk) (count_of (whole_disk disk)))) × (found ≡ Some own.1)
 
-  -- the image is open, by its first bytes: with the journal at its front, or with its file system's own
-  abbrev pub IsOpenedByFront : ImageDisk (FileDisk S start) (FileDisk T other) → ℕ → Type 0
-  IsOpenedByFront disk homes = IsImageOpened None disk homes ⊎ IsOwnOpened disk homes
+  -- the image is open, by its first bytes: with the journal at its front, or with its file system's own, and what says where that stands
+  abbrev pub IsOpenedByFront : ImageDisk (FileDisk S start) (FileDisk T other) → ℕ → Option MapSource → Type 0
+  IsOpenedByFront disk homes found = (IsImageOpened None disk homes × (found ≡ None)) ⊎ IsOwnOpened disk homes found
 
 -- ---- a list of extents beside it
 

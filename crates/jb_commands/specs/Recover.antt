@@ -1,8 +1,10 @@
 -- How a recovery of a disk ends, and its line.
-use Rattle.std.specs.Prelude.{◌≡◌, ◌⊎◌, ℕ, List, [], ◌∷◌, Option, Result, Ok, Err, OnOk, codes, decimal}
+use Rattle.std.specs.Prelude.{◌≡◌, ◌⊎◌, ℕ, List, [], ◌∷◌, Option, Some, Result, Ok, Err, OnOk, codes, decimal}
 use Rattle.jb_disk.specs.Image.{Only}
 use Rattle.jb_disk.specs.KeptOn.{KeptOn}
 use Rattle.jb_disk.specs.Time.{LeavesOnly}
+use Rattle.jb_ext.specs.declared.choosing.MapSource.{MapSource}
+use Rattle.jb_ext.specs.declared.choosing.MapSource.TheVariants.{Backup}
 use Rattle.jb_text.specs.TextParts.{spelled}
 use Rattle.jb_recover.specs.Outcomes.{RecoversAs}
 use Rattle.jb_recover.specs.Passes.{PassFaults}
@@ -15,24 +17,30 @@ use Rattle.jb_commands.specs.declared.report.Report.{Report}
 use Rattle.jb_commands.specs.declared.report.Report.TheVariants.{Recovered as ReportsRecovered}
 use Rattle.jb_disk.specs.declared.disk.Disk.{Ghosts as Disks}
 
--- the line of a recovery
-abbrev pub recovered_line : Recovered → List ℕ
-recovered_line r = spelled (
-    codes "transactions " ∷ decimal r.transactions ∷ codes " copies " ∷ decimal r.copies ∷ codes " revoked " ∷ decimal r.revoked
-    ∷ codes " next " ∷ decimal r.next ∷ codes "\n" ∷ [])
+-- the word for a journal that was found by the superblock's copy of its map
+abbrev pub found_word : Option MapSource → List ℕ
+found_word (Some Backup) = codes " backup"
+found_word _ = []
 
--- what a recovery answered, as the command's end: its counts, or its fault with the number of home blocks
-abbrev pub recovery_end : Option ℕ → Result Recovered RecoverFault → Result Report CommandFault
-recovery_end homes (Ok done) = Ok (ReportsRecovered done)
-recovery_end homes (Err fault) = Err (recover_fault homes fault)
+-- the line of a recovery, of a journal of which this said where it stands
+abbrev pub recovered_line : Option MapSource → Recovered → List ℕ
+recovered_line found r = spelled (
+    codes "transactions " ∷ decimal r.transactions ∷ codes " copies " ∷ decimal r.copies ∷ codes " revoked " ∷ decimal r.revoked
+    ∷ codes " next " ∷ decimal r.next ∷ found_word found ∷ codes "\n" ∷ [])
+
+-- what a recovery answered, as the command's end: its counts, and what said where the journal stands; or its fault with the number of
+-- home blocks
+abbrev pub recovery_end : Option ℕ → Option MapSource → Result Recovered RecoverFault → Result Report CommandFault
+recovery_end homes found (Ok done) = Ok (ReportsRecovered done found)
+recovery_end homes found (Err fault) = Err (recover_fault homes fault)
 
 -- the disk was recovered, as the clauses of the recovery say of its answer, and that answer is reported. A crash in its midst, or what
 -- it leaves after a fault, recovers to the image that the disk's content recovers to
-pub record RecoversOn {D : Type 0} (G : Disks D) (homes : Option ℕ) (old new : D) (end : Result Report CommandFault) : Type 0 where
+pub record RecoversOn {D : Type 0} (G : Disks D) (homes : Option ℕ) (found : Option MapSource) (old new : D) (end : Result Report CommandFault) : Type 0 where
   pub answer : Result Recovered RecoverFault
   pub kept : KeptOn G (PassFaults answer) old new
   pub recovers : G.honest new → Recovers (G.size old) (G.count old) (G.newest old) (G.newest new) answer
   pub crash : G.honest new → LeavesOnly G.moment G.left_since old new (λ c. G.may_leave old c ⊎ RecoversAs (G.size old) (G.count old) (G.newest old) c)
   pub again : G.honest new → RecoversAs (G.size old) (G.count old) (G.newest old) (G.newest new)
   pub durable : G.honest new → OnOk answer (Only (G.newest new) (G.may_leave new))
-  pub told : end ≡ recovery_end homes answer
+  pub told : end ≡ recovery_end homes found answer

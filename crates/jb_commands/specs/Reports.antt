@@ -15,8 +15,8 @@ use Rattle.jb_commands.specs.declared.report.Report.TheVariants.{Said, Formatted
 abbrev pub TellsReport : Report → Option (List ℕ) → Option (List ℕ) → Result ProgramEnd CommandFault → Type 0
 TellsReport (Said ended) out_old out_new end = (end ≡ Ok ended) × (out_new ≡ out_old)
 TellsReport (Formatted limit) out_old out_new end = TellsLine (formatted_line limit) out_old out_new end
-TellsReport (Recovered done) out_old out_new end = TellsLine (recovered_line done) out_old out_new end
-TellsReport (Foreseen told list) out_old out_new end = TellsLine (foreseen_text list told) out_old out_new end
+TellsReport (Recovered done found) out_old out_new end = TellsLine (recovered_line found done) out_old out_new end
+TellsReport (Foreseen told list found) out_old out_new end = TellsLine (foreseen_text list found told) out_old out_new end
 TellsReport (Renumbered done) out_old out_new end = TellsLine (renumbered_line done) out_old out_new end
 TellsReport (Widened done) out_old out_new end = TellsLine (widened_line done) out_old out_new end
 

@@ -13,8 +13,10 @@ use Rattle.jb_args.specs.PlainCommand.Asked.{AsksCat, AsksCheck, AsksCost, AsksD
 use Rattle.jb_commands.specs.Check.{CheckSays}
 use Rattle.jb_commands.specs.Cost.{cost_said}
 use Rattle.jb_commands.specs.Limits.{cert_limit}
-use Rattle.jb_commands.specs.Dump.{EndsOfDump, choice_of}
-use Rattle.jb_commands.specs.Files.{EndsOfChange, EndsOfFormat}
+use Rattle.jb_commands.specs.Dump.{reads_dump}
+use Rattle.jb_commands.specs.DumpPlace.{EndsOfDump}
+use Rattle.jb_commands.specs.ChangePlace.{EndsOfChange}
+use Rattle.jb_commands.specs.Files.{EndsOfFormat}
 use Rattle.jb_commands.specs.JournalPlace.{EndsOfCat, EndsOfRecover}
 use Rattle.jb_commands.specs.Plan.{PlanSays}
 use Rattle.jb_commands.specs.AnswerSaid.{Said}
@@ -59,9 +61,11 @@ Closes names (Err fault) old new ended =
 abbrev pub reads_input : Asked → Bool
 reads_input (AsksCost file) = bytes_eq file (codes "-")
 reads_input (AsksPlan file) = bytes_eq file (codes "-")
-reads_input (AsksDump file options) = bytes_eq file (codes "-")
+reads_input (AsksDump file words) = reads_dump file words
 reads_input (AsksCat name words) = reads_list words.extents
 reads_input (AsksRecover name words) = reads_list words.extents
+reads_input (AsksRenumber name extents) = reads_list extents
+reads_input (AsksWiden name extents) = reads_list extents
 reads_input _ = false
 
 module _ {S T : Type 0} {start : Starts S} {other : Starts T} where
@@ -79,12 +83,12 @@ module _ {S T : Type 0} {start : Starts S} {other : Starts T} where
   EndsAsked (AsksCost file) input old new image end = SaidAll (Ends (λ text words. cost_said text ≡ Some words) file input old new) image end
   EndsAsked (AsksPlan file) input old new image end = SaidAll (Ends PlanSays file input old new) image end
   EndsAsked (AsksCheck file cert) input old new image end = SaidAll (EndsOfTwo CheckSays file cert old new) image end
-  EndsAsked (AsksDump file options) input old new image end = DumpedAll (EndsOfDump (choice_of options) file input old.out new.out) image end × (new.err ≡ old.err)
+  EndsAsked (AsksDump file words) input old new image end = DumpedAll (EndsOfDump start other words file input old.out new.out) image end × (new.err ≡ old.err)
   EndsAsked (AsksFormat name options) input old new image end = EndsOfFormat name options image end × (new ≡ old)
   EndsAsked (AsksCat name words) input old new image end = EndsOfCat name words input old.out new.out image end × (new.err ≡ old.err)
   EndsAsked (AsksRecover name words) input old new image end = EndsOfRecover name words input image end × (new ≡ old)
-  EndsAsked (AsksRenumber name) input old new image end = EndsOfChange Renumbers IsRenumbering RenumbersAs ReportsRenumbered name image end × (new ≡ old)
-  EndsAsked (AsksWiden name) input old new image end = EndsOfChange Widens IsWidened WidensAs ReportsWidened name image end × (new ≡ old)
+  EndsAsked (AsksRenumber name extents) input old new image end = EndsOfChange Renumbers IsRenumbering RenumbersAs ReportsRenumbered name extents input image end × (new ≡ old)
+  EndsAsked (AsksWiden name extents) input old new image end = EndsOfChange Widens IsWidened WidensAs ReportsWidened name extents input image end × (new ≡ old)
 
 -- what a command has to say, once its image is closed
 abbrev pub TellsDone : Result Report CommandFault → Outputs → Outputs → Result ProgramEnd CommandFault → Type 0

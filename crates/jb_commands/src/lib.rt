@@ -24,8 +24,8 @@ pub use command_output::CommandOutput;
 pub use cost::cost_answer;
 pub use fault::CommandFault;
 pub use files::{
-    Opening, cat_file, format_file, open_counted, read_file, recover_file, renumber_file,
-    widen_file,
+    OpenedImage, Opening, cat_file, format_file, open_counted, open_placed, read_file,
+    recover_file, renumber_file, widen_file,
 };
 pub use jb_args::Plain;
 pub use names::TwoFiles;

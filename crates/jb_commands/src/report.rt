@@ -7,6 +7,7 @@ use crate::program_end::ProgramEnd;
 use crate::streams::{
     tell_foreseen, tell_formatted, tell_recovered, tell_renumbered, tell_widened,
 };
+use jb_ext::MapSource;
 use jb_format::{Renumbered, Widened};
 use jb_recover::{Foreseen, Recovered};
 use jb_text::WriteFault;
@@ -19,10 +20,10 @@ pub enum Report {
     Said(ProgramEnd),
     /// A journal was made, with so many log blocks of a transaction at most.
     Formatted(u32),
-    /// A journal was recovered.
-    Recovered(Recovered),
-    /// A recovery would answer so; whether its home blocks are to be listed too.
-    Foreseen(Foreseen, bool),
+    /// A journal was recovered; what said where it stands, where it was looked for.
+    Recovered(Recovered, Option<MapSource>),
+    /// A recovery would answer so; whether its home blocks are to be listed too, and the same of its journal.
+    Foreseen(Foreseen, bool, Option<MapSource>),
     /// A journal has its first number again.
     Renumbered(Renumbered),
     /// A journal has block numbers of 64 bits.
@@ -53,8 +54,8 @@ impl Report {
         match self {
             Report::Said(ended) => Ok(*ended),
             Report::Formatted(limit) => tell_formatted(*limit, out),
-            Report::Recovered(done) => tell_recovered(*done, out),
-            Report::Foreseen(told, list) => tell_foreseen(told, *list, out),
+            Report::Recovered(done, found) => tell_recovered(*done, *found, out),
+            Report::Foreseen(told, list, found) => tell_foreseen(told, *list, *found, out),
             Report::Renumbered(done) => tell_renumbered(*done, out),
             Report::Widened(done) => tell_widened(*done, out),
         }

@@ -7,7 +7,7 @@ use super::{CommandRow, texts};
 const IMAGE: Word = Word {
     name: "IMAGE",
     kind: Kind::Word,
-    help: "A file or block device with a journal at its front, and the home blocks after it",
+    help: "A journal and the home blocks after it, or an ext2, ext3 or ext4 file system, whose journal is found",
 };
 
 /// The file of a command over one queue text.
@@ -29,6 +29,20 @@ const EXTENTS: Word = Word {
     name: "extents",
     kind: Kind::Text("LIST"),
     help: "Where the journal stands within IMAGE, as debugfs lists its blocks; - or @FILE has it",
+};
+
+/// The same of `jb dump`, whose image is FILE.
+const DUMP_JOURNAL: Word = Word {
+    name: "journal",
+    kind: Kind::Text("JOURNAL"),
+    help: "The file with the journal; FILE has the home blocks alone then",
+};
+
+/// The same.
+const DUMP_EXTENTS: Word = Word {
+    name: "extents",
+    kind: Kind::Text("LIST"),
+    help: "Where the journal stands within FILE, as debugfs lists its blocks; - or @FILE has it",
 };
 
 /// What `--uuid` is where it is not given.
@@ -78,7 +92,7 @@ pub(super) static DUMP: CommandRow = CommandRow {
         Word {
             name: "FILE",
             kind: Kind::Word,
-            help: "A file with the whole journal at its front, or - for standard input",
+            help: "A journal, or an ext2, ext3 or ext4 file system, whose journal is found; - for standard input",
         },
         Word {
             name: "home",
@@ -100,6 +114,8 @@ pub(super) static DUMP: CommandRow = CommandRow {
             kind: Kind::Flag,
             help: "The journal at a glance, in place of its lines",
         },
+        DUMP_JOURNAL,
+        DUMP_EXTENTS,
     ],
 };
 
@@ -187,6 +203,7 @@ pub(super) static LOAD: CommandRow = CommandRow {
             help: "A queue text of the image's block size",
         },
         JOURNAL,
+        EXTENTS,
         Word {
             name: "threads",
             kind: Kind::NumberOr("N", "1"),
@@ -242,7 +259,7 @@ pub(super) static RENUMBER: CommandRow = CommandRow {
     name: "renumber",
     about: "Restarts the transaction numbers of a clean journal at 1",
     more: texts::RENUMBER,
-    words: &[IMAGE],
+    words: &[IMAGE, EXTENTS],
 };
 
 /// `jb widen`.
@@ -250,5 +267,5 @@ pub(super) static WIDEN: CommandRow = CommandRow {
     name: "widen",
     about: "Gives a clean journal block numbers of 64 bits",
     more: texts::WIDEN,
-    words: &[IMAGE],
+    words: &[IMAGE, EXTENTS],
 };

@@ -1,33 +1,49 @@
 //! Images whose journal is changed.
+ghost use Rattle.std.specs.Prelude.{◌≡◌, false, option_map};
 ghost use Rattle.jb_format.specs.Renumber.{IsRenumbering, Renumbers, RenumbersAs};
 ghost use Rattle.jb_format.specs.Widen.{IsWidened, Widens, WidensAs};
-ghost use Rattle.jb_commands.specs.Files.{EndsOfChange};
+ghost use Rattle.jb_image.specs.Files.{as_disks};
+ghost use Rattle.jb_image.specs.Images.{is_within};
+ghost use Rattle.jb_image.specs.declared.judging.JournalUse.TheVariants.{RecoverInPlace};
+ghost use Rattle.jb_commands.specs.ChangePlace.{ChangesOpened, EndsOfChange};
+ghost use Rattle.jb_commands.specs.JournalPlace.{JudgesBeside};
+ghost use Rattle.jb_commands.specs.ListText.{reads_list};
 ghost use Rattle.jb_commands.specs.declared.report.Report.TheVariants.{Renumbered as ReportsRenumbered};
 ghost use Rattle.jb_commands.specs.declared.report.Report.TheVariants.{Widened as ReportsWidened};
 
 use crate::command_end::CommandEnd;
-use crate::files::opening::{Opening, open_counted};
+use crate::fault::CommandFault;
+use crate::files::opening::Opening;
+use crate::files::placed::open_placed;
+use crate::files::recovered::judge_beside;
+use crate::report::Report;
 use crate::streams::{renumber_on, widen_on};
-use jb_disk::Start;
+use jb_disk::{Disk, Start};
+use jb_image::{ImageDisk, JournalUse};
 use std::fs::File;
+use std::io::Read;
 use std::rt::Files;
 
-/// Gives the clean journal at the front of the file of this name its first number again.
+/// Gives the clean journal of the image of this name its first number again. Where the journal is not at its front, the
+/// image may be a file system, which has to be the journal's own. A list of extents may be read from `input`.
 ///
 /// # Errors
-/// Those of `open_counted`, and those of `renumber_on`.
-pub fn renumber_file<'a, S: Start, T: Start, R: Files<File = File> + AllocGlobal>(
+/// Those of `open_placed`, of `judge_on` and of `renumber_on`.
+pub fn renumber_file<'a, S: Start, T: Start, R: Files<File = File> + AllocGlobal, I: Read>(
     rt: &R,
     image: &'a str,
+    extents: Option<&'a str>,
+    input: &mut I,
 ) -> CommandEnd<'a, S, T>
-    ensures ends { EndsOfChange Renumbers IsRenumbering RenumbersAs ReportsRenumbered image.entry.now result.image
-        result.end }
+    ensures ends { EndsOfChange Renumbers IsRenumbering RenumbersAs ReportsRenumbered image.entry.now
+        (option_map (λ word. word.now) extents.entry) (I.remaining input.old) result.image result.end }
+    ensures unread { reads_list (option_map (λ word. word.now) extents.entry) ≡ false → input.new ≡ input.old }
 {
-    match open_counted(rt, image, None, Opening::Change) {
-        Ok((mut disk, _homes)) => {
-            let end = renumber_on(&mut disk);
+    match open_placed(rt, image, None, extents, Opening::Change, input) {
+        Ok(mut opened) => {
+            let end = renumber_opened(&mut opened.disk);
             CommandEnd {
-                image: Some(disk),
+                image: Some(opened.disk),
                 end,
             }
         }
@@ -38,21 +54,25 @@ pub fn renumber_file<'a, S: Start, T: Start, R: Files<File = File> + AllocGlobal
     }
 }
 
-/// Gives the clean journal at the front of the file of this name block numbers of 64 bits.
+/// Gives the clean journal of the image of this name block numbers of 64 bits, as `renumber_file` its first number.
 ///
 /// # Errors
-/// Those of `open_counted`, and those of `widen_on`.
-pub fn widen_file<'a, S: Start, T: Start, R: Files<File = File> + AllocGlobal>(
+/// Those of `open_placed`, of `judge_on` and of `widen_on`.
+pub fn widen_file<'a, S: Start, T: Start, R: Files<File = File> + AllocGlobal, I: Read>(
     rt: &R,
     image: &'a str,
+    extents: Option<&'a str>,
+    input: &mut I,
 ) -> CommandEnd<'a, S, T>
-    ensures ends { EndsOfChange Widens IsWidened WidensAs ReportsWidened image.entry.now result.image result.end }
+    ensures ends { EndsOfChange Widens IsWidened WidensAs ReportsWidened image.entry.now
+        (option_map (λ word. word.now) extents.entry) (I.remaining input.old) result.image result.end }
+    ensures unread { reads_list (option_map (λ word. word.now) extents.entry) ≡ false → input.new ≡ input.old }
 {
-    match open_counted(rt, image, None, Opening::Change) {
-        Ok((mut disk, _homes)) => {
-            let end = widen_on(&mut disk);
+    match open_placed(rt, image, None, extents, Opening::Change, input) {
+        Ok(mut opened) => {
+            let end = widen_opened(&mut opened.disk);
             CommandEnd {
-                image: Some(disk),
+                image: Some(opened.disk),
                 end,
             }
         }
@@ -61,4 +81,38 @@ pub fn widen_file<'a, S: Start, T: Start, R: Files<File = File> + AllocGlobal>(
             end: Err(fault),
         },
     }
+}
+
+/// Gives the clean journal of an image that is open its first number again.
+fn renumber_opened<'a, D: Disk, E: Disk>(
+    disk: &mut ImageDisk<D, E>,
+) -> Result<Report, CommandFault<'a>>
+    ensures { ChangesOpened (as_disks D.Disk E.Disk) Renumbers IsRenumbering RenumbersAs ReportsRenumbered disk.old
+        disk.new result }
+{
+    match judge_within(disk) {
+        Ok(()) => renumber_on(disk),
+        Err(fault) => Err(fault),
+    }
+}
+
+/// Gives the clean journal of an image that is open block numbers of 64 bits.
+fn widen_opened<'a, D: Disk, E: Disk>(
+    disk: &mut ImageDisk<D, E>,
+) -> Result<Report, CommandFault<'a>>
+    ensures { ChangesOpened (as_disks D.Disk E.Disk) Widens IsWidened WidensAs ReportsWidened disk.old disk.new
+        result }
+{
+    match judge_within(disk) {
+        Ok(()) => widen_on(disk),
+        Err(fault) => Err(fault),
+    }
+}
+
+/// Whether the journal of an image, where it stands within the home blocks, is their file system's own.
+fn judge_within<'a, D: Disk, E: Disk>(disk: &mut ImageDisk<D, E>) -> Result<(), CommandFault<'a>>
+    ensures { JudgesBeside (as_disks D.Disk E.Disk) (is_within disk.old) RecoverInPlace false disk.old disk.new result }
+{
+    let within = disk.is_within();
+    judge_beside(disk, within, JournalUse::RecoverInPlace, false)
 }

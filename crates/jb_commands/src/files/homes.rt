@@ -43,10 +43,11 @@ pub fn cat_file<'a, S: Start, T: Start, R: Files<File = File> + AllocGlobal, I: 
         Opening::Read,
         input,
     ) {
-        Ok((mut disk, homes)) => {
-            let end = show_opened(rt.alloc(), &mut disk, homes, options, out);
+        Ok(mut opened) => {
+            let homes = opened.homes;
+            let end = show_opened(rt.alloc(), &mut opened.disk, homes, options, out);
             CommandEnd {
-                image: Some(disk),
+                image: Some(opened.disk),
                 end,
             }
         }

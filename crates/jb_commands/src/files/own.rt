@@ -11,6 +11,7 @@ ghost use Rattle.jb_image.specs.Disks.{extents_of};
 ghost use Rattle.jb_image.specs.Lists.{extents_count, list_of};
 
 use crate::fault::CommandFault;
+use crate::files::opened::OpenedImage;
 use crate::files::opening::{counted, disk_of, open_image};
 use crate::files::shut::{FileFault, OwnShut, fault_of_find};
 use jb_block::BlockSize;
@@ -37,8 +38,8 @@ pub(crate) enum ImageFront {
     System(BlockSize),
 }
 
-/// The file of this name as a disk with its journal at the front; or, where it is a file system of ext2, ext3 or ext4,
-/// with that file system's own. And the number of its home blocks.
+/// The image of this name with its journal at the front; or, where it is a file system of ext2, ext3 or ext4, with that
+/// file system's own.
 ///
 /// # Errors
 /// `OwnShut::File` where it is not opened or read, or its first bytes are neither superblock; `OwnShut::Find` where the
@@ -47,9 +48,9 @@ pub(crate) fn open_by_front<S: Start, T: Start, R: Files<File = File> + AllocGlo
     rt: &R,
     name: &str,
     opening: Opening,
-) -> Result<(ImageDisk<FileDisk<S>, FileDisk<T>>, u64), OwnShut>
+) -> Result<OpenedImage<S, T>, OwnShut>
     ensures shut { IfErr result (IsOwnShut S.Start) }
-    ensures opened { IfOk result (λ opened. IsOpenedByFront opened.0 opened.1) }
+    ensures opened { IfOk result (λ image. IsOpenedByFront image.disk image.homes image.found) }
 {
     match open_fronted(rt, name, opening) {
         Ok((file, front)) => open_front(rt.alloc(), file, front),
@@ -57,15 +58,15 @@ pub(crate) fn open_by_front<S: Start, T: Start, R: Files<File = File> + AllocGlo
     }
 }
 
-/// An image that is this by its first bytes, as a disk, and the number of its home blocks.
+/// An image that is this by its first bytes.
 fn open_front<S: Start, T: Start>(
     alloc: Global,
     file: File,
     front: ImageFront,
-) -> Result<(ImageDisk<FileDisk<S>, FileDisk<T>>, u64), OwnShut>
+) -> Result<OpenedImage<S, T>, OwnShut>
     requires { SaysFront front }
     ensures shut { IfErr result (IsOwnShut S.Start) }
-    ensures opened { IfOk result (λ opened. IsOpenedByFront opened.0 opened.1) }
+    ensures opened { IfOk result (λ image. IsOpenedByFront image.disk image.homes image.found) }
 {
     match front {
         ImageFront::Journal(sb) => open_journal(file, sb),
@@ -148,33 +149,33 @@ fn size_said(bytes: u32) -> BlockSize
     }
 }
 
-/// A file as a disk with a journal at its front, which has this superblock, and the number of its home blocks.
-fn open_journal<S: Start, T: Start>(
-    file: File,
-    sb: Super,
-) -> Result<(ImageDisk<FileDisk<S>, FileDisk<T>>, u64), OwnShut>
+/// An image with a journal at its front, which has this superblock.
+fn open_journal<S: Start, T: Start>(file: File, sb: Super) -> Result<OpenedImage<S, T>, OwnShut>
     requires { SaysSuper sb }
     ensures shut { IfErr result (IsOwnShut S.Start) }
-    ensures opened { IfOk result (λ opened. IsImageOpened None opened.0 opened.1) }
+    ensures opened { IfOk result (λ image. IsImageOpened None image.disk image.homes × (image.found ≡ None)) }
 {
     match disk_of(file, sb.block_size()) {
         Ok(disk) => {
             let (disk, homes) = counted(disk, &sb);
-            Ok((ImageDisk::One(disk), homes))
+            Ok(OpenedImage {
+                disk: ImageDisk::One(disk),
+                homes,
+                found: None,
+            })
         }
         Err(fault) => Err(OwnShut::File(fault)),
     }
 }
 
-/// A file as a disk with the own journal of its file system, which has blocks of this size, and the number of its home
-/// blocks.
+/// An image with the own journal of its file system, which has blocks of this size.
 fn open_system<S: Start, T: Start>(
     alloc: Global,
     file: File,
     size: BlockSize,
-) -> Result<(ImageDisk<FileDisk<S>, FileDisk<T>>, u64), OwnShut>
+) -> Result<OpenedImage<S, T>, OwnShut>
     ensures shut { IfErr result (IsOwnShut S.Start) }
-    ensures opened { IfOk result (λ opened. IsOwnOpened opened.0 opened.1) }
+    ensures opened { IfOk result (λ image. IsOwnOpened image.disk image.homes image.found) }
 {
     match disk_of(file, size) {
         Ok(disk) => match open_own(alloc, disk) {
@@ -185,25 +186,29 @@ fn open_system<S: Start, T: Start>(
     }
 }
 
-/// A file as a disk whose journal is its file system's own, and the number of its home blocks.
+/// An image whose journal is its file system's own.
 ///
 /// # Errors
 /// Those of `find_journal`: the file is as it was.
 fn open_own<S: Start, T: Start>(
     alloc: Global,
     disk: FileDisk<S>,
-) -> Result<(ImageDisk<FileDisk<S>, FileDisk<T>>, u64), FindFault>
+) -> Result<OpenedImage<S, T>, FindFault>
     requires measured { IsMeasured disk }
     ensures shut { IfErr result (IsOwnUnfound S.Start) }
-    ensures opened { IfOk result (λ opened. IsOwnOpened opened.0 opened.1) }
+    ensures opened { IfOk result (λ image. IsOwnOpened image.disk image.homes image.found) }
 {
     let mut disk = disk;
     match find_journal(alloc, &mut disk) {
         Ok(own) => {
-            let (extents, sb) = (own.extents, own.sb);
+            let (extents, by, sb) = (own.extents, own.by, own.sb);
             let maxlen = u64::from(sb.maxlen());
             let (whole, homes) = counted(ExtentsDisk::of(disk, Extents::of(extents), maxlen), &sb);
-            Ok((ImageDisk::Within(whole), homes))
+            Ok(OpenedImage {
+                disk: ImageDisk::Within(whole),
+                homes,
+                found: Some(by),
+            })
         }
         Err(fault) => Err(fault),
     }

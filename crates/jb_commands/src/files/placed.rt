@@ -1,9 +1,9 @@
 //! Images whose journal stands at the front, in a file of its own, or within the home blocks.
-ghost use Rattle.std.specs.Prelude.{◌≡◌, false, option_map, Some, IfErr, IfOk};
+ghost use Rattle.std.specs.Prelude.{◌≡◌, false, option_map, None, Some, IfErr, IfOk};
 ghost use Rattle.jb_disk.specs.File.{IsMeasured, size_of_blocks};
 ghost use Rattle.jb_image.specs.Disks.{whole_disk};
 ghost use Rattle.jb_image.specs.Lists.{AreDisjoint, extents_in, list_of};
-ghost use Rattle.jb_commands.specs.Files.{SaysSuper};
+ghost use Rattle.jb_commands.specs.Files.{IsImageOpened, IsShut, SaysSuper};
 ghost use Rattle.jb_commands.specs.JournalPlace.{IsNoPlaceFor, IsOpenedAt, IsOpenedListed};
 ghost use Rattle.jb_commands.specs.JournalPlace.{IsOpenedCompared, IsOpenedWithin, IsShutAt, IsShutCompared};
 ghost use Rattle.jb_commands.specs.JournalPlace.{IsShutListed};
@@ -14,6 +14,7 @@ ghost use Rattle.jb_commands.specs.OpenRefusals.{IsSpreadShut, JoinsFile};
 use crate::fault::CommandFault;
 use crate::files::found::super_within;
 use crate::files::listed::file_of;
+use crate::files::opened::OpenedImage;
 use crate::files::opening::{Opening, counted, disk_of, open_counted, open_image};
 use crate::files::own::{compare_own, open_by_front};
 use crate::files::shut::{FileFault, WithinFault, named_front, named_within};
@@ -27,36 +28,61 @@ use std::fs::File;
 use std::io::Read;
 use std::rt::Files;
 
-/// The image of this name as a disk, with the number of its home blocks: as `open_by_front`, with a journal's own file
-/// as `open_counted`, or with extents as
-/// `open_compared`.
+/// The image of this name: as `open_by_front`, with a journal's own file as `open_counted`, or with extents as
+/// `open_compared`; what is read for these may be `input`. Where its journal was looked for, it is also said what says
+/// where that stands.
 ///
 /// # Errors
 /// Those of the three, and `CommandFault::BadOption` where both places of the journal are given.
-pub(crate) fn open_placed<'a, S: Start, T: Start, R: Files<File = File> + AllocGlobal, I: Read>(
+pub fn open_placed<'a, S: Start, T: Start, R: Files<File = File> + AllocGlobal, I: Read>(
     rt: &R,
     name: &'a str,
     journal: Option<&'a str>,
     extents: Option<&'a str>,
     opening: Opening,
     input: &mut I,
-) -> Result<(ImageDisk<FileDisk<S>, FileDisk<T>>, u64), CommandFault<'a>>
+) -> Result<OpenedImage<S, T>, CommandFault<'a>>
     ensures shut { IfErr result (IsShutAt S.Start T.Start name.entry.now (I.remaining input.old)
         (option_map (λ word. word.now) journal.entry) (option_map (λ word. word.now) extents.entry)) }
-    ensures opened { IfOk result (λ opened. IsOpenedAt (I.remaining input.old)
-        (option_map (λ word. word.now) journal.entry) (option_map (λ word. word.now) extents.entry) opened.0 opened.1) }
+    ensures opened { IfOk result (λ image. IsOpenedAt (I.remaining input.old)
+        (option_map (λ word. word.now) journal.entry) (option_map (λ word. word.now) extents.entry)
+        image.disk image.homes image.found) }
     ensures unread { reads_list (option_map (λ word. word.now) extents.entry) ≡ false → input.new ≡ input.old }
 {
     match (journal, extents) {
         (None, None) => named_front::<S, _>(open_by_front(rt, name, opening), name),
-        (Some(journal), None) => open_counted(rt, name, Some(journal), opening),
+        (Some(journal), None) => open_beside(rt, name, journal, opening),
         (None, Some(word)) => open_compared(rt, name, word, opening, input),
         (Some(_), Some(_)) => Err(CommandFault::BadOption(OptionName::Extents)),
     }
 }
 
-/// The file of this name as a disk whose journal stands in the blocks of a list, and the number of its home blocks: as
-/// `open_listed`. Where it is a file system of ext2, ext3 or ext4, these have to be its own journal's.
+/// The image of this name, with its journal in the file of the other name.
+///
+/// # Errors
+/// Those of `open_counted`.
+fn open_beside<'a, S: Start, T: Start, R: Files<File = File> + AllocGlobal>(
+    rt: &R,
+    name: &'a str,
+    journal: &'a str,
+    opening: Opening,
+) -> Result<OpenedImage<S, T>, CommandFault<'a>>
+    ensures shut { IfErr result (IsShut name.entry.now (Some journal.entry.now)) }
+    ensures opened { IfOk result (λ image. IsImageOpened (Some journal.entry.now) image.disk image.homes
+        × (image.found ≡ None)) }
+{
+    match open_counted(rt, name, Some(journal), opening) {
+        Ok((disk, homes)) => Ok(OpenedImage {
+            disk,
+            homes,
+            found: None,
+        }),
+        Err(fault) => Err(fault),
+    }
+}
+
+/// The image of this name, whose journal stands in the blocks of a list: as `open_listed`. Where it is a file system of
+/// ext2, ext3 or ext4, these have to be its own journal's.
 ///
 /// # Errors
 /// Those of `open_listed`, and those of `compare_own`.
@@ -66,15 +92,20 @@ fn open_compared<'a, S: Start, T: Start, R: Files<File = File> + AllocGlobal, I:
     word: &'a str,
     opening: Opening,
     input: &mut I,
-) -> Result<(ImageDisk<FileDisk<S>, FileDisk<T>>, u64), CommandFault<'a>>
+) -> Result<OpenedImage<S, T>, CommandFault<'a>>
     ensures shut { IfErr result
         (IsShutCompared S.Start T.Start name.entry.now (I.remaining input.old) word.entry.now) }
-    ensures opened { IfOk result (λ opened. IsOpenedCompared (I.remaining input.old) word.entry.now opened.0 opened.1) }
+    ensures opened { IfOk result (λ image. IsOpenedCompared (I.remaining input.old) word.entry.now image.disk
+        image.homes × (image.found ≡ None)) }
     ensures unread { is_input (list_file word.entry.now) ≡ false → input.new ≡ input.old }
 {
     match open_listed(rt, name, word, opening, input) {
         Ok((image, homes)) => match compare_own(rt.alloc(), image) {
-            Ok(image) => Ok((image, homes)),
+            Ok(disk) => Ok(OpenedImage {
+                disk,
+                homes,
+                found: None,
+            }),
             Err(fault) => Err(fault),
         },
         Err(fault) => Err(fault),

@@ -16,6 +16,7 @@ use crate::report::Report;
 use crate::streams::{judge_on, recover_on};
 use jb_args::{OptionName, RecoverOptions};
 use jb_disk::{Disk, Start};
+use jb_ext::MapSource;
 use jb_image::{ExtentsFault, ImageDisk, JournalUse};
 use jb_recover::{Foreseen, RecoverFault, foresee};
 use std::alloc::Global;
@@ -48,10 +49,11 @@ pub fn recover_file<'a, S: Start, T: Start, R: Files<File = File> + AllocGlobal,
     }
     let opening = opening_of(options.dry_run, options.force);
     match open_placed(rt, image, options.journal, options.extents, opening, input) {
-        Ok((mut disk, homes)) => {
-            let end = recover_opened(rt.alloc(), &mut disk, homes, options);
+        Ok(mut opened) => {
+            let (homes, found) = (opened.homes, opened.found);
+            let end = recover_opened(rt.alloc(), &mut opened.disk, homes, found, options);
             CommandEnd {
-                image: Some(disk),
+                image: Some(opened.disk),
                 end,
             }
         }
@@ -80,10 +82,11 @@ fn recover_opened<'a, D: Disk, E: Disk>(
     alloc: Global,
     disk: &mut ImageDisk<D, E>,
     homes: u64,
+    found: Option<MapSource>,
     options: RecoverOptions<'_>,
 ) -> Result<Report, CommandFault<'a>>
-    ensures recovers { RecoversOpened (as_disks D.Disk E.Disk) (recover_said options.entry) homes disk.old disk.new
-        result }
+    ensures recovers { RecoversOpened (as_disks D.Disk E.Disk) (recover_said options.entry) homes found disk.old
+        disk.new result }
 {
     let beside = is_beside(options.journal, disk.is_within());
     let used = use_of(options.journal);
@@ -93,9 +96,9 @@ fn recover_opened<'a, D: Disk, E: Disk>(
     }
     if options.dry_run {
         let answer = foresee(alloc, disk);
-        foreseen_end(disk, homes, options.list, answer)
+        foreseen_end(disk, homes, found, options.list, answer)
     } else {
-        recover_image(alloc, disk, homes)
+        recover_image(alloc, disk, homes, found)
     }
 }
 
@@ -123,7 +126,7 @@ fn use_of(journal: Option<&str>) -> JournalUse
 ///
 /// # Errors
 /// Those of `judge_on`.
-fn judge_beside<'a, D: Disk>(
+pub(crate) fn judge_beside<'a, D: Disk>(
     disk: &mut D,
     beside: bool,
     used: JournalUse,
@@ -142,14 +145,15 @@ fn judge_beside<'a, D: Disk>(
 fn foreseen_end<'a, D: Disk, E: Disk>(
     disk: &ImageDisk<D, E>,
     homes: u64,
+    found: Option<MapSource>,
     list: bool,
     answer: Result<Foreseen, RecoverFault>,
 ) -> Result<Report, CommandFault<'a>>
-    ensures { result ≡ foreseen_so disk.now homes list answer }
+    ensures { result ≡ foreseen_so disk.now homes found list answer }
 {
     match answer {
         Ok(told) => match disk.first_own(told.homes.as_slice()) {
-            None => Ok(Report::Foreseen(told, list)),
+            None => Ok(Report::Foreseen(told, list, found)),
             Some(home) => Err(CommandFault::Extents(ExtentsFault::Home(home))),
         },
         Err(fault) => Err(CommandFault::of_recovery(fault, Some(homes))),
@@ -165,15 +169,16 @@ fn recover_image<'a, D: Disk, E: Disk>(
     alloc: Global,
     disk: &mut ImageDisk<D, E>,
     homes: u64,
+    found: Option<MapSource>,
 ) -> Result<Report, CommandFault<'a>>
-    ensures recovers { RecoversImage (as_disks D.Disk E.Disk) homes disk.old disk.new result }
+    ensures recovers { RecoversImage (as_disks D.Disk E.Disk) homes found disk.old disk.new result }
 {
     if !disk.is_within() {
-        return recover_on(alloc, disk, Some(homes));
+        return recover_on(alloc, disk, Some(homes), found);
     }
     let answer = foresee(alloc, disk);
     match own_end(disk, homes, answer) {
-        Ok(()) => recover_on(alloc, disk, Some(homes)),
+        Ok(()) => recover_on(alloc, disk, Some(homes), found),
         Err(fault) => Err(fault),
     }
 }

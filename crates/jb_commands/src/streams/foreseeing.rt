@@ -5,6 +5,7 @@ use crate::program_end::ProgramEnd;
 use crate::streams::recovering::tell_recovered;
 use crate::streams::telling::tell_line;
 use itoa::Buffer;
+use jb_ext::MapSource;
 use jb_recover::Foreseen;
 use jb_text::WriteFault;
 use std::io::Write;
@@ -13,11 +14,13 @@ use std::io::Write;
 pub(crate) fn tell_foreseen<O: Write>(
     told: &Foreseen,
     list: bool,
+    found: Option<MapSource>,
     out: &mut O,
 ) -> Result<ProgramEnd, WriteFault>
-    ensures { TellsLine (foreseen_text list told.now) (O.contents out.old) (O.contents out.new) (line_end result) }
+    ensures { TellsLine (foreseen_text list found told.now) (O.contents out.old) (O.contents out.new)
+        (line_end result) }
 {
-    let ended = tell_recovered(told.counts, out)?;
+    let ended = tell_recovered(told.counts, found, out)?;
     if list {
         return tell_homes(told.homes.as_slice(), out);
     }

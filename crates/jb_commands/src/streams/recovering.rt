@@ -1,5 +1,5 @@
 ghost use Rattle.std.specs.Prelude.{◌≡◌};
-ghost use Rattle.jb_commands.specs.Recover.{RecoversOn, recovered_line, recovery_end as ends_so};
+ghost use Rattle.jb_commands.specs.Recover.{RecoversOn, found_word, recovered_line, recovery_end as ends_so};
 ghost use Rattle.jb_commands.specs.Outputs.{TellsLine, line_end};
 
 use crate::fault::CommandFault;
@@ -8,6 +8,7 @@ use crate::report::Report;
 use crate::streams::telling::tell_line;
 use itoa::Buffer;
 use jb_disk::Disk;
+use jb_ext::MapSource;
 use jb_recover::{RecoverFault, Recovered, recover};
 use jb_text::WriteFault;
 use std::alloc::Global;
@@ -15,7 +16,8 @@ use std::io::Write;
 
 /// Recovers the journal at the front of a disk: the home blocks after it are written as its committed transactions say,
 /// and its log is emptied. Reports how many transactions there were, how many copies were written and how many are
-/// revoked, and the number of the next transaction. Only the recovery takes memory.
+/// revoked, and the number of the next transaction; and what said where the journal stands, where it was looked for.
+/// Only the recovery takes memory.
 ///
 /// # Errors
 /// `CommandFault::Super`, `CommandFault::BadRevoke` and `CommandFault::HomeOutOfRange`, the last with the number of
@@ -25,32 +27,35 @@ pub fn recover_on<'a, D: Disk>(
     alloc: Global,
     disk: &mut D,
     homes: Option<u64>,
+    found: Option<MapSource>,
 ) -> Result<Report, CommandFault<'a>>
-    ensures recovers { RecoversOn D.Disk homes disk.old disk.new result }
+    ensures recovers { RecoversOn D.Disk homes found disk.old disk.new result }
 {
     let answer = recover(alloc, disk);
-    recovery_end(answer, homes)
+    recovery_end(answer, homes, found)
 }
 
 /// What a recovery answered, as the command's end.
 fn recovery_end<'a>(
     answer: Result<Recovered, RecoverFault>,
     homes: Option<u64>,
+    found: Option<MapSource>,
 ) -> Result<Report, CommandFault<'a>>
-    ensures { result ≡ ends_so homes answer }
+    ensures { result ≡ ends_so homes found answer }
 {
     match answer {
-        Ok(done) => Ok(Report::Recovered(done)),
+        Ok(done) => Ok(Report::Recovered(done, found)),
         Err(fault) => Err(CommandFault::of_recovery(fault, homes)),
     }
 }
 
-/// Writes the line of a recovery.
+/// Writes the line of a recovery, which says it where the journal was found by the superblock's copy of its map.
 pub(crate) fn tell_recovered<O: Write>(
     done: Recovered,
+    found: Option<MapSource>,
     out: &mut O,
 ) -> Result<ProgramEnd, WriteFault>
-    ensures { TellsLine (recovered_line done) (O.contents out.old) (O.contents out.new) (line_end result) }
+    ensures { TellsLine (recovered_line found done) (O.contents out.old) (O.contents out.new) (line_end result) }
 {
     let mut transactions = Buffer::new();
     let mut copies = Buffer::new();
@@ -65,7 +70,18 @@ pub(crate) fn tell_recovered<O: Write>(
         revoked.format(done.revoked),
         " next ",
         next.format(done.next),
+        found_word(found),
         "\n",
     ];
     tell_line(out, &line)
+}
+
+/// The word for a journal that was found by the superblock's copy of its map.
+fn found_word(found: Option<MapSource>) -> &'static str
+    ensures { result.now ≡ found_word found }
+{
+    match found {
+        Some(MapSource::Backup) => " backup",
+        Some(MapSource::Inode) | None => "",
+    }
 }

@@ -1,8 +1,8 @@
 use Rattle.std.proofs.Common.{refl}
 use Rattle.jb_commands.proofs.files.changes.renumber_file.Goals as goal
 
-pub returns-in-Ok : goal.returns-in-Ok
-returns-in-Ok g c = record { ends = (c.in-Ok.disk, c.in-Ok._homes, c.in-Ok.ensures.opened, c.renumber_on-end.ensures.renumbers) }
+pub returns-in-Ok-clause-ends : goal.returns-in-Ok-clause-ends
+returns-in-Ok-clause-ends g c = (c.in-Ok.opened.disk, c.in-Ok.opened.homes, c.in-Ok.opened.found, c.in-Ok.ensures.opened, c.renumber_opened-end.ensures)
 
-pub returns-in-Err : goal.returns-in-Err
-returns-in-Err g c = record { ends = (c.in-Err.fault, refl, c.in-Err.ensures.shut) }
+pub returns-in-Err-clause-ends : goal.returns-in-Err-clause-ends
+returns-in-Err-clause-ends g c = (c.in-Err.fault, refl, c.in-Err.ensures.shut)
