@@ -8,7 +8,8 @@ import struct
 
 from ext_map import DEEPEST, NODE_MAGIC, u16
 from in_place import run
-from own_image import Image, Recovery, is_meant, put, whole
+from own_beside import AS_MEANT, beside
+from own_image import Held, Image, Recovery, is_meant, put
 
 NAMES = ["ext3-1k", "ext3-4k", "ext3-1k-272-stretches", "ext3-1k-no-backup", "ext4-1k", "ext4-2k-inode-1024",
          "ext4-4k-64bit", "ext4-1k-depth-1", "ext4-1k-depth-2", "ext4-4k-depth-1", "ext4-4k-no-backup",
@@ -29,6 +30,7 @@ class Changes:
     def __init__(self, jb, image):
         self.jb, self.image = jb, image
         self.data = bytearray(image.data)
+        self.file, self.other = Held("changed.img", image.data), Held("e2fsck.img", image.data)
         fs = image.fs
         self.size = fs.size
         group = (fs.inum - 1) // fs.inodes
@@ -114,41 +116,40 @@ class Changes:
             first += count
         return found
 
-    def written(self, writes):
-        with open("changed.img", "r+b") as file:
-            for at, new in writes:
-                file.seek(at)
-                file.write(new)
-
-    def tried(self, writes):
-        """The recovery that is meant, the run's end, and why that is wrong, or None."""
+    def tried(self, writes, is_beside):
+        """The recovery that is meant, the run's end, why that is wrong, or None, and what e2fsck makes of it, where
+        that is asked for."""
         undo = put(self.data, writes)
-        try:
-            self.written(writes)
-            recovery = Recovery(self.data)
-            ended = self.jb.run("recover", "changed.img")
-            left = whole("changed.img")
-            wrong = self.judged(recovery, ended, left)
-            if left == self.data:
-                self.written(undo)
-            elif left != self.image.data:
-                self.image.new("changed.img")
-            return recovery, ended, wrong
-        finally:
-            put(self.data, undo)
+        self.file.put(writes)
+        recovery = Recovery(self.data)
+        ended = self.jb.run("recover", "changed.img")
+        wrong = self.judged(recovery, ended)
+        is_beside = is_beside and ended[0] == 0 and not wrong
+        theirs = beside(self.data, recovery, self.other) if is_beside else None
+        put(self.data, undo)
+        self.file.put([(at, self.image.data[at:at + len(new)]) for at, new in writes + recovery.writes])
+        if not self.file.has(self.data):
+            self.file.map[:] = self.image.data
+        return recovery, ended, wrong, theirs
 
-    def judged(self, recovery, ended, left):
+    def judged(self, recovery, ended):
         status, line, fault = ended
+        kept = self.file.has(self.data)
         if recovery.perhaps and fault.startswith("jb: FileSystem Clean"):
-            return "something is written" if left != self.data else None
+            return None if kept else "something is written"
         if recovery.fault is None:
-            undo = put(self.data, recovery.writes)
-            is_right = status == 0 and line == recovery.line and is_meant(left, bytes(self.data), recovery.fs)
-            put(self.data, undo)
+            is_right = status == 0 and line == recovery.line and self.recovered(recovery)
             return None if is_right else "not recovered as %s by the %s" % (recovery.line, recovery.by)
         if status is None or status <= 0 or not fault.startswith("jb: "):
             return "no fault, but %s" % recovery.fault
-        return "something is written" if left != self.data else None
+        return None if kept else "something is written"
+
+    def recovered(self, recovery):
+        """Whether the file is as it is meant."""
+        undo = put(self.data, recovery.writes)
+        is_so = self.file.has(self.data) or is_meant(bytes(self.file.map), bytes(self.data), recovery.fs)
+        put(self.data, undo)
+        return is_so
 
 
 def node_of(height, entries, most):
@@ -164,29 +165,58 @@ def told_of(writes):
     return ", ".join("%d: %s" % (at, new[:8].hex()) for at, new in writes)
 
 
-def tried(jb, images, chance, count):
-    """All fields of the file systems and so many random changes; how many are answered wrongly."""
-    answers, wrong, done, names = collections.Counter(), 0, 0, 0
+class Answers:
+    """What was answered, over all changes."""
+
+    def __init__(self):
+        self.meant, self.beside, self.others = (collections.Counter() for _ in range(3))
+        self.done = self.names = self.wrong = 0
+
+    def add(self, changes, name, writes, answer):
+        recovery, (status, line, fault), why, theirs = answer
+        self.done += 1
+        self.meant["recovered by the %s" % recovery.by if recovery.fault is None else words_of(recovery.fault)] += 1
+        if theirs:
+            theirs = "%s by the %s: %s" % ("tree" if changes.is_tree else "block map", recovery.by, theirs)
+            self.beside[theirs] += 1
+            if self.beside[theirs] <= 3 and not theirs.endswith(AS_MEANT):
+                print("%s, %s %s: e2fsck: %s" % (changes.image.name, name, told_of(writes), theirs), flush=True)
+        if recovery.fault is not None and status and fault != "jb: " + recovery.fault:
+            self.names += 1
+            self.others["%s for %s" % (words_of(fault[4:]), words_of(recovery.fault))] += 1
+            self.tell(self.names, changes, name, writes, "%s, and not %s" % (fault, recovery.fault))
+        if why:
+            self.wrong += 1
+            self.tell(self.wrong, changes, name, writes, "WRONG: %s: %s %s %s" % (why, status, line, fault))
+
+    @staticmethod
+    def tell(count, changes, name, writes, what):
+        if count <= 40:
+            print("%s, %s %s: %s" % (changes.image.name, name, told_of(writes), what), flush=True)
+
+    def print(self):
+        print("%d changed file systems, %d of them with another fault's name, %d wrong" % (
+            self.done, self.names, self.wrong))
+        for what, counted in (("meant", self.meant), ("another name", self.others), ("e2fsck, where JB recovers", self.beside)):
+            print("%s: %s" % (what, "; ".join("%s %d" % one for one in counted.most_common())), flush=True)
+
+
+def words_of(fault):
+    """A fault without its numbers."""
+    return " ".join(word for word in fault.split() if not word.isdigit())
+
+
+def tried(jb, images, chance, count, part):
+    """All fields of the file systems and so many random changes, one of `part` beside e2fsck; how many are answered
+    wrongly."""
+    answers = Answers()
     chosen = [one for one in images if one[0].name in NAMES]
     for one in chosen:
         image = Image(*one)
         changes = Changes(jb, image)
-        image.new("changed.img")
         hers = [changes.random(chance) for _ in range(count // len(chosen))]
         for name, writes in list(changes.crafted()) + list(changes.systematic()) + hers:
-            recovery, (status, line, fault), why = changes.tried(writes)
-            done += 1
-            answers[recovery.by if recovery.fault is None else " ".join(recovery.fault.split()[:2])] += 1
-            if recovery.fault is not None and not fault.startswith("jb: " + recovery.fault):
-                names += 1
-                if names <= 20:
-                    print("%s, %s %s: %s, and not %s" % (
-                        image.name, name, told_of(writes), fault, recovery.fault), flush=True)
-            if why:
-                wrong += 1
-                if wrong <= 20:
-                    print("%s, %s %s: WRONG: %s: %s %s %s" % (
-                        image.name, name, told_of(writes), why, status, line, fault), flush=True)
-    print("%d changed file systems, %d of them with another fault's name, %d wrong: %s" % (
-        done, names, wrong, ", ".join("%s %d" % one for one in answers.most_common())), flush=True)
-    return wrong
+            answers.add(changes, name, writes, changes.tried(writes, chance.randrange(part) == 0))
+        print("%s: %d changes so far, %d wrong" % (image.name, answers.done, answers.wrong), flush=True)
+    answers.print()
+    return answers.wrong

@@ -1,4 +1,6 @@
 """One dirty file system for own_journal.py: its bytes, its own journal, and what its recovery has to leave."""
+import ctypes
+import mmap
 import os
 import shutil
 import struct
@@ -8,7 +10,8 @@ import ext_finder
 from in_place import changed_but, run
 from jbref_read import Refused, Super, replay
 
-SECONDS = 5  # of one run, the longest
+MEMCMP = ctypes.CDLL(None).memcmp
+SECONDS = 2  # of the processor, the most of one run; by the clock thirty times as many, beside much other work
 JOURNAL_ONLY = ["e2fsck", "-E", "journal_only", "-y"]
 # what JB may leave otherwise in the file system's superblock than the log means it: offset and bytes
 JB_FIELDS = {"needs_recovery": (0x60, 4)}
@@ -85,6 +88,26 @@ class Image:
         return lines[at + 1].split(", ")
 
 
+class Held:
+    """A file with these bytes, which programs change, and which is changed back."""
+
+    def __init__(self, name, data):
+        with open(name, "wb") as file:
+            file.write(data)
+        with open(name, "r+b") as file:
+            self.map = mmap.mmap(file.fileno(), 0)
+        self.place = (ctypes.c_char * len(data)).from_buffer(self.map)
+
+    def has(self, data):
+        """Whether the file has these bytes, a bytearray."""
+        other = (ctypes.c_char * len(data)).from_buffer(data)
+        return len(self.map) == len(data) and MEMCMP(self.place, other, ctypes.c_size_t(len(data))) == 0
+
+    def put(self, writes):
+        for at, new in writes:
+            self.map[at:at + len(new)] = new
+
+
 def is_meant(left, meant, fs):
     """Whether an image is as it is meant, but for the named words of the file system's superblock."""
     alone = blocks_differing(left, meant, fs.size) in ([], [fs.front()])
@@ -92,21 +115,21 @@ def is_meant(left, meant, fs):
 
 
 class Program:
-    """JB, with at most so many KiB of address space, or with any where that is 0."""
+    """JB, with SECONDS of the processor, and at most so many KiB of address space, or any where that is 0."""
 
     def __init__(self, name, memory):
         self.name = os.path.realpath(shutil.which(name) or name)
-        limit = "ulimit -v %d; " % memory if memory else ""
+        limit = "ulimit -t %d; " % SECONDS + ("ulimit -v %d; " % memory if memory else "")
         self.front = ["sh", "-c", limit + 'exec "$0" "$@"', self.name]
 
     def run(self, *words):
-        """How it ended: status (None where it took too long), standard output and error."""
+        """How it ended: status (of a signal below 0, None where it took too long), standard output and error."""
         try:
             done = subprocess.run(self.front + list(words), capture_output=True, text=True, check=False,
-                                  timeout=SECONDS, errors="replace")
+                                  timeout=30 * SECONDS, errors="replace")
             return done.returncode, done.stdout.strip(), done.stderr.strip()[:200]
         except subprocess.TimeoutExpired:
-            return None, "", "no end after %d seconds" % SECONDS
+            return None, "", "no end after %d seconds" % (30 * SECONDS)
 
 
 def whole(name):

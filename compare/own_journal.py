@@ -6,15 +6,17 @@ FOLDER. Of each, ext_finder.py finds the journal, which has to be as `debugfs bm
   recover  `JB recover IMAGE` (without --own `JB recover IMAGE --extents LIST`, with the finder's list) leaves what the
            log means, by jbref_read.py, but for the named words of the file system's superblock; `e2fsck -E
            journal_only` leaves the same but for what a line names, and after JB the same as without it. `e2fsck -fn`
-           and `-p` then find nothing, and the kernel mounts it, with the same names and bytes as after e2fsck.
+           and `-p` then find nothing, and the kernel mounts it, before -p and after it, with the same names and bytes
+           as after e2fsck alone.
            --dry-run changes nothing, a second run nothing more. JB is killed at --kills N of its writes and syncs, and
            run again: the same.
   lists    --lists N changed lists over some of them: JB never ends with status 0 and another image (own_lists.py);
            with --own it takes no other list than the right one.
-  changes  with --own, all fields and --changes N random changes of some of them (own_changes.py).
-A run of JB may take five seconds and --memory KiB (0: any). Of --names a,b only these; ext4-4k-mmp, over which e2fsck
-waits for two minutes, only so. Needs to be root, with loop devices, e2fsprogs and strace: else it says `skipped`, and
-ends with status 0. Prints a line for each file system; the last line has the number of faults."""
+  changes  with --own, all fields and --changes N random changes of some of them (own_changes.py), one of --beside N
+           (3) of those that JB recovers beside e2fsck too.
+A run of JB may take two seconds of the processor, and --memory KiB (0: any). Of --names a,b only these; ext4-4k-mmp,
+over which e2fsck waits for two minutes, only so. Needs to be root, with loop devices, e2fsprogs and strace: else it
+says `skipped`, and ends with status 0. Prints a line for each file system; the last line has the number of faults."""
 import argparse
 import hashlib
 import os
@@ -120,8 +122,8 @@ class Trial(in_place.Trial):
             ended = subprocess.run(["e2fsck", option, name], capture_output=True, text=True, check=False)
             told = "e2fsck %s %s: %d: %s" % (option, name, ended.returncode, ended.stdout[-300:])
             self.expect(told, ended.returncode in statuses)
-        mine, theirs = mounted(self.image_of("mounted.img")), mounted("e2fsck.img")
-        self.expect("the kernel finds other names or bytes", mine == theirs and len(mine) > 20)
+        mine, preened, theirs = (mounted(name) for name in (self.image_of("mounted.img"), "preen.img", "e2fsck.img"))
+        self.expect("the kernel finds other names or bytes", mine == preened == theirs and len(mine) > 20)
         return len(mine)
 
     def image_of(self, name):
@@ -202,7 +204,8 @@ def main():
     given.add_argument("--own", action="store_true")
     given.add_argument("--parts", default="recover,lists,changes")
     given.add_argument("--names", default="")
-    for name, usual in (("lists", 1000), ("changes", 10000), ("kills", 12), ("seed", 0), ("memory", 512 << 10)):
+    for name, usual in (("lists", 1000), ("changes", 10000), ("kills", 12), ("seed", 0), ("memory", 512 << 10),
+                        ("beside", 3)):
         given.add_argument("--" + name, type=int, default=usual)
     given = given.parse_args()
     absent = dirty_systems.missing() or (None if shutil.which("strace") else "strace not installed")
@@ -222,7 +225,7 @@ def main():
             if "lists" in given.parts:
                 wrong += own_lists.tried(jb, images, chance, given.lists, given.own)
             if "changes" in given.parts and given.own:
-                wrong += own_changes.tried(jb, images, chance, given.changes)
+                wrong += own_changes.tried(jb, images, chance, given.changes, given.beside)
         finally:
             os.chdir("/")
     print("%d wrong, %.0f seconds" % (wrong, time.time() - begin))

@@ -12,7 +12,8 @@ makes the journal), and each gets a dirty journal twice, as in in_place.py. The 
 Refused, and nothing is changed: a journal that was copied out before e2fsck repaired the file system; one of another block size; one of
 another file system; a file system that is mounted on a loop device, where there are any.
 OCFS2 volumes, with journals in one, two and three stretches, are treated likewise, where mkfs.ocfs2 and debugfs.ocfs2 are installed: what
-JB leaves is compared with what jbref_read.py makes of the journal.
+JB leaves is compared with what jbref_read.py makes of the journal. A log that ends inside a transaction at a block that is none of a journal,
+or in which nothing is committed, JB has to refuse there, and to recover by --force alone: the line says so.
 Needs e2fsprogs, and strace for the kills; what is not installed is passed over, with a line that says so. Prints a line for each."""
 import os
 import random
@@ -26,13 +27,11 @@ import tempfile
 import in_place
 from in_place import CLEANED, E2FSCK, FIELDS, changed_but, copy, differing, read_at, run, whole
 from jbref_read import replay
-from jbref_write import random_journal
+from within_ocfs2 import VOLUMES, Volume
 
 # what makes the file system, bytes of a block, MiB, and how many blocks are taken within the journal's place
 KINDS = [("ext4", "^64bit", 1024, 64, 0), ("ext4", "64bit", 1024, 64, 1), ("ext4", "64bit", 2048, 96, 2), ("ext4", "64bit", 4096, 160, 0),
          ("ext4", "^64bit", 4096, 160, 1), ("ext3", "^64bit", 1024, 64, 0), ("ext3", "^64bit", 1024, 64, 2)]
-# OCFS2: bytes of a block and of a cluster, and the size of the journal, which lies in one, two, three and one stretches
-VOLUMES = [(4096, 4096, "8M"), (1024, 4096, "32M"), (1024, 4096, "64M"), (2048, 65536, "8M")]
 
 
 def need(*names):
@@ -210,63 +209,6 @@ def mounted(jb, chance):
     finally:
         run("umount", "mnt")
         run("losetup", "--detach", device)
-
-
-class Volume(in_place.Trial):
-    """An OCFS2 volume whose first journal is dirty, recovered where that stands."""
-
-    def __init__(self, jb, size, cluster, length, chance, kills):
-        self.size, self.chance, self.kills, self.faults = size, chance, kills, []
-        self.name = "OCFS2, -b %d -C %d -J size=%s" % (size, cluster, length)
-        with open("fs", "wb") as file:
-            file.truncate(400 << 20)
-        run("mkfs.ocfs2", "-q", "--fs-features=local", "-b", str(size), "-C", str(cluster), "-J", "size=" + length, "fs", text="y\n")
-        rows = re.findall(r"^\t\d+\s+(\d+)\s+(\d+)\s+(\d+)\s+0x", run("debugfs.ocfs2", "-R", "stat //journal:0000", "fs"), re.M)
-        self.parts = [(int(first), int(clusters) * cluster // size) for _, clusters, first in rows]
-        self.places = [first + i for first, count in self.parts for i in range(count)]
-        self.words = [jb, "recover", "--extents", ", ".join("%d-%d" % (first, first + count - 1) for first, count in self.parts), "jb.img"]
-        self.put_random()
-
-    def put_random(self):
-        """A journal of many transactions in the place of the volume's own."""
-        end = (400 << 20) // self.size
-        pool = [block for block in range(end - 4000, end) if block not in set(self.places)]
-        self.journal = random_journal(self.chance.randrange(1 << 30), self.size, len(self.places), pool)
-        with open("fs", "r+b") as file:
-            for i, place in enumerate(self.places):
-                file.seek(place * self.size)
-                file.write(self.journal[i * self.size:(i + 1) * self.size])
-
-    def new_jb(self):
-        copy("fs", "jb.img")
-
-    def check_jb(self, what):
-        self.expect(what, whole("jb.img") == whole("jb.whole"))
-
-    def judged(self, line):
-        """Compares the volume with what the journal says; how many blocks have changed."""
-        _, homes, wanted, expected = replay(self.journal)
-        changed = differing("fs", "jb.img", self.size)
-        self.expect("JB says: " + line, line == wanted)
-        self.expect("blocks that no copy is of", set(changed) <= set(homes) | {self.places[0]})
-        for home, content in homes.items():
-            self.expect("home %d" % home, read_at("jb.img", home * self.size, self.size) == content)
-        first = read_at("jb.img", self.places[0] * self.size, 1024)
-        self.expect("the journal is not clean", struct.unpack_from(">II", first, 0x18) == (expected % 2**32, 0))
-        return len(changed)
-
-    def all(self, what):
-        self.new_jb()
-        line = run(*self.words)
-        changed = self.judged(line)
-        copy("jb.img", "jb.whole")
-        again = run(*self.words)
-        self.expect("a second run says: " + again, again.startswith("transactions 0 "))
-        calls = self.killed(self.new_jb, self.words, self.check_jb) if shutil.which("strace") else 0
-        print("%s, %d stretches, %s: %s; %d blocks changed; killed at %d of %d calls: %s" % (
-            self.name, len(self.parts), what, line, changed, min(self.kills, calls), calls,
-            "WRONG: " + "; ".join(self.faults) if self.faults else "as jbref_read.py has it"), flush=True)
-        return bool(self.faults)
 
 
 def main():
