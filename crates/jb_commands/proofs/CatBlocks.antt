@@ -7,9 +7,9 @@ use Rattle.std.specs.Io.KnownBytes.{Appends}
 use Rattle.std.proofs.KnownBytes.{Appends-trans}
 use Rattle.jb_disk.specs.Faults.{CountsNone, MoreFaults}
 use Rattle.jb_disk.specs.Image.{Image, Same}
-use Rattle.jb_disk.specs.KeptOn.{KeptOn}
+use Rattle.jb_disk.specs.KeptOn.{KeptOn, ReadsOn}
 use Rattle.jb_disk.specs.Time.{Goes}
-use Rattle.jb_disk.proofs.KeptOverCalls.{kept_as, kept_on, kept_same}
+use Rattle.jb_disk.proofs.KeptOverCalls.{kept_as, kept_on, kept_same, reads_none, reads_on}
 use Rattle.jb_disk.proofs.CallSteps.{goes-none, goes-on}
 use Rattle.jb_text.specs.Puts.{PutsPart}
 use Rattle.jb_text.proofs.PartByPart.{part_after}
@@ -67,6 +67,7 @@ module _ {D : Type 0} (G : Disks D) (first : ℕ) (hex : Bool) where
     pub kept : KeptOn G CountsNone old now
     pub same : G.honest now → G.newest now ≡ G.newest old
     pub idle : G.honest now → Goes G.may_leave G.moment G.left_since Same old now
+    pub unsynced : ReadsOn G old now
     pub peeked : G.honest now → ArePeeked (G.size old) (G.count old) (G.newest old) first blocks
     pub offset : at ≡ offset_after 0 blocks
     pub text : Appends out_old out_now (blocks_text hex 0 blocks)
@@ -78,6 +79,7 @@ module _ {D : Type 0} (G : Disks D) (first : ℕ) (hex : Bool) where
     kept = kept_same old refl;
     same = λ held. refl;
     idle = λ held. goes-none G.may_leave G.moment G.left_since old;
+    unsynced = reads_none old;
     peeked = λ held k within. absurd (let h : ⊥ = omega (arith, within) in h);
     offset = refl;
     text = appends-none out;
@@ -90,13 +92,14 @@ module _ {D : Type 0} (G : Disks D) (first : ℕ) (hex : Bool) where
     kept = kept_as state.kept state.kept.counted;
     same = state.same;
     idle = state.idle;
+    unsynced = state.unsynced;
     peeked = state.peeked;
     told = (refl, state.done ∙ whole, state.text);
   }
 
   module _ {counts : ℕ → ℕ → Type 0} (old now next : D) (out_old out_now : Option (List ℕ)) (i at : ℕ) (state : Catting old now out_old out_now i at)
       (kept : KeptOn G counts now next) (same : G.honest next → G.newest next ≡ G.newest now) (idle : G.honest next → Goes G.may_leave G.moment G.left_since Same now next)
-      (counts_now : (t : ℕ) (c : Image) → G.honest old → t ≤ G.moment old → G.may_leave old c → G.left_since old t c) where
+      (reads : ReadsOn G now next) (counts_now : (t : ℕ) (c : Image) → G.honest old → t ≤ G.moment old → G.may_leave old c → G.left_since old t c) where
     kept-next : (both : ℕ → ℕ → Type 0) → both (G.faults old) (G.faults next) → KeptOn G both old next
     kept-next both counted = kept_on state.kept kept counted
 
@@ -123,7 +126,7 @@ module _ {D : Type 0} (G : Disks D) (first : ℕ) (hex : Bool) where
         (length blocks) (blocks_text hex 0 blocks) out_old out_next end
         → CatsOn G homes first n hex old next out_old out_next end
     stopped homes n out_next end blocks counted peeked told =
-        record { blocks = blocks; kept = kept-next (CatFaults end) counted; same = same-next; idle = idle-next; peeked = peeked; told = told }
+        record { blocks = blocks; kept = kept-next (CatFaults end) counted; same = same-next; idle = idle-next; unsynced = reads_on state.unsynced reads; peeked = peeked; told = told }
 
     -- there was no memory for the rows of the block
     cats-starved : G.faults next ≡ G.faults now → (homes : Option ℕ) (n : ℕ) → hex ≡ true → i < n → CatsOn G homes first n hex old next out_old out_now (Err Memory)
@@ -152,6 +155,7 @@ module _ {D : Type 0} (G : Disks D) (first : ℕ) (hex : Bool) where
         kept = kept-next CountsNone (none ∙ state.kept.counted);
         same = same-next;
         idle = idle-next;
+        unsynced = reads_on state.unsynced reads;
         peeked = peeked-next;
         offset = offset ∙ ap (λ o. offset_behind o bytes) state.offset ∙ sym (offset-more 0 state.blocks bytes);
         text = subst (Appends out_old out_next) (sym text-next) (Appends-trans out_old out_now out_next (blocks_text hex 0 state.blocks) (block_text hex at bytes) state.text written);
@@ -182,13 +186,15 @@ module _ {D : Type 0} (G : Disks D) (first : ℕ) (hex : Bool) where
 -- ---- no block is asked for
 
 module _ {D : Type 0} (G : Disks D) (homes : Option ℕ) (home : ℕ) (old new : D)
-    (same : G.honest new → G.newest new ≡ G.newest old) (idle : G.honest new → Goes G.may_leave G.moment G.left_since Same old new) where
+    (same : G.honest new → G.newest new ≡ G.newest old) (idle : G.honest new → Goes G.may_leave G.moment G.left_since Same old new)
+    (reads : ReadsOn G old new) where
   -- the peek was not refused
   pub looks-well : KeptOn G CountsNone old new → (G.honest new → peek_refusal (G.size old) (G.count old) (G.newest old) home ≡ None) → LooksOn G homes home old new (Ok 0)
   looks-well kept told = record {
     kept = kept_as kept kept.counted;
     same = same;
     idle = idle;
+    unsynced = reads;
     looked = (refl, told);
   }
 
@@ -198,6 +204,7 @@ module _ {D : Type 0} (G : Disks D) (homes : Option ℕ) (home : ℕ) (old new :
     kept = kept_as kept (peek-counted homes stop (G.faults old) (G.faults old) (G.faults new) refl kept.counted);
     same = same;
     idle = idle;
+    unsynced = reads;
     looked = (stop, refl, told);
   }
 

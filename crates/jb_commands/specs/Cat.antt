@@ -5,7 +5,7 @@ use Rattle.std.specs.Io.KnownBytes.{Appends}
 use Rattle.hex.specs.Hex.{encode_lower}
 use Rattle.jb_disk.specs.Faults.{MoreFaults}
 use Rattle.jb_disk.specs.Image.{Image, Same}
-use Rattle.jb_disk.specs.KeptOn.{KeptOn}
+use Rattle.jb_disk.specs.KeptOn.{KeptOn, ReadsOn}
 use Rattle.jb_disk.specs.Time.{Goes}
 use Rattle.jb_text.specs.Puts.{PutsPart}
 use Rattle.jb_recover.specs.Peeks.{IsPeeked, peek_refusal}
@@ -94,13 +94,14 @@ CatFaults (Err DeviceFault) old new = MoreFaults old new
 CatFaults (Err _) old new = new ≡ old
 
 -- the homes of a disk from the first one on were peeked at and written, as many as were asked for, or up to a fault; the disk's content
--- stays, and a crash leaves what it could leave before
+-- stays, and a crash leaves what it could leave before, no less and no more
 pub record CatsOn {D : Type 0} (G : Disks D) (homes : Option ℕ) (first n : ℕ) (hex : Bool) (old new : D)
     (out_old out_new : Option (List ℕ)) (end : Result ℕ CommandFault) : Type 0 where
   pub blocks : List (List ℕ)
   pub kept : KeptOn G (CatFaults end) old new
   pub same : G.honest new → G.newest new ≡ G.newest old
   pub idle : G.honest new → Goes G.may_leave G.moment G.left_since Same old new
+  pub unsynced : ReadsOn G old new
   pub peeked : G.honest new → ArePeeked (G.size old) (G.count old) (G.newest old) first blocks
   pub told : TellsHomes (λ stop. G.honest new → IsUnpeeked (G.size old) (G.count old) (G.newest old) (home_at first (length blocks)) stop) homes hex n (length blocks)
       (blocks_text hex 0 blocks) out_old out_new end
@@ -113,11 +114,12 @@ LooksAs IsRefused IsPassed homes (Ok status) = (status ≡ 0) × IsPassed
 LooksAs IsRefused IsPassed homes (Err fault) = (stop : PeekFault) × (fault ≡ peek_fault homes stop) × IsRefused stop
 
 -- a home of a disk was peeked at, and nothing more: it ends well where that is not refused; the disk's content stays, and a crash leaves
--- what it could leave before
+-- what it could leave before, no less and no more
 pub record LooksOn {D : Type 0} (G : Disks D) (homes : Option ℕ) (home : ℕ) (old new : D) (end : Result ℕ CommandFault) : Type 0 where
   pub kept : KeptOn G (CatFaults end) old new
   pub same : G.honest new → G.newest new ≡ G.newest old
   pub idle : G.honest new → Goes G.may_leave G.moment G.left_since Same old new
+  pub unsynced : ReadsOn G old new
   pub looked : LooksAs (λ stop. G.honest new → IsUnpeeked (G.size old) (G.count old) (G.newest old) home stop)
       (G.honest new → peek_refusal (G.size old) (G.count old) (G.newest old) home ≡ None) homes end
 

@@ -30,7 +30,7 @@ abbrev pub foreseen_text : Bool → Option MapSource → Foreseen → List ℕ
 foreseen_text list found told = recovered_line found told.counts ++ (if list then homes_lines told.homes.items else [])
 
 -- it was foreseen what a recovery of the disk answers, with these clauses; the disk's content stays, and a crash leaves what it
--- could leave before
+-- could leave before, no less and no more (`unsynced` of `passed`)
 pub record Foretells {D : Type 0} (G : Disks D) (old new : D) (answer : Result Foreseen RecoverFault) : Type 0 where
   pub passed : Passed G answer old new
   pub foresees : G.honest new → Foresees (G.size old) (G.count old) (G.newest old) answer

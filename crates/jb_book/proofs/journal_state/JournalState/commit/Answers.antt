@@ -16,7 +16,7 @@ invariant_of-self g c =
     let is = marked-weaker g.D.Disk b (IsStop b c.self.inside.sight) (IsStop b c.learn.new.sight) (stop-on b c.self.inside.sight c.learn.new.sight c.learn.ensures.own) c.self.inside.appender c.self.inside.deck c.self.invariant in
     let after = commit-marked g.D.Disk b (IsStop b c.learn.new.sight)
     c.args.prepared c.now-stamp.result c.self.inside.deck c.commit_batch-result.new.self c.groups-groups.ensures.least tickets stops c.commit_batch-result.ensures.kept c.self.inside.appender
-    c.commit_batch-result.result c.commit_batch-result.ensures.answers c.commit_batch-result.ensures.commits c.commit_batch-result.ensures.leaves c.commit_batch-result.ensures.now is in
+    c.commit_batch-result.result c.commit_batch-result.ensures.answers c.commit_batch-result.ensures.commits c.commit_batch-result.ensures.leaves (λ up held. (c.commit_batch-result.ensures.now up held).each) is in
     let tiles = rw c.trail-trail.ensures.value at c.trail-trail.ensures.tiles in
     subst (λ (ms : List (OpenDeck g.row.D.Denot)). IsMarkedOf g.D.Disk b (IsStop b c.learn.new.sight) ms c.commit_batch-result.new.self) (sym c.mark-marks.ensures.whole)
     (marked-now g.D.Disk g.met.D.Disk.only_now b (IsStop b c.learn.new.sight) c.self.inside.appender c.commit_batch-result.new.self tiles after)
@@ -37,7 +37,7 @@ returns-clause-round g c =
     let is = marked-weaker g.D.Disk b (IsStop b c.self.inside.sight) (IsStop b c.learn.new.sight) (stop-on b c.self.inside.sight c.learn.new.sight c.learn.ensures.own) c.self.inside.appender c.self.inside.deck c.self.invariant in
     commit-ends g.D.Disk b (IsStop b c.learn.new.sight)
     c.args.prepared c.now-stamp.result c.self.inside.deck c.commit_batch-result.new.self c.groups-groups.ensures.least tickets stops c.commit_batch-result.ensures.kept (λ h s. s.0) c.self.inside.appender
-    c.commit_batch-result.result c.commit_batch-result.ensures.answers c.commit_batch-result.ensures.commits c.commit_batch-result.ensures.finds c.commit_batch-result.ensures.leaves c.commit_batch-result.ensures.now is
+    c.commit_batch-result.result c.commit_batch-result.ensures.answers c.commit_batch-result.ensures.commits c.commit_batch-result.ensures.finds c.commit_batch-result.ensures.leaves (λ up held. (c.commit_batch-result.ensures.now up held).each) is
 
 pub returns-clause-marked : goal.returns-clause-marked
 returns-clause-marked g c =

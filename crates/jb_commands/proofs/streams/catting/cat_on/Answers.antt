@@ -14,7 +14,7 @@ returns-in_err-put_block g c =
     let fails : c.from_residual.result ≡ Err c.in_err-put_block.field-0.0 = search rules in
     record {
       cats = cats-stopped g.D.Disk c.args.home c.args.hex c.args.disk.now disk c.peek.new.disk (g.O.Write.contents c.args.out.now) (g.O.Write.contents c.loop-i.out) c.loop-i.i
-          c.loop-i.at c.loop-i.invariant.state c.in-Ok.ensures.kept c.in-Ok.ensures.newest c.in-Ok.ensures.idle (g.met.D.Disk.counts_now c.args.disk.now) c.in-Ok.ensures.kept.counted c.peek.new.bytes
+          c.loop-i.at c.loop-i.invariant.state c.in-Ok.ensures.kept c.in-Ok.ensures.newest c.in-Ok.ensures.idle c.in-Ok.ensures.unsynced (g.met.D.Disk.counts_now c.args.disk.now) c.in-Ok.ensures.kept.counted c.peek.new.bytes
           (λ honest. rw c.saturating_add.ensures at (c.in-Ok.ensures.peeks honest))
           c.args.homes c.args.count (g.O.Write.contents c.put_block.new.out) c.in_err-put_block.field-0.0 c.from_residual.result fails c.in_err-put_block.ensures.memory c.loop-i-test.true c.in_err-put_block.ensures.puts;
     }
@@ -24,7 +24,7 @@ loop-i-preserved g c =
     let disk = c.loop-i.disk in
     record {
       state = catting-more g.D.Disk c.args.home c.args.hex c.args.disk.now disk c.peek.new.disk (g.O.Write.contents c.args.out.now) (g.O.Write.contents c.loop-i.out) c.loop-i.i
-          c.loop-i.at c.loop-i.invariant.state c.in-Ok.ensures.kept c.in-Ok.ensures.newest c.in-Ok.ensures.idle (g.met.D.Disk.counts_now c.args.disk.now) c.in-Ok.ensures.kept.counted c.peek.new.bytes
+          c.loop-i.at c.loop-i.invariant.state c.in-Ok.ensures.kept c.in-Ok.ensures.newest c.in-Ok.ensures.idle c.in-Ok.ensures.unsynced (g.met.D.Disk.counts_now c.args.disk.now) c.in-Ok.ensures.kept.counted c.peek.new.bytes
           (λ honest. rw c.saturating_add.ensures at (c.in-Ok.ensures.peeks honest))
           (g.O.Write.contents c.put_block.new.out) ((c.loop-i.at + length c.peek.new.bytes) % 2 ^ 32) c.in_ok-put_block.ensures.puts refl;
     }
@@ -38,7 +38,7 @@ returns-in-Err g c =
     record {
       cats = rw c.of_peek.ensures.value (
           cats-refused g.D.Disk c.args.home c.args.hex c.args.disk.now disk c.peek.new.disk (g.O.Write.contents c.args.out.now) (g.O.Write.contents c.loop-i.out)
-          c.loop-i.i c.loop-i.at c.loop-i.invariant.state c.in-Err.ensures.kept c.in-Err.ensures.newest c.in-Err.ensures.idle (g.met.D.Disk.counts_now c.args.disk.now)
+          c.loop-i.i c.loop-i.at c.loop-i.invariant.state c.in-Err.ensures.kept c.in-Err.ensures.newest c.in-Err.ensures.idle c.in-Err.ensures.unsynced (g.met.D.Disk.counts_now c.args.disk.now)
           c.args.homes c.args.count c.in-Err.fault c.in-Err.ensures.kept.counted c.loop-i-test.true
           (λ honest. subst (λ h. IsUnpeeked size count image h c.in-Err.fault) c.saturating_add.ensures (unpeeked-by size count image _ _ _ c.in-Err.fault (c.in-Err.ensures.peeks honest))));
     }
