@@ -41,7 +41,7 @@ transaction number pieces = record { number = number; stamp = record { sec = 0; 
 
 -- a copy for home 5 that holds these bytes
 abbrev pub copy_of_five : List ℕ → Piece
-copy_of_five bytes = Run ((record { home = 5; flags = 0 }, bytes) ∷ [])
+copy_of_five bytes = Run ((record { home = 5; flags = 0; sum = 0 }, bytes) ∷ [])
 
 -- two transactions, each with a copy for home 5
 abbrev pub copied_twice : List ℕ → List ℕ → List Transaction

@@ -33,6 +33,8 @@ mod summaries;
 #[cfg(test)]
 mod summed_supers;
 #[cfg(test)]
+mod summed_tags;
+#[cfg(test)]
 mod superblocks;
 #[cfg(test)]
 mod supers;

@@ -33,6 +33,7 @@ fn same_copies(copies: &[(Tag, Block)], wanted: &[(u64, u16, &[u8])]) -> bool {
         let same = Tag {
             home: *home,
             flags: *flags,
+            sum: 0,
         };
         if *tag != same || block.as_slice() != block_of(bytes).as_slice() {
             return false;

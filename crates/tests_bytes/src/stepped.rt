@@ -1,6 +1,6 @@
 //! Logs that are read a block at a time.
 
-use jb_block::{Items, Width};
+use jb_block::{Items, Layout, Width};
 use jb_group::{Seen, Transaction};
 use jb_scan::{Reader, Taken};
 use std::alloc::Global;
@@ -14,7 +14,7 @@ pub fn found_stepwise(
     number: u32,
     width: Width,
 ) -> Seen {
-    let mut reader = Reader::new(alloc, number, width);
+    let mut reader = Reader::new(alloc, number, Layout::plain(width));
     let mut transactions = Items::new(alloc);
     for bytes in blocks {
         if !steps(test, &mut reader, &mut transactions, bytes) {
