@@ -1,8 +1,8 @@
 """Rows of the table: file systems, whose own journal is found by their superblock."""
-from images import BS, data, image, superblock
-from rows import FULL, ONE, OUT_OF_RANGE, RECOVERED, row
+from images import BS, commit, data, image, revoke, superblock
+from rows import CLEAN, CLEARED, DUMPED, FULL, GLANCE, MISSING, OLD, ONE, OUT_OF_RANGE, RECOVERED, SMALL, TWO_AND_REVOKED, WIDENED, row
 from rows_load import LOADED  # noqa: F401  (the rows of loads come before)
-from rows_places import LINE, NINE
+from rows_places import LINE, NINE, parted, within
 from systems import BLOCK_MAP, EXTENTS, PLACES, ext, le
 
 AGAIN = "transactions 0 copies 0 revoked 0 next 4\n"
@@ -20,9 +20,13 @@ row("recover a --force", 0, LINE, files=ext(FULL, uuid=bytes(16)), after=ext(REC
 row("recover a", 2, err="jb: in use a\n", files=ext(FULL), locked="a")
 row("recover a", 1, err="jb: Extents Home 16\n", files=ext(image(superblock(2, 1), OUT_OF_RANGE), ((16, 33),)))
 row("cat a 20", 1, err="jb: Extents Home 20\n", files=ext(FULL))
-# the copy in the superblock serves where the inode or its map is refused
+# the copy in the superblock serves where the inode or its map is refused, and then the line says so
+BACKUP = LINE.replace("\n", " backup\n")
 for inode in ((0x00, "H", 0x4180),), ((0x1A, "H", 0),), ((0x04, "I", 5 * BS),), ((0x28, "H", 0xF30B),), ((0x28 + 6, "H", 6),), ((0x28 + 12 + 4, "H", 0),), ((0x28 + 12 + 8, "I", 2000),):
-    row("recover a", 0, LINE, files=ext(FULL, inode=inode), after=ext(RECOVERED, inode=inode))
+    row("recover a", 0, BACKUP, files=ext(FULL, inode=inode), after=ext(RECOVERED, inode=inode))
+    row("recover a", 0, AGAIN.replace("\n", " backup\n"), files=ext(RECOVERED, inode=inode))
+    row("recover a --dry-run --list", 0, BACKUP + "home 5\n", files=ext(FULL, inode=inode))
+    row("recover a --extents 20-52", 0, LINE, files=ext(FULL, inode=inode), after=ext(RECOVERED, inode=inode))
 # a list has to be that of the file system's own journal, forced or not
 for more in "", " --dry-run", " --force":
     row("recover a --extents 20-52" + more, 0, LINE, files=ext(FULL), after={} if "dry" in more else ext(RECOVERED))
@@ -55,6 +59,8 @@ OWN = [
     (dict(inode=((0x48, "I", 30),)), "Map Twice 30"), (dict(inode=((0x3C, "I", 1),)), "Map Twice 1"),
 ]
 for says, why in OWN:
+    for words in "dump a", "renumber a", "widen a":
+        row(words, 1, err="jb: Own %s\n" % why, files=ext(FULL, **{"backup": False, **says}))
     row("recover a", 1, err="jb: Own %s\n" % why, files=ext(FULL, **{"backup": False, **says}))
 row("recover a --dry-run", 1, err="jb: Own Differs\n", files=ext(FULL, inode=((0x3C, "I", 60),), laid={60: FULL[:BS]}))
 row("recover a", 1, err="jb: Own NoSuper 20\n", files=ext(FULL, laid={20: data(b"none")}))
@@ -63,3 +69,75 @@ row("recover a", 1, err="jb: Super Feature 2 16\n", files=ext(image(superblock(2
 # an image that is neither
 row("recover a", 1, err="jb: Super NoMagic\n", files=ext(FULL, magic=0xEF52))
 row("recover a", 1, err="jb: Super NoMagic\n", files={"a": ext(FULL)["a"][:2047]})
+# ---- renumber, widen and dump ------------------------------------------------------------------------------------------------
+
+OLD_LOG, NO_LOG, NARROW = image(CLEAN, OLD), image(superblock(0), CLEARED), image(SMALL, OLD)
+CHANGES = [("renumber a", "renumbered blocks 2 next 1\n", OLD_LOG, NO_LOG), ("widen a", "widened limit 8\n", NARROW, WIDENED), ("widen a", "already wide limit 8\n", WIDENED, WIDENED)]
+for kind, parts, said in (EXTENTS, ((20, 33),), "20-52"), (BLOCK_MAP, ((40, 10), (16, 23)), "40-49,~16-38"), (EXTENTS, ((59, 1), (30, 12), (20, 10), (45, 10)), "59,~30-41,~20-29,~45-54"):
+    for more in "", " --extents " + said:
+        for words, line, before, after in CHANGES:
+            row(words + more, 0, line, files=ext(before, parts, kind), after=ext(after, parts, kind) if before != after else {})
+        row("dump a" + more, 0, DUMPED, files=ext(FULL, parts, kind))
+# without a file system of ext2, ext3 or ext4 the list says it alone
+for parts, said in (((20, 33),), "20-52"), (((40, 10), (16, 23)), "(0-9):40-49,~(IND):50,~(10-32):16-38"):
+    for words, line, before, after in CHANGES:
+        row(words + " --extents " + said, 0, line, files=within(before, parts), after=within(after, parts) if before != after else {})
+    row("dump a --extents " + said, 0, DUMPED, files=within(FULL, parts))
+    row("dump a", 1, err="jb: Super NoMagic\n", files=within(FULL, parts))
+for words in "renumber a", "widen a":
+    line = "renumbered blocks 2 next 1\n" if words == "renumber a" else "widened limit 8\n"
+    before, after = (OLD_LOG, NO_LOG) if words == "renumber a" else (NARROW, WIDENED)
+    # a log that is not clean is refused once the journal is known for the file system's own; of a clean one the UUID is not asked
+    for more in "", " --extents 20-52":
+        row(words + more, 1, err="jb: NeedsRecovery\n", files=ext(FULL))
+        row(words + more, 1, err="jb: FileSystem Uuid\n", files=ext(FULL, uuid=bytes(16)))
+        row(words + more, 0, line, files=ext(before, uuid=bytes(16)), after=ext(after, uuid=bytes(16)))
+        row(words + more, 2, err="jb: in use a\n", files=ext(before), locked="a")
+        row(words + more, 1, err="jb: WriteFault\n", files=ext(before), to="full", after=ext(after))
+        row(words + more, 1, err="jb: DeviceFault\n", files=ext(before), how="trap '' XFSZ; ulimit -f 16")
+    row(words + " --extents 20-52", 1, err="jb: NeedsRecovery\n", files=within(FULL, [(20, 33)]))
+    row(words + " --extents 20-52", 1, err="jb: Extents Nothing\n", files=within(image(superblock(2, 1)), [(20, 33)]))
+    # the superblock's copy of the map serves, as it does a recovery
+    row(words, 0, line, files=ext(before, inode=((0x1A, "H", 0),)), after=ext(after, inode=((0x1A, "H", 0),)))
+    for said, err in (("(0):20,~(1-32):22-53", "Extents Other 1"), ("20-51", "Extents Short 32"), ("20-53", "Extents Long 34"), ("21-53", "Extents NoJournal")):
+        row(words + " --extents " + said, 1, err="jb: %s\n" % err, files=ext(before))
+    row(words + " --extents 20-52", 1, err="jb: Own None\n", files=ext(before, compat=0))
+    row(words, 1, err="jb: Super NoMagic\n", files=ext(before, magic=0xEF52))
+    row(words, 1, err="jb: Super NoMagic\n", files={"a": ext(before)["a"][:2047]})
+for words in "renumber a", "widen a", "dump a":
+    row(words + " --extents x", 2, err="jb: bad option\n", files=ext(NARROW), beside="--extents")
+    row(words + " --extents 20-52", 2, err="jb: cannot read a\n", beside=MISSING)
+    row(words + " --extents @list", 2, err="jb: cannot read list\n", files=ext(NARROW), beside=MISSING)
+for given in dict(stdin=b"20-29,\n30-52\n"), dict(list=b"20-29, 30-52"):
+    word, lists, stdin = (" --extents @list", given, b"21-53") if "list" in given else (" --extents -", {}, given["stdin"])
+    for words, line, before, after in CHANGES[:2]:
+        row(words + word, 0, line, files={**ext(before), **lists}, stdin=stdin, after=ext(after))
+    row("dump a" + word, 0, DUMPED, files={**ext(FULL), **lists}, stdin=stdin)
+# what is dumped of a journal within its file system, or in a file of its own, is what is dumped of the journal alone
+for words, numbers in ((" --home 7", [2]), (" --super", [0, 1]), (" --last 0", [0, 1, 5])):
+    row("dump a" + words, 0, "".join(DUMPED.splitlines(True)[n] for n in numbers), files=ext(FULL))
+    row("dump a --extents 20-52" + words, 0, "".join(DUMPED.splitlines(True)[n] for n in numbers), files=ext(FULL))
+    row("dump a --journal j" + words, 0, "".join(DUMPED.splitlines(True)[n] for n in numbers), files=parted(FULL))
+row("dump a", 0, DUMPED, files=ext(FULL, inode=((0x1A, "H", 0),)))
+row("dump a", 0, DUMPED, files=ext(FULL, uuid=bytes(16)))
+row("dump a --journal j", 0, DUMPED, files=parted(FULL))
+row("dump - --journal j", 0, DUMPED, files={"-": parted(FULL)["a"], "j": parted(FULL)["j"]}, stdin=RECOVERED)
+BAD = image(superblock(2, 1), [revoke(2, [], 1025), commit(2)])
+for words, lay, name in (("dump a", ext, ""), ("dump a --extents 20-52", ext, ""), ("dump a --journal j", parted, " j")):
+    row(words, 1, err="jb: BadRevoke 1%s\n" % name, files=lay(BAD))
+    row(words, 1, err="jb: WriteFault\n", files=lay(FULL), to="full")
+    row(words, 2, err="jb: in use a\n", files=lay(FULL), locked="a")
+    row(words + " --summary", 0, GLANCE, files=lay(image(superblock(2, 1), TWO_AND_REVOKED)))
+# a file without a file system's superblock is not locked, and stays what it was; so does standard input
+row("dump a", 1, err="jb: Super NoMagic\n", files=ext(FULL, magic=0xEF52), locked="a")
+row("dump a", 1, err="jb: Super NoMagic\n", files={"a": ext(FULL)["a"][:2047]})
+row("dump -", 1, err="jb: Super NoMagic\n", stdin=ext(FULL)["a"])
+for said, err in (("(0):20,~(1-32):22-53", "Extents Other 1"), ("20-51", "Extents Short 32"), ("21-53", "Extents NoJournal")):
+    row("dump a --extents " + said, 1, err="jb: %s\n" % err, files=ext(FULL))
+row("dump a --extents 20-52 --journal j", 2, err="jb: bad option\n", files={**ext(FULL), "j": FULL[:33 * BS]}, beside="--extents")
+row("dump a --journal j", 2, err="jb: cannot read j\n", files={"a": FULL}, beside=MISSING)
+row("dump a --journal j", 2, err="jb: cannot read a\n", files={"j": FULL[:33 * BS]}, beside=MISSING)
+row("dump a --journal j", 2, err="jb: in use j\n", files=parted(FULL), locked="j")
+row("dump a --journal a", 2, err="jb: same file a\n", files={"a": FULL})
+row("dump a --journal j", 1, err="jb: Super NoMagic j\n", files={"a": FULL, "j": bytes(33 * BS)})
+row("dump a --journal j", 1, err="jb: JournalLength 34 33 j\n", files=parted(FULL + bytes(BS), 34))

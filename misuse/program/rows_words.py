@@ -20,7 +20,7 @@ for words in ("--help", "help", "-h", "help format", "cost --help", "load -h"):
 row("--help", 1, err="jb: WriteFault\n", to="full")
 for words in ("mount a", "cost", "cost a b", "check a", "recover", "recover a b", "format a --bs x --journal 33 --homes 16", "format a --bs 1024 --journal 33",
               "format a --bs 1024 --journal 33 --homes -1", "cat a", "cat a x", "cat a 5 -n x", "cat a 5 --journal",
-              "dump a --journal a", "dump a --home", "dump a --home x", "dump a --last -1", "dump a --super=1", "dump a --super --super",
+              "dump a --journal", "dump a --extents", "renumber a --journal a", "widen a --journal a", "widen a --extents", "dump a --home", "dump a --home x", "dump a --last -1", "dump a --super=1", "dump a --super --super",
               "load a", "load a q --threads 18446744073709551616", "--limit 7", "cost --hold a"):
     row(words, 2, err=begins("error: "), files={"a": FULL, "q": queue(HANDLE)})
 row("cost \udcff", 2, err="error: invalid UTF-8 was detected in one or more arguments\n")
@@ -41,7 +41,7 @@ for words, said in [("format a --bs 18446744073709551616", "invalid value '18446
                     ("load a.img a --threads -1",
                      "unexpected argument '-1' found\n\n  tip: to pass '-1' as a value, use '-- -1'\n\nUsage: jb load [OPTIONS] <IMAGE> <FILE>"),
                     ("load a.img a --hold=yes", "unexpected value 'yes' for '--hold' found; no more were expected\n\nUsage: jb load --hold <IMAGE> <FILE>"),
-                    ("widen a b", "unexpected argument 'b' found\n\nUsage: jb widen <IMAGE>"),
+                    ("widen a b", "unexpected argument 'b' found\n\nUsage: jb widen [OPTIONS] <IMAGE>"),
                     ("cost a b", "unexpected argument 'b' found\n\nUsage: jb cost <FILE>"),
                     ("coast a", "unrecognized subcommand 'coast'\n\n  tip: some similar subcommands exist: 'format', 'cost'\n\nUsage: jb <COMMAND>")]:
     row(words, 2, err="error: %s\n\nFor more information, try '--help'.\n" % said)
@@ -84,21 +84,23 @@ Options:
 Usage: jb dump [OPTIONS] <FILE>
 
 Arguments:
-  <FILE>  A file with the whole journal at its front, or - for standard input
+  <FILE>  A journal, or an ext2, ext3 or ext4 file system, whose journal is found; - for standard input
 
 Options:
-      --home <N>  Only the lines that speak of home block N
-      --last <N>  Of the transactions only the last N
-      --super     Only the lines of the superblock
-      --summary   The journal at a glance, in place of its lines
-  -h, --help      Print help (see more with '--help')
+      --home <N>           Only the lines that speak of home block N
+      --last <N>           Of the transactions only the last N
+      --super              Only the lines of the superblock
+      --summary            The journal at a glance, in place of its lines
+      --journal <JOURNAL>  The file with the journal; FILE has the home blocks alone then
+      --extents <LIST>     Where the journal stands within FILE, as debugfs lists its blocks; - or @FILE has it
+  -h, --help               Print help (see more with '--help')
 """,
     "cat -h": """Writes home blocks of an image as recovery would leave them
 
 Usage: jb cat [OPTIONS] <IMAGE> <HOME>
 
 Arguments:
-  <IMAGE>  A file or block device with a journal at its front, and the home blocks after it
+  <IMAGE>  A journal and the home blocks after it, or an ext2, ext3 or ext4 file system, whose journal is found
   <HOME>   The number of the first home block
 
 Options:
@@ -129,11 +131,12 @@ Options:
 Usage: jb load [OPTIONS] <IMAGE> <FILE>
 
 Arguments:
-  <IMAGE>  A file or block device with a journal at its front, and the home blocks after it
+  <IMAGE>  A journal and the home blocks after it, or an ext2, ext3 or ext4 file system, whose journal is found
   <FILE>   A queue text of the image's block size
 
 Options:
       --journal <FILE>  The file with the journal; IMAGE has the home blocks alone then
+      --extents <LIST>  Where the journal stands within IMAGE, as debugfs lists its blocks; - or @FILE has it
       --threads <N>     How many threads run the handles, 1 to 64 [default: 1]
       --hold            Commits once all handles have run, as one batch
       --stamp <SEC>     The time of the commit blocks, in seconds since 1970 [default: 0]
@@ -145,7 +148,7 @@ Options:
 Usage: jb recover [OPTIONS] <IMAGE>
 
 Arguments:
-  <IMAGE>  A file or block device with a journal at its front, and the home blocks after it
+  <IMAGE>  A journal and the home blocks after it, or an ext2, ext3 or ext4 file system, whose journal is found
 
 Options:
       --extents <LIST>  Where the journal stands within IMAGE, as debugfs lists its blocks; - or @FILE has it
@@ -157,15 +160,21 @@ Options:
 """,
     "help renumber": """Restarts the transaction numbers of a clean journal at 1
 
-Usage: jb renumber <IMAGE>
+Usage: jb renumber [OPTIONS] <IMAGE>
 
 Arguments:
   <IMAGE>
-          A file or block device with a journal at its front, and the home blocks after it
+          A journal and the home blocks after it, or an ext2, ext3 or ext4 file system, whose journal is found
 
 Options:
+      --extents <LIST>
+          Where the journal stands within IMAGE, as debugfs lists its blocks; - or @FILE has it
+
   -h, --help
           Print help (see a summary with '-h')
+
+Of a file system of ext2, ext3 or ext4 that is not mounted its own journal is found, as jb recover finds it;
+with --extents LIST the journal stands within IMAGE, as there.
 
 Status: 0 where the journal is renumbered, 1 where it is refused, by the name of its fault, and stays as
 it is, 2 where the file cannot be opened or read. After jb: NeedsRecovery it is to be recovered first; after

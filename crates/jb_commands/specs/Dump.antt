@@ -1,17 +1,19 @@
--- How `jb dump` ends, over any reader, and over a file.
-use Rattle.std.specs.Prelude.{◌≡◌, ◌⊎◌, ℕ, List, Option, Result, Ok, Err, codes, Bool, true, false}
+-- How `jb dump` ends over any reader, and what it reads.
+use Rattle.std.specs.Prelude.{◌≡◌, ℕ, List, Option, None, Some, Result, Ok, Err, codes, Bool, true, false, if◌then◌else◌}
 use Rattle.std.specs.Str.{bytes_eq}
 use Rattle.jb_dump.specs.Dumps.{Dumps}
 use Rattle.jb_dump.specs.declared.dump_filter.DumpFilter.{DumpFilter}
 use Rattle.jb_dump.specs.declared.fault.DumpFault.{DumpFault}
-use Rattle.jb_args.specs.declared.plain.DumpOptions.{DumpOptions}
+use Rattle.jb_args.specs.PlainCommand.{DumpWords}
+use Rattle.jb_super.specs.declared.fault.SuperFault.TheVariants.{NoMagic}
 use Rattle.jb_commands.specs.Faults.{dump_fault}
+use Rattle.jb_commands.specs.ListText.{reads_list}
 use Rattle.jb_commands.specs.declared.fault.CommandFault.{CommandFault}
-use Rattle.jb_commands.specs.declared.fault.CommandFault.TheVariants.{CannotRead, Memory}
+use Rattle.jb_commands.specs.declared.fault.CommandFault.TheVariants.{CannotRead, Memory, Super}
 
--- the lines that the options ask for
-abbrev pub choice_of : DumpOptions → DumpFilter
-choice_of o = record { home = o.home; last = o.last; superblock = o.superblock; summary = o.summary }
+-- the lines that the words ask for
+abbrev pub choice_of : DumpWords → DumpFilter
+choice_of w = record { home = w.home; last = w.last; superblock = w.superblock; summary = w.summary }
 
 -- how a command ends by what a dump answers: a text that was written has status 0
 abbrev pub end_by : Result Unit DumpFault → Result ℕ CommandFault
@@ -29,21 +31,22 @@ IsUnopened name (CannotRead told code) = told.now ≡ name
 IsUnopened name Memory = Unit {0}
 IsUnopened name _ = ⊥
 
--- the journal of some bytes was dumped; or the file was not opened, and nothing was written
-abbrev pub DumpsFile : DumpFilter → List ℕ → Option (List ℕ) → Option (List ℕ) → Result ℕ CommandFault → Type 0
-DumpsFile choice name out_old out_new end =
-    ((before after : Option (List ℕ)) × DumpsOn choice before after out_old out_new end)
-    ⊎ ((fault : CommandFault) × (end ≡ Err fault) × IsUnopened name fault × (out_new ≡ out_old))
+-- whether one of these says where the journal is
+abbrev pub is_given : Option (List ℕ) → Option (List ℕ) → Bool
+is_given None None = false
+is_given None (Some extents) = true
+is_given (Some journal) extents = true
 
--- the journal of standard input was dumped, or that of the file of this name
-abbrev pub DumpsFrom : DumpFilter → Bool → List ℕ → Option (List ℕ) → Option (List ℕ) → Option (List ℕ) → Option (List ℕ) → Result ℕ CommandFault → Type 0
-DumpsFrom choice true name before after out_old out_new end = DumpsOn choice before after out_old out_new end
-DumpsFrom choice false name before after out_old out_new end = DumpsFile choice name out_old out_new end
+-- whether the words say where the journal is
+abbrev pub is_placed : DumpWords → Bool
+is_placed words = is_given words.journal words.extents
 
--- the journal after this name was dumped: that of standard input after `-`, and else that of a file
-abbrev pub DumpsNamed : DumpFilter → List ℕ → Option (List ℕ) → Option (List ℕ) → Option (List ℕ) → Option (List ℕ) → Result ℕ CommandFault → Type 0
-DumpsNamed choice name = DumpsFrom choice (bytes_eq name (codes "-")) name
+-- whether standard input is read for a dump: for the list of extents where that is given so, and where no word says where the journal is,
+-- as the journal after `-`
+abbrev pub reads_dump : List ℕ → DumpWords → Bool
+reads_dump name words = if is_placed words then reads_list words.extents else bytes_eq name (codes "-")
 
--- the same, where standard input is known as it was before alone
-abbrev pub EndsOfDump : DumpFilter → List ℕ → Option (List ℕ) → Option (List ℕ) → Option (List ℕ) → Result ℕ CommandFault → Type 0
-EndsOfDump choice name before out_old out_new end = (after : Option (List ℕ)) × DumpsNamed choice name before after out_old out_new end
+-- whether a dump ended so since no journal begins there
+abbrev pub is_unbegun : Result ℕ CommandFault → Bool
+is_unbegun (Err (Super NoMagic)) = true
+is_unbegun _ = false

@@ -5,6 +5,7 @@ pub mod ChangePlace
 pub mod Check
 pub mod Cost
 pub mod Dump
+pub mod DumpPlace
 pub mod Ends
 pub mod FaultLines
 pub mod Faults

@@ -3,7 +3,7 @@ use Rattle.std.specs.Prelude.{ℕ, zero, suc, ◌+◌, ◌-◌, ◌==◌, ◌&&�
 use Rattle.hex.specs.Hex.{encode_lower}
 use Rattle.jb_text.specs.TextParts.{spelled}
 use Rattle.jb_args.specs.PlainCommand.{Asked}
-use Rattle.jb_args.specs.PlainCommand.Asked.{AsksCat, AsksRecover}
+use Rattle.jb_args.specs.PlainCommand.Asked.{AsksCat, AsksDump, AsksRecover}
 use Rattle.jb_commands.specs.declared.names.TwoFiles.{TwoFiles}
 
 -- ---- a name as it is shown
@@ -69,4 +69,5 @@ journal_named names = option_map (λ (n : Names). n.journal) names
 abbrev pub names_of : Asked → Option Names
 names_of (AsksCat image words) = names_with image words.journal
 names_of (AsksRecover image words) = names_with image words.journal
+names_of (AsksDump file words) = names_with file words.journal
 names_of _ = None

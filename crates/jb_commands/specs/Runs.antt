@@ -13,7 +13,8 @@ use Rattle.jb_args.specs.PlainCommand.Asked.{AsksCat, AsksCheck, AsksCost, AsksD
 use Rattle.jb_commands.specs.Check.{CheckSays}
 use Rattle.jb_commands.specs.Cost.{cost_said}
 use Rattle.jb_commands.specs.Limits.{cert_limit}
-use Rattle.jb_commands.specs.Dump.{EndsOfDump, choice_of}
+use Rattle.jb_commands.specs.Dump.{reads_dump}
+use Rattle.jb_commands.specs.DumpPlace.{EndsOfDump}
 use Rattle.jb_commands.specs.ChangePlace.{EndsOfChange}
 use Rattle.jb_commands.specs.Files.{EndsOfFormat}
 use Rattle.jb_commands.specs.JournalPlace.{EndsOfCat, EndsOfRecover}
@@ -60,7 +61,7 @@ Closes names (Err fault) old new ended =
 abbrev pub reads_input : Asked → Bool
 reads_input (AsksCost file) = bytes_eq file (codes "-")
 reads_input (AsksPlan file) = bytes_eq file (codes "-")
-reads_input (AsksDump file options) = bytes_eq file (codes "-")
+reads_input (AsksDump file words) = reads_dump file words
 reads_input (AsksCat name words) = reads_list words.extents
 reads_input (AsksRecover name words) = reads_list words.extents
 reads_input (AsksRenumber name extents) = reads_list extents
@@ -82,7 +83,7 @@ module _ {S T : Type 0} {start : Starts S} {other : Starts T} where
   EndsAsked (AsksCost file) input old new image end = SaidAll (Ends (λ text words. cost_said text ≡ Some words) file input old new) image end
   EndsAsked (AsksPlan file) input old new image end = SaidAll (Ends PlanSays file input old new) image end
   EndsAsked (AsksCheck file cert) input old new image end = SaidAll (EndsOfTwo CheckSays file cert old new) image end
-  EndsAsked (AsksDump file options) input old new image end = DumpedAll (EndsOfDump (choice_of options) file input old.out new.out) image end × (new.err ≡ old.err)
+  EndsAsked (AsksDump file words) input old new image end = DumpedAll (EndsOfDump start other words file input old.out new.out) image end × (new.err ≡ old.err)
   EndsAsked (AsksFormat name options) input old new image end = EndsOfFormat name options image end × (new ≡ old)
   EndsAsked (AsksCat name words) input old new image end = EndsOfCat name words input old.out new.out image end × (new.err ≡ old.err)
   EndsAsked (AsksRecover name words) input old new image end = EndsOfRecover name words input image end × (new ≡ old)

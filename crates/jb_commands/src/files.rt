@@ -16,7 +16,7 @@ mod texts;
 
 pub use changes::{renumber_file, widen_file};
 pub use homes::cat_file;
-pub(crate) use journals::{choice_of, dump_named};
+pub(crate) use journals::dump_named;
 pub use making::format_file;
 pub use opened::OpenedImage;
 pub use opening::{Opening, open_counted};

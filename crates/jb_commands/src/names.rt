@@ -33,6 +33,7 @@ pub(crate) fn files_of(plain: Plain<'_>) -> Option<TwoFiles<'_>>
     match plain {
         Plain::Cat { image, options } => TwoFiles::of(image, options.journal),
         Plain::Recover { image, options } => TwoFiles::of(image, options.journal),
+        Plain::Dump { file, options } => TwoFiles::of(file, options.journal),
         _ => None,
     }
 }

@@ -12,8 +12,8 @@ ghost use Rattle.jb_commands.specs.Runs.{Closes, Ends, EndsAsked, EndsOfClaim, E
 use crate::command_end::CommandEnd;
 use crate::fault::CommandFault;
 use crate::files::{
-    cat_file, choice_of, dump_named, format_file, read_file, read_file_within, read_text,
-    recover_file, renumber_file, widen_file,
+    cat_file, dump_named, format_file, read_file, read_file_within, read_text, recover_file,
+    renumber_file, widen_file,
 };
 use crate::names::{TwoFiles, files_of};
 use crate::program_end::ProgramEnd;
@@ -49,7 +49,7 @@ pub fn perform<
         Plain::Plan { file } => CommandEnd::said(perform_plan(rt, file, input, out, err)),
         Plain::Check { file, cert } => CommandEnd::said(perform_check(rt, file, cert, out, err)),
         Plain::Dump { file, options } => {
-            CommandEnd::status(dump_named(rt, file, choice_of(options), input, out))
+            CommandEnd::status(dump_named::<S, T, R, I, O>(rt, file, options, input, out))
         }
         Plain::Format { image, options } => format_file(rt, image, options),
         Plain::Cat { image, options } => cat_file(rt, image, options, input, out),

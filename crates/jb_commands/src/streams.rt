@@ -3,6 +3,7 @@
 
 mod catting;
 mod changing;
+mod disk_reader;
 mod dumping;
 mod fault_line;
 mod foreseeing;
@@ -19,6 +20,7 @@ mod telling;
 pub use catting::cat_on;
 pub use changing::{renumber_on, widen_on};
 pub(crate) use changing::{tell_renumbered, tell_widened};
+pub(crate) use disk_reader::DiskReader;
 pub use dumping::dump_from;
 pub(crate) use foreseeing::tell_foreseen;
 pub(crate) use formatting::tell_formatted;

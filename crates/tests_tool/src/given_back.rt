@@ -71,14 +71,19 @@ fn check_made(rt: &impl Host) {
 /// Changes its journal.
 fn check_changes(rt: &impl Host) {
     let line = "renumbered blocks 0 next 1\n";
-    check_done(rt, renumber_file(rt, NAME), ALL, line, 3);
-    check_done(rt, widen_file(rt, NAME), ALL, "widened limit 8\n", 4)
+    let renumbered = renumber_file(rt, NAME, None, &mut b"".as_slice());
+    check_done(rt, renumbered, ALL, line, 3);
+    let widened = widen_file(rt, NAME, None, &mut b"".as_slice());
+    check_done(rt, widened, ALL, "widened limit 8\n", 4)
 }
 
 /// Changes it once more, by the value of the command.
 fn check_again(rt: &impl Host) {
     let (mut out, mut err) = (Vec::new(rt.alloc()), Vec::new(rt.alloc()));
-    let widen = Plain::Widen { image: NAME };
+    let widen = Plain::Widen {
+        image: NAME,
+        extents: None,
+    };
     let again = perform(rt, widen, &mut b"".as_slice(), &mut out, &mut err);
     check_done(rt, again, ALL, "already wide limit 8\n", 5)
 }

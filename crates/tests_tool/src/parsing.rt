@@ -50,7 +50,9 @@ fn put_dump(rt: &impl Host, text: &mut String, file: &str, of: DumpOptions) {
     put_words(rt, text, &["dump", file]);
     put_some(rt, text, of.home);
     put_some(rt, text, of.last);
-    put_flags(rt, text, &[of.superblock, of.summary])
+    put_flags(rt, text, &[of.superblock, of.summary]);
+    put(rt, text, of.journal.unwrap_or("-"));
+    put(rt, text, of.extents.unwrap_or("-"))
 }
 
 /// Adds the words and options of `jb format`, in the order of `FormatOptions`.
@@ -82,6 +84,7 @@ fn put_recover(rt: &impl Host, text: &mut String, image: &str, of: RecoverOption
 fn put_load(rt: &impl Host, text: &mut String, of: LoadWords) {
     put_words(rt, text, &["load", of.image, of.file]);
     put(rt, text, of.journal.unwrap_or("-"));
+    put(rt, text, of.extents.unwrap_or("-"));
     put_numbers(rt, text, &[of.threads]);
     put_flags(rt, text, &[of.hold]);
     put_numbers(rt, text, &[of.stamp]);
@@ -98,8 +101,12 @@ fn put_plain(rt: &impl Host, text: &mut String, plain: Plain) {
         Plain::Format { image, options } => put_format(rt, text, image, options),
         Plain::Cat { image, options } => put_cat(rt, text, image, options),
         Plain::Recover { image, options } => put_recover(rt, text, image, options),
-        Plain::Renumber { image } => put_words(rt, text, &["renumber", image]),
-        Plain::Widen { image } => put_words(rt, text, &["widen", image]),
+        Plain::Renumber { image, extents } => {
+            put_words(rt, text, &["renumber", image, extents.unwrap_or("-")])
+        }
+        Plain::Widen { image, extents } => {
+            put_words(rt, text, &["widen", image, extents.unwrap_or("-")])
+        }
     }
 }
 
@@ -115,14 +122,16 @@ fn asked(rt: &impl Host, words: &[&str]) -> String {
 }
 
 /// Command lines, and what they ask for.
-static ROWS: [(&str, &str); 26] = [
+static ROWS: [(&str, &str); 31] = [
     ("cost queue.txt", "cost queue.txt"),
     ("cost -", "cost -"),
     ("cost -- -x", "cost -x"),
     ("plan -", "plan -"),
     ("check a b", "check a b"),
-    ("renumber a.img", "renumber a.img"),
-    ("widen -- -", "widen -"),
+    ("renumber a.img", "renumber a.img -"),
+    ("renumber --extents=1-33 a.img", "renumber a.img 1-33"),
+    ("widen -- -", "widen - -"),
+    ("widen a.img --extents @list", "widen a.img @list"),
     (
         "format --uuid 000102030405060708090A0b0c0d0e0f --max=6 --wide a.img --homes 16 --journal 33 --bs 1024",
         "format a.img 1024 33 16 6 000102030405060708090A0b0c0d0e0f true",
@@ -131,18 +140,20 @@ static ROWS: [(&str, &str); 26] = [
         "format a.img --bs +1024 --journal 033 --homes 16",
         "format a.img 1024 33 16 0 00000000000000000000000000000000 false",
     ),
-    ("dump a", "dump a - - false false"),
-    ("dump --home 5 a", "dump a 5 - false false"),
+    ("dump a", "dump a - - false false - -"),
+    ("dump --home 5 a", "dump a 5 - false false - -"),
+    ("dump --journal j a", "dump a - - false false j -"),
+    ("dump a --extents=1-33", "dump a - - false false - 1-33"),
     (
         "dump a --last=18446744073709551615",
-        "dump a - 18446744073709551615 false false",
+        "dump a - 18446744073709551615 false false - -",
     ),
-    ("dump --super a", "dump a - - true false"),
-    ("dump --summary a", "dump a - - false true"),
-    ("dump a --summary --last 2", "dump a - 2 false true"),
+    ("dump --super a", "dump a - - true false - -"),
+    ("dump --summary a", "dump a - - false true - -"),
+    ("dump a --summary --last 2", "dump a - 2 false true - -"),
     (
         "dump --last 0 --super a --home=+07",
-        "dump a 7 0 true false",
+        "dump a 7 0 true false - -",
     ),
     ("cat a.img 5", "cat a.img 5 1 false - -"),
     (
@@ -165,15 +176,19 @@ static ROWS: [(&str, &str); 26] = [
     ),
     (
         "load a.img queue.txt",
-        "load a.img queue.txt - 1 false 0 false",
+        "load a.img queue.txt - - 1 false 0 false",
     ),
     (
         "load --hold a.img --threads 64 queue.txt",
-        "load a.img queue.txt - 64 true 0 false",
+        "load a.img queue.txt - - 64 true 0 false",
+    ),
+    (
+        "load --extents 1-33 a.img queue.txt --journal j",
+        "load a.img queue.txt j 1-33 1 false 0 false",
     ),
     (
         "load --stamp=18446744073709551615 --checkpoint a.img queue.txt --threads=0",
-        "load a.img queue.txt - 0 false 18446744073709551615 true",
+        "load a.img queue.txt - - 0 false 18446744073709551615 true",
     ),
 ];
 

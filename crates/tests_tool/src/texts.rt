@@ -29,7 +29,7 @@ const DUMPED: &str = "super bs=1024 maxlen=33 first=1 sequence=2 start=1 errno=0
 const BAD_OPTION: End = (2, "", "jb: bad option\n");
 
 /// The runs, in their order on one image, with at least one of each command.
-static ROWS: [Row; 24] = [
+static ROWS: [Row; 28] = [
     (
         "cost -",
         b"bs 1024\nlimit 7\nh w1 w2 w3\nh w3 w4 w5\nh w1 w2\n",
@@ -64,6 +64,22 @@ static ROWS: [Row; 24] = [
     ("dump .", b"", (1, "", "jb: ReadFault\n")),
     ("cat run.img 16", b"", (1, "", "jb: NoHome 16\n")),
     ("widen run.img", b"", (1, "", "jb: NeedsRecovery\n")),
+    (
+        "renumber run.img --extents 0-32",
+        b"",
+        (1, "", "jb: Extents Front 1\n"),
+    ),
+    (
+        "widen run.img --extents -",
+        b"0-31",
+        (1, "", "jb: Extents Short 32\n"),
+    ),
+    ("dump run.img --extents x", b"", BAD_OPTION),
+    (
+        "dump run.img --journal run.img",
+        b"",
+        (2, "", "jb: same file run.img\n"),
+    ),
     (
         "recover run.img",
         b"",

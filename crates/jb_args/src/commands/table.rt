@@ -7,7 +7,7 @@ use super::{CommandRow, texts};
 const IMAGE: Word = Word {
     name: "IMAGE",
     kind: Kind::Word,
-    help: "A file or block device with a journal at its front, and the home blocks after it",
+    help: "A journal and the home blocks after it, or an ext2, ext3 or ext4 file system, whose journal is found",
 };
 
 /// The file of a command over one queue text.
@@ -92,7 +92,7 @@ pub(super) static DUMP: CommandRow = CommandRow {
         Word {
             name: "FILE",
             kind: Kind::Word,
-            help: "A file with the whole journal at its front, or - for standard input",
+            help: "A journal, or an ext2, ext3 or ext4 file system, whose journal is found; - for standard input",
         },
         Word {
             name: "home",

@@ -15,16 +15,19 @@ A queue text, the FILE of cost, plan, check and load, has a line for each handle
   limit 7                 the most log blocks of a group
   h w1 w2=c03b3998 r5     a handle that writes home block 1, and 2 with these bytes, and revokes 5
 An image has the journal first, its superblock at the front, and the home blocks after it: home block N
-is the block at s_maxlen + N. It is a regular file or a block device. The FILE of dump is a journal,
-whatever comes after it; it may be a pipe.
-With --extents LIST the image is a file system with its journal in it, in the blocks that LIST says as
-debugfs prints them, and home block N is block N of the image. With --journal FILE the journal is the whole
-of another file, with exactly s_maxlen blocks, and home block N is block N of the image: a file system,
-with its journal copied out. renumber and widen take a journal alone as their image.
+is the block at s_maxlen + N. It is a regular file or a block device. The FILE of dump is an image, or a
+journal, whatever comes after it; a journal may be a pipe.
+Where no journal begins at the front, and the image is a file system of ext2, ext3 or ext4 that is not
+mounted, its own journal is found, and home block N is block N of the image. With --extents LIST the image
+is a file system with its journal in it, in the blocks that LIST says as debugfs prints them, and home block
+N is block N of the image. With --journal FILE the journal is the whole of another file, with exactly
+s_maxlen blocks, and home block N is block N of the image: a file system, with its journal copied out.
+renumber and widen take such a FILE as their image.
 
 Locks: load, recover, renumber and widen lock their files while they use them (flock), and format the one
 that it makes. cat shares its lock with others that only read. A file that another program has locked is
-refused at once, with jb: in use NAME and status 2. dump takes no lock. Nothing keeps out a program that
+refused at once, with jb: in use NAME and status 2. dump locks, as cat, what does not begin with a journal,
+or is given with --journal or --extents, and nothing else. Nothing keeps out a program that
 takes none, as cp. On a file system without locks jb goes on without; any other fault of the lock is one
 of the file.
 
@@ -78,24 +81,29 @@ it, and each revoke block that names it; the last two say the transaction's numb
 of all transactions before the last N are left out, with --super all lines but the first two. Of several
 options each leaves out its lines. The whole journal is read, and refused, whatever is printed.
 
+Where FILE begins with no journal, and is a file system of ext2, ext3 or ext4, its own journal is found. With
+--extents LIST or --journal JOURNAL the journal is where jb recover has it.
+
 With --summary the journal at a glance is printed in place of the lines, whatever the other options say: how
 much of the log is used, the blocks of a transaction, the copies and the homes that are written most, the
 revokes, and when the first and the last transaction were committed.
 
 Status: 0 where they are printed, 1 where the journal is refused, by the name of its fault, or a read
-fails, 2 where the file cannot be opened.
+fails, 2 where a file cannot be opened, or is in use.
 
 Examples:
   jb dump journal.bin
   jb dump journal.bin --home 5 --last 2     # what the last two transactions do to home block 5
-  jb dump journal.bin --summary";
+  jb dump journal.bin --summary
+  jb dump fs.img --super";
 
 /// Of `jb cat`.
 pub(crate) const CAT: &str =
     "The image is opened for reading, and nothing is written to it. Each block is what the last copy of it that
 is not revoked makes of it, or the block as it stands. For each block the log is read once, so many blocks
 of an image with a long log are read faster after jb recover. A copy for another home block that the image
-does not have is not looked at, though recover refuses it.
+does not have is not looked at, though recover refuses it. Of a file system of ext2, ext3 or ext4 its own
+journal is found, as jb recover finds it.
 
 With --hex a block is lines as xxd prints them, with offsets from 0 on over all the blocks, of 32 bits. With
 -n 0 nothing is written, but the image is read, and refused, as for one block.
@@ -129,6 +137,10 @@ log for jb recover.
 With --journal FILE, where IMAGE has the superblock of ext2, ext3 or ext4, the journal is refused as jb
 recover refuses it: so its block size has to be the file system's.
 
+An IMAGE of ext2, ext3 or ext4 has its own journal found, as by jb recover. The flag needs_recovery is to be
+set, as it mostly is after jb recover, or a mount would empty the log unread (jb: FileSystem Clean). A queue
+with a handle on one of the journal's own blocks is refused (jb: Extents Home N). So it is with --extents.
+
 A journal that is put back into its file system with a log is thrown away at the next mount, and e2fsck -p
 stops at it, where the flag needs_recovery is clear: set it by debugfs -w -R 'feature needs_recovery' fs.img
 before, and run e2fsck or mount. OCFS2 has the flag dirty of the journal's inode in its place.
@@ -147,10 +159,15 @@ NAME). Where the system does not say it, as without /proc or /sys, IMAGE is refu
 NAME), unless --force is given. A mount that this process does not see, or of a RAID or a mapped device that
 stands on it, is not found, and jb cannot keep it from being mounted while it writes. So unmount it first.
 
-The journal of an ext3 or ext4 file system that is not mounted is recovered where it stands:
-  debugfs -R 'stat <8>' fs.img      # lists its blocks after EXTENTS: or BLOCKS:
+The own journal of an ext2, ext3 or ext4 file system that is not mounted is found, and recovered where it
+stands:
+  jb recover fs.img
+Its log is empty then, and a later e2fsck has nothing to replay. The line ends in the word backup where the
+journal's inode is damaged, and the superblock's copy of its map says where the journal stands.
+
+With --extents its blocks are given, as debugfs -R 'stat <8>' fs.img lists them after EXTENTS: or BLOCKS::
   jb recover fs.img --extents '(0-1023):8193-9216, (1024-4095):16385-19456'
-Its log is empty then, and a later e2fsck has nothing to replay. White space, commas or both are between the
+Of ext2, ext3 and ext4 they have to be the file system's own. White space, commas or both are between the
 words of the list, and words as (IND):8192 are passed over. A stretch without a place, as 8193-9216, has the
 next blocks of the journal: so those of OCFS2 are given, whose debugfs.ocfs2 -R 'stat //journal:0000' prints
 the first block of each extent, and its clusters. The list has exactly the journal's blocks (s_maxlen).
@@ -183,7 +200,10 @@ Examples:
 
 /// Of `jb renumber`.
 pub(crate) const RENUMBER: &str =
-    "Status: 0 where the journal is renumbered, 1 where it is refused, by the name of its fault, and stays as
+    "Of a file system of ext2, ext3 or ext4 that is not mounted its own journal is found, as jb recover finds it;
+with --extents LIST the journal stands within IMAGE, as there.
+
+Status: 0 where the journal is renumbered, 1 where it is refused, by the name of its fault, and stays as
 it is, 2 where the file cannot be opened or read. After jb: NeedsRecovery it is to be recovered first; after
 jb: DeviceFault, status 1, the command is to be called again.
 
@@ -192,7 +212,10 @@ Example:
 
 /// Of `jb widen`.
 pub(crate) const WIDEN: &str =
-    "Status: 0 where the journal has block numbers of 64 bits now, 1 where it is refused, by the name of its
+    "Of a file system of ext2, ext3 or ext4 that is not mounted its own journal is found, as jb recover finds it;
+with --extents LIST the journal stands within IMAGE, as there.
+
+Status: 0 where the journal has block numbers of 64 bits now, 1 where it is refused, by the name of its
 fault, and stays as it is, 2 where the file cannot be opened or read. After jb: NeedsRecovery it is to be
 recovered first; after jb: DeviceFault, status 1, the command is to be called again.
 

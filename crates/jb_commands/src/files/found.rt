@@ -39,7 +39,10 @@ pub(crate) fn super_within<R: Read + Seek>(
 }
 
 /// The file system of ext2, ext3 or ext4 that a file has, if any.
-fn system_of<R: Read + Seek>(alloc: Global, file: &mut R) -> Result<Option<FileSystem>, FileFault>
+pub(crate) fn system_of<R: Read + Seek>(
+    alloc: Global,
+    file: &mut R,
+) -> Result<Option<FileSystem>, FileFault>
     ensures shut { IfErr result IsNotRead }
     ensures read { IfOk result IsReadOf }
 {

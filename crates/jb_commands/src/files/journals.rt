@@ -1,19 +1,155 @@
-ghost use Rattle.std.specs.Prelude.{◌≡◌, codes, false};
-ghost use Rattle.std.specs.Str.{bytes_eq};
-ghost use Rattle.jb_commands.specs.Dump.{DumpsFile, DumpsNamed, choice_of};
+//! Journals whose text is written.
+ghost use Rattle.std.specs.Prelude.{◌≡◌, IfOk, None, Some, codes, false, true};
+ghost use Rattle.jb_args.specs.PlainCommand.{dump_said};
+ghost use Rattle.jb_ext.specs.declared.system.FileSystem.{FileSystem};
+ghost use Rattle.jb_commands.specs.Dump.{DumpsOn, choice_of, is_placed as is_said, is_unbegun as begins_not};
+ghost use Rattle.jb_commands.specs.Dump.{reads_dump};
+ghost use Rattle.jb_commands.specs.DumpPlace.{DumpsFile, DumpsNamed, DumpsOpen, DumpsPlaced};
+ghost use Rattle.jb_commands.specs.FoundWithin.{IsReadOf};
+ghost use Rattle.jb_commands.specs.ListText.{reads_list};
 
 use crate::fault::CommandFault;
+use crate::files::found::system_of;
+use crate::files::opening::Opening;
+use crate::files::placed::open_placed;
+use crate::files::shut::FileFault;
 use crate::files::texts::unopened;
-use crate::streams::dump_from;
+use crate::streams::{DiskReader, dump_from};
 use jb_args::DumpOptions;
+use jb_block::Memory;
+use jb_disk::{Disk, Start};
 use jb_dump::DumpFilter;
+use jb_super::SuperFault;
+use std::alloc::Global;
 use std::fs::File;
-use std::io::{Read, Write};
+use std::io::{Read, Seek, Write};
 use std::rt::Files;
 
+/// Writes those lines of the text of the journal of the file of this name which the options ask for, and gives status
+/// 0; `-` is standard input. The file may be of any length: it is read for the journal's blocks and no further. A list
+/// of extents may be read from `input`.
+///
+/// # Errors
+/// Those of `dump_placed` where an option says where the journal is, and else those of `dump_file`, or for `-` those of
+/// `dump_from`.
+pub(crate) fn dump_named<
+    'a,
+    S: Start,
+    T: Start,
+    R: Files<File = File> + AllocGlobal,
+    I: Read,
+    O: Write,
+>(
+    rt: &R,
+    name: &'a str,
+    options: DumpOptions<'a>,
+    input: &mut I,
+    out: &mut O,
+) -> Result<u8, CommandFault<'a>>
+    ensures ends { DumpsNamed S.Start T.Start (dump_said options.entry) name.entry.now (I.remaining input.old)
+        (I.remaining input.new) (O.contents out.old) (O.contents out.new) result }
+    ensures unread { reads_dump name.entry.now (dump_said options.entry) ≡ false → input.new ≡ input.old }
+{
+    if is_placed(options) {
+        dump_placed::<S, T, R, I, O>(rt, name, options, input, out)
+    } else if name == "-" {
+        dump_from(rt.alloc(), input, choice_of(options), out)
+    } else {
+        dump_file::<S, T, R, I, O>(rt, name, options, input, out)
+    }
+}
+
+/// Writes those lines of the text of the journal at the front of the file of this name which the options ask for; of a
+/// file system without one there, those of its own journal.
+///
+/// # Errors
+/// `CommandFault::CannotRead` where the file cannot be opened, `CommandFault::Memory` where memory ran out, and
+/// those of `dump_open`.
+fn dump_file<'a, S: Start, T: Start, R: Files<File = File> + AllocGlobal, I: Read, O: Write>(
+    rt: &R,
+    name: &'a str,
+    options: DumpOptions<'a>,
+    input: &mut I,
+    out: &mut O,
+) -> Result<u8, CommandFault<'a>>
+    ensures ends { DumpsFile S.Start T.Start (dump_said options.entry) name.entry.now (I.remaining input.old)
+        (O.contents out.old) (O.contents out.new) result }
+    ensures unread { reads_list (dump_said options.entry).extents ≡ false → input.new ≡ input.old }
+{
+    match File::open(rt, name) {
+        Ok(file) => dump_open::<S, T, R, I, O>(rt, file, name, options, input, out),
+        Err(error) => Err(unopened(name, error)),
+    }
+}
+
+/// The same of a file that is open.
+///
+/// # Errors
+/// Those of `dump_from`; where the file begins with no journal, and is a file system, those of `dump_placed`, and
+/// `CommandFault::Memory` where it is not known for want of memory.
+fn dump_open<'a, S: Start, T: Start, R: Files<File = File> + AllocGlobal, I: Read, O: Write>(
+    rt: &R,
+    file: File,
+    name: &'a str,
+    options: DumpOptions<'a>,
+    input: &mut I,
+    out: &mut O,
+) -> Result<u8, CommandFault<'a>>
+    ensures ends { DumpsOpen S.Start T.Start (dump_said options.entry) name.entry.now (I.remaining input.old)
+        (O.contents out.old) (O.contents out.new) result }
+    ensures unread { reads_list (dump_said options.entry).extents ≡ false → input.new ≡ input.old }
+{
+    let mut file = file;
+    let end = dump_from(rt.alloc(), &mut file, choice_of(options), out);
+    if !is_unbegun(end) {
+        return end;
+    }
+    match is_system(rt.alloc(), &mut file) {
+        Ok(true) => dump_placed::<S, T, R, I, O>(rt, name, options, input, out),
+        Ok(false) => end,
+        Err(_) => Err(CommandFault::Memory),
+    }
+}
+
+/// Writes those lines of the text of the journal of the image of this name which the options ask for. The image is
+/// opened for reading alone.
+///
+/// # Errors
+/// Those of `open_placed`, and those of `dump_from`.
+fn dump_placed<'a, S: Start, T: Start, R: Files<File = File> + AllocGlobal, I: Read, O: Write>(
+    rt: &R,
+    name: &'a str,
+    options: DumpOptions<'a>,
+    input: &mut I,
+    out: &mut O,
+) -> Result<u8, CommandFault<'a>>
+    ensures ends { DumpsPlaced S.Start T.Start (dump_said options.entry) name.entry.now (I.remaining input.old)
+        (O.contents out.old) (O.contents out.new) result }
+    ensures unread { reads_list (dump_said options.entry).extents ≡ false → input.new ≡ input.old }
+{
+    let (journal, extents) = (options.journal, options.extents);
+    match open_placed::<S, T, R, I>(rt, name, journal, extents, Opening::Read, input) {
+        Ok(opened) => dump_disk(rt.alloc(), opened.disk, choice_of(options), out),
+        Err(fault) => Err(fault),
+    }
+}
+
+/// Writes those lines of the text of the journal at the front of a disk which a choice takes.
+fn dump_disk<'a, D: Disk + Drop, O: Write>(
+    alloc: Global,
+    disk: D,
+    choice: DumpFilter,
+    out: &mut O,
+) -> Result<u8, CommandFault<'a>>
+    ensures dumps { DumpsOn choice None None (O.contents out.old) (O.contents out.new) result }
+{
+    let mut journal = DiskReader::of(disk);
+    dump_from(alloc, &mut journal, choice, out)
+}
+
 /// The lines that the options ask for.
-pub(crate) fn choice_of(options: DumpOptions) -> DumpFilter
-    ensures { result ≡ choice_of options }
+fn choice_of(options: DumpOptions<'_>) -> DumpFilter
+    ensures { result ≡ choice_of (dump_said options.entry) }
 {
     DumpFilter {
         home: options.home,
@@ -23,44 +159,31 @@ pub(crate) fn choice_of(options: DumpOptions) -> DumpFilter
     }
 }
 
-/// Writes those lines of the text of the journal in the file of this name which a choice takes, and gives status 0; `-`
-/// is standard input. The file may be of any length: it is read for the journal's blocks and no further.
-///
-/// # Errors
-/// As those of `dump_file`.
-pub(crate) fn dump_named<'a, R: Files + AllocGlobal, I: Read, O: Write>(
-    rt: &R,
-    name: &'a str,
-    choice: DumpFilter,
-    input: &mut I,
-    out: &mut O,
-) -> Result<u8, CommandFault<'a>>
-    ensures ends { DumpsNamed choice name.entry.now (I.remaining input.old) (I.remaining input.new)
-        (O.contents out.old) (O.contents out.new) result }
-    ensures unread { bytes_eq name.entry.now (codes "-") ≡ false → input.new ≡ input.old }
+/// Whether an option says where the journal is.
+fn is_placed(options: DumpOptions<'_>) -> bool
+    ensures { result ≡ is_said (dump_said options.entry) }
 {
-    if name == "-" {
-        dump_from(rt.alloc(), input, choice, out)
-    } else {
-        dump_file(rt, name, choice, out)
+    match (options.journal, options.extents) {
+        (None, None) => false,
+        (None, Some(_)) => true,
+        (Some(_), _) => true,
     }
 }
 
-/// Writes those lines of the text of the journal in the file of this name which a choice takes, and gives status 0.
-///
-/// # Errors
-/// `CommandFault::CannotRead` where the file cannot be opened, `CommandFault::Memory` where memory ran out, and
-/// those of `dump_from`.
-fn dump_file<'a, R: Files + AllocGlobal, O: Write>(
-    rt: &R,
-    file: &'a str,
-    choice: DumpFilter,
-    out: &mut O,
-) -> Result<u8, CommandFault<'a>>
-    ensures ends { DumpsFile choice file.entry.now (O.contents out.old) (O.contents out.new) result }
+/// Whether a dump ended since its file does not begin with a journal.
+fn is_unbegun(end: Result<u8, CommandFault<'_>>) -> bool
+    ensures { result ≡ begins_not end.entry }
 {
-    match File::open(rt, file) {
-        Ok(mut journal) => dump_from(rt.alloc(), &mut journal, choice, out),
-        Err(error) => Err(unopened(file, error)),
+    matches!(end, Err(CommandFault::Super(SuperFault::NoMagic)))
+}
+
+/// Whether a file is a file system of ext2, ext3 or ext4; one that cannot be sought or read there is none.
+fn is_system<R: Read + Seek>(alloc: Global, file: &mut R) -> Result<bool, Memory>
+    ensures { IfOk result (λ is. is ≡ true → (system : FileSystem) × IsReadOf (Some system)) }
+{
+    match system_of(alloc, file) {
+        Ok(system) => Ok(system.is_some()),
+        Err(FileFault::Memory) => Err(Memory),
+        Err(_) => Ok(false),
     }
 }

@@ -153,8 +153,7 @@ fn size_said(bytes: u32) -> BlockSize
 fn open_journal<S: Start, T: Start>(file: File, sb: Super) -> Result<OpenedImage<S, T>, OwnShut>
     requires { SaysSuper sb }
     ensures shut { IfErr result (IsOwnShut S.Start) }
-    ensures opened { IfOk result (λ image. IsImageOpened None image.disk image.homes) }
-    ensures found { IfOk result (λ image. image.found ≡ None) }
+    ensures opened { IfOk result (λ image. IsImageOpened None image.disk image.homes × (image.found ≡ None)) }
 {
     match disk_of(file, sb.block_size()) {
         Ok(disk) => {

@@ -68,8 +68,8 @@ fn open_beside<'a, S: Start, T: Start, R: Files<File = File> + AllocGlobal>(
     opening: Opening,
 ) -> Result<OpenedImage<S, T>, CommandFault<'a>>
     ensures shut { IfErr result (IsShut name.entry.now (Some journal.entry.now)) }
-    ensures opened { IfOk result (λ image. IsImageOpened (Some journal.entry.now) image.disk image.homes) }
-    ensures found { IfOk result (λ image. image.found ≡ None) }
+    ensures opened { IfOk result (λ image. IsImageOpened (Some journal.entry.now) image.disk image.homes
+        × (image.found ≡ None)) }
 {
     match open_counted(rt, name, Some(journal), opening) {
         Ok((disk, homes)) => Ok(OpenedImage {
@@ -95,9 +95,8 @@ fn open_compared<'a, S: Start, T: Start, R: Files<File = File> + AllocGlobal, I:
 ) -> Result<OpenedImage<S, T>, CommandFault<'a>>
     ensures shut { IfErr result
         (IsShutCompared S.Start T.Start name.entry.now (I.remaining input.old) word.entry.now) }
-    ensures opened { IfOk result
-        (λ image. IsOpenedCompared (I.remaining input.old) word.entry.now image.disk image.homes) }
-    ensures found { IfOk result (λ image. image.found ≡ None) }
+    ensures opened { IfOk result (λ image. IsOpenedCompared (I.remaining input.old) word.entry.now image.disk
+        image.homes × (image.found ≡ None)) }
     ensures unread { is_input (list_file word.entry.now) ≡ false → input.new ≡ input.old }
 {
     match open_listed(rt, name, word, opening, input) {

@@ -17,7 +17,8 @@ pub(crate) fn tell_foreseen<O: Write>(
     found: Option<MapSource>,
     out: &mut O,
 ) -> Result<ProgramEnd, WriteFault>
-    ensures { TellsLine (foreseen_text list found told.now) (O.contents out.old) (O.contents out.new) (line_end result) }
+    ensures { TellsLine (foreseen_text list found told.now) (O.contents out.old) (O.contents out.new)
+        (line_end result) }
 {
     let ended = tell_recovered(told.counts, found, out)?;
     if list {
