@@ -10,6 +10,7 @@ FOLDER. Of each, ext_finder.py finds the journal, which has to be as `debugfs bm
            as after e2fsck alone.
            --dry-run changes nothing, a second run nothing more. JB is killed at --kills N of its writes and syncs, and
            run again: the same.
+  loads    `JB load` onto the journals that are recovered so, `JB cat`, both recoveries and `e2fsck -fn` (own_loads.py).
   lists    --lists N changed lists over some of them: JB never ends with status 0 and another image (own_lists.py);
            with --own it takes no other list than the right one.
   changes  with --own, all fields and --changes N random changes of some of them (own_changes.py), one of --beside N
@@ -34,6 +35,7 @@ import dirty_systems
 import in_place
 import own_changes
 import own_lists
+import own_loads
 from ext_finder import RECOVER, listed
 from in_place import changed_but, run
 from own_image import JOURNAL_ONLY, Image, Program, blocks_differing, is_meant, whole
@@ -202,7 +204,7 @@ def main():
     given.add_argument("jb")
     given.add_argument("--cache", default="")
     given.add_argument("--own", action="store_true")
-    given.add_argument("--parts", default="recover,lists,changes")
+    given.add_argument("--parts", default="recover,loads,lists,changes")
     given.add_argument("--names", default="")
     for name, usual in (("lists", 1000), ("changes", 10000), ("kills", 12), ("seed", 0), ("memory", 512 << 10),
                         ("beside", 3)):
@@ -222,6 +224,8 @@ def main():
             print("%d file systems, %.0f seconds" % (len(images), time.time() - begin), flush=True)
             if "recover" in given.parts:
                 wrong += sum(recovered(jb, image, chance, given) for image in images)
+            if "loads" in given.parts:
+                wrong += own_loads.tried(jb, images, chance, given.own)
             if "lists" in given.parts:
                 wrong += own_lists.tried(jb, images, chance, given.lists, given.own)
             if "changes" in given.parts and given.own:

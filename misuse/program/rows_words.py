@@ -4,6 +4,7 @@ import re
 from rows import FULL, HANDLE, RECOVERED, ROWS, THREE, queue, row
 import rows_images  # noqa: F401  (its rows are in the table, too)
 import rows_own  # noqa: F401
+import rows_own_load  # noqa: F401
 
 # ---- words -------------------------------------------------------------------------------------------------------------------
 

@@ -4,6 +4,7 @@ pub mod Hints
 pub mod Load
 pub mod LoadLines
 pub mod Loads
+pub mod OwnTouched
 pub mod Program
 pub mod RefusedHandle
 pub mod RefusedWords

@@ -1,7 +1,8 @@
 -- How `jb load` ends over files.
-use Rattle.std.specs.Prelude.{◌≡◌, ◌⊎◌, ◌≤◌, ℕ, Bool, false, List, Option, None, Result, Ok, Err, Some}
+use Rattle.std.specs.Prelude.{◌≡◌, ◌⊎◌, ◌≤◌, ℕ, Bool, true, false, List, Option, None, Result, Ok, Err, Some}
 use Rattle.jb_args.specs.declared.hint.Hint.{Hint}
 use Rattle.jb_args.specs.declared.option_name.OptionName.TheVariants.{Threads}
+use Rattle.jb_ext.specs.declared.choosing.MapSource.{MapSource}
 use Rattle.jb_commands.specs.QueueFaults.{queue_fault}
 use Rattle.jb_commands.specs.AnswerSaid.{said}
 use Rattle.jb_commands.specs.declared.command_output.CommandOutput.{CommandOutput}
@@ -12,6 +13,7 @@ use Rattle.jb_disk.specs.declared.file.FileDisk.{FileDisk}
 use Rattle.jb_disk.specs.declared.start.Start.{Ghosts as Starts}
 use Rattle.jb_image.specs.Files.{FileImage, as_files}
 use Rattle.jb_image.specs.Images.{is_within}
+use Rattle.jb_image.specs.declared.extents_fault.ExtentsFault.TheVariants.{Home}
 use Rattle.jb_image.specs.declared.image.ImageDisk.{ImageDisk}
 use Rattle.jb_image.specs.declared.judging.JournalUse.{JournalUse}
 use Rattle.jb_image.specs.declared.judging.JournalUse.TheVariants.{LoadCopy, LoadInPlace}
@@ -19,6 +21,7 @@ use Rattle.jb_journal.specs.Start.{started_on}
 use Rattle.jb_text.specs.declared.putting.WriteFault.{WriteFault}
 use Rattle.jb_tool.specs.Loads.{AnswersLoad}
 use Rattle.jb_tool.specs.LoadLines.{TellsLoad}
+use Rattle.jb_tool.specs.OwnTouched.{own_touched}
 use Rattle.jb_tool.specs.declared.loading.fault.LoadFault.{LoadFault}
 use Rattle.jb_tool.specs.declared.loading.fault.LoadFault.TheVariants as loading
 use Rattle.jb_tool.specs.declared.loading.loaded.Loaded.{Loaded}
@@ -26,9 +29,8 @@ use Rattle.jb_tool.specs.declared.loading.options.LoadOptions.{LoadOptions}
 use Rattle.jb_queue.specs.Queue.{Queue, queue_of}
 use Rattle.jb_queue.specs.declared.fault.QueueFault.{QueueFault}
 use Rattle.jb_args.specs.Command.{Loading}
-use Rattle.jb_commands.specs.Files.{IsImageOpened, IsShut}
 use Rattle.jb_commands.specs.Lines.{names_with}
-use Rattle.jb_commands.specs.JournalPlace.{JudgesBeside, is_beside}
+use Rattle.jb_commands.specs.JournalPlace.{IsBadOption, IsOpenedAt, IsShutAt, JudgesBeside, is_beside}
 use Rattle.jb_commands.specs.Runs.{Closes}
 use Rattle.jb_commands.specs.Outputs.{Outputs, Tells}
 use Rattle.jb_commands.specs.Texts.{HasNoText, IsText}
@@ -37,7 +39,7 @@ use Rattle.jb_tool.specs.Hints.{load_hint}
 use Rattle.jb_tool.specs.declared.load_report.LoadReport.{LoadReport}
 use Rattle.jb_tool.specs.declared.load_report.LoadReport.TheVariants.{Loaded as ReportsLoaded, Text as ReportsText}
 use Rattle.jb_commands.specs.declared.fault.CommandFault.{CommandFault}
-use Rattle.jb_commands.specs.declared.fault.CommandFault.TheVariants.{Accounts, BadOption, BlockSize, DeviceFault, Memory, NeedsRecovery, NumbersSpent, Super, WriteFault as CommandWriteFault}
+use Rattle.jb_commands.specs.declared.fault.CommandFault.TheVariants.{Accounts, BlockSize, DeviceFault, Extents, Memory, NeedsRecovery, NumbersSpent, Super, WriteFault as CommandWriteFault}
 
 -- as many threads as a load may have
 abbrev pub HasThreads : Loading → Type 0
@@ -95,9 +97,21 @@ module _ {S T : Type 0} {start : Starts S} {other : Starts T} where
       (fault : LoadFault) × AnswersLoad as_files (started_on as_files disk) disk queue.size queue.handles options (Err fault) × (end ≡ Err (load_fault fault))
   LoadsQueue options homes disk queue (Some new) end = LoadsOn options homes disk queue new end
 
+  -- a queue was loaded, unless this home block that a handle of it touches is the journal's own: then the image is as it was opened
+  abbrev pub LoadsUnless : Option ℕ → LoadOptions → ℕ → ImageDisk (FileDisk S start) (FileDisk T other) → Queue → Option (ImageDisk (FileDisk S start) (FileDisk T other)) → Result LoadReport CommandFault → Type 0
+  LoadsUnless None options homes disk queue image end = LoadsQueue options homes disk queue image end
+  LoadsUnless (Some home) options homes disk queue image end = (image ≡ Some disk) × (end ≡ Err (Extents (Home home)))
+
+  -- the same of the first such home block; or, where the journal stands within the image, there was no memory to read the handles, and the
+  -- image is as it was opened
+  abbrev pub LoadsApart : LoadOptions → ℕ → ImageDisk (FileDisk S start) (FileDisk T other) → Queue → Option (ImageDisk (FileDisk S start) (FileDisk T other)) → Result LoadReport CommandFault → Type 0
+  LoadsApart options homes disk queue image end =
+      LoadsUnless (own_touched disk queue.handles) options homes disk queue image end
+      ⊎ ((is_within disk ≡ true) × (image ≡ Some disk) × (end ≡ Err Memory))
+
   -- the queue of a text was loaded; or the text's first fault is told, and the image is as it was opened
   abbrev pub LoadsRead : LoadOptions → ℕ → ImageDisk (FileDisk S start) (FileDisk T other) → Result Queue QueueFault → Option (ImageDisk (FileDisk S start) (FileDisk T other)) → Result LoadReport CommandFault → Type 0
-  LoadsRead options homes disk (Ok queue) image end = LoadsQueue options homes disk queue image end
+  LoadsRead options homes disk (Ok queue) image end = LoadsApart options homes disk queue image end
   LoadsRead options homes disk (Err fault) image end =
       (image ≡ Some disk) × ((answer : CommandOutput) × (queue_fault fault ≡ Some (said answer)) × (end ≡ Ok (ReportsText answer)))
 
@@ -108,10 +122,10 @@ module _ {S T : Type 0} {start : Starts S} {other : Starts T} where
       ((fault : CommandFault) × (image ≡ Some disk) × (end ≡ Err fault) × HasNoText name None fault)
       ⊎ ((text : List ℕ) × IsText None text × LoadsRead options homes disk (queue_of text) image end)
 
--- the image was not opened: the number of threads is bad, or it is not and the image was not read
-abbrev pub IsLoadUnopened : Loading → CommandFault → Type 0
-IsLoadUnopened load (BadOption option) = (option ≡ Threads) × (HasThreads load → ⊥)
-IsLoadUnopened load fault = HasThreads load × IsShut load.image load.journal fault
+-- the image was not opened: the number of threads is bad, or it is not, and the image was not opened for this
+abbrev pub IsLoadUnopened : {S T : Type 0} → Starts S → Starts T → Loading → Option (List ℕ) → CommandFault → Type 0
+IsLoadUnopened start other load input fault =
+    (IsBadOption Threads fault × (HasThreads load → ⊥)) ⊎ (HasThreads load × IsShutAt start other load.image input load.journal load.extents fault)
 
 -- what the journal is that is to be loaded: in a file of its own it was copied out of the image
 abbrev pub load_use : Option (List ℕ) → JournalUse
@@ -133,16 +147,17 @@ module _ {S T : Type 0} {start : Starts S} {other : Starts T} where
   LoadsOpened load options homes disk image end =
       (mid : ImageDisk (FileDisk S start) (FileDisk T other)) × (judged : Result Unit CommandFault) × JudgesLoad as_files load.journal (is_within disk) disk mid judged × LoadsJudged load options homes judged mid image end
 
-  -- the image was not opened, and nothing was done; or it was, in blocks of the size that its first bytes say, with so many home blocks
-  -- after the journal that they say, and it was judged, and then the text came
-  abbrev pub EndsOfLoad : Loading → Option (ImageDisk (FileDisk S start) (FileDisk T other)) → Result LoadReport CommandFault → Type 0
-  EndsOfLoad load image end =
-      ((fault : CommandFault) × (image ≡ None) × (end ≡ Err fault) × IsLoadUnopened load fault)
-      ⊎ (HasThreads load × ((disk : ImageDisk (FileDisk S start) (FileDisk T other)) × (homes : ℕ) × IsImageOpened load.journal disk homes
+  -- the image was not opened, and nothing was done; or it was, wherever its journal is, in blocks of the size that its first bytes say, with
+  -- so many home blocks, and it was judged, and then the text came
+  abbrev pub EndsOfLoad : Loading → Option (List ℕ) → Option (ImageDisk (FileDisk S start) (FileDisk T other)) → Result LoadReport CommandFault → Type 0
+  EndsOfLoad load input image end =
+      ((fault : CommandFault) × (image ≡ None) × (end ≡ Err fault) × IsLoadUnopened start other load input fault)
+      ⊎ (HasThreads load × ((disk : ImageDisk (FileDisk S start) (FileDisk T other)) × (homes : ℕ) × (found : Option MapSource)
+      × IsOpenedAt input load.journal load.extents disk homes found
       × ((options : LoadOptions) × AreOptionsOf load options × LoadsOpened load options homes disk image end)))
 
 -- the whole run of a load
-abbrev pub RunsLoad : Loading → Outputs → Outputs → ProgramEnd → Type 0
-RunsLoad load old new ended =
-    (image : Option FileImage) × (end : Result LoadReport CommandFault) × EndsOfLoad load image end
+abbrev pub RunsLoad : Loading → Option (List ℕ) → Outputs → Outputs → ProgramEnd → Type 0
+RunsLoad load input old new ended =
+    (image : Option FileImage) × (end : Result LoadReport CommandFault) × EndsOfLoad load input image end
     × ((told : Result ProgramEnd CommandFault) × (mid : Outputs) × TellsLoadEnd end old mid told × Closes (names_with load.image load.journal) told mid new ended)

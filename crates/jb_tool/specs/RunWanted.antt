@@ -1,7 +1,8 @@
 -- What a whole run did, by what the words ask for.
-use Rattle.std.specs.Prelude.{ℕ, Bool, false, List, Option}
+use Rattle.std.specs.Prelude.{ℕ, Bool, List, Option}
 use Rattle.jb_args.specs.Command.{Wanted}
 use Rattle.jb_args.specs.Command.Wanted.{WantsLoad, WantsPlain}
+use Rattle.jb_commands.specs.ListText.{reads_list}
 use Rattle.jb_commands.specs.Runs.{Runs, reads_input}
 use Rattle.jb_commands.specs.Outputs.{Outputs}
 use Rattle.jb_commands.specs.declared.program_end.ProgramEnd.{ProgramEnd}
@@ -10,9 +11,9 @@ use Rattle.jb_tool.specs.Load.{RunsLoad}
 -- whether the command that is wanted reads standard input
 abbrev pub wants_input : Wanted → Bool
 wants_input (WantsPlain asked) = reads_input asked
-wants_input (WantsLoad load) = false
+wants_input (WantsLoad load) = reads_list load.extents
 
 -- the whole run of the command that is wanted
 abbrev pub RunsWanted : Wanted → Option (List ℕ) → Outputs → Outputs → ProgramEnd → Type 0
 RunsWanted (WantsPlain asked) input old new ended = Runs asked input old new ended
-RunsWanted (WantsLoad load) input old new ended = RunsLoad load old new ended
+RunsWanted (WantsLoad load) input old new ended = RunsLoad load input old new ended

@@ -53,7 +53,7 @@ pub fn run<
     }
     match parse(rt.alloc(), words) {
         Ok(CommandLine::Plain(plain)) => run_plain(rt, plain, input, out, err),
-        Ok(CommandLine::Load(load)) => run_load(rt, load, out, err),
+        Ok(CommandLine::Load(load)) => run_load(rt, load, input, out, err),
         Err(error) => tell_refusal(&error, out, err),
     }
 }

@@ -7,6 +7,7 @@ mod hints;
 mod load_command;
 mod load_report;
 mod loading;
+mod own_homes;
 mod program;
 
 pub use command_line::run;

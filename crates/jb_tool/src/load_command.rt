@@ -1,24 +1,26 @@
 //! `jb load`: the handles of a queue text, run by threads and committed to an image.
-ghost use Rattle.std.specs.Prelude.{◌≡◌, ◌≤◌, ◌↔◌, IsSome, IfSome, option_map};
+ghost use Rattle.std.specs.Prelude.{◌≡◌, ◌≤◌, ◌↔◌, IsSome, IfSome, false, option_map};
+ghost use Rattle.jb_commands.specs.ListText.{reads_list};
 ghost use Rattle.jb_queue.specs.QueueLines.{queue_in};
 ghost use Rattle.jb_args.specs.Command.{load_said};
-ghost use Rattle.jb_tool.specs.Load.{EndsOfLoad, HasThreads, AreOptionsOf, LoadsQueue, LoadsText};
+ghost use Rattle.jb_tool.specs.Load.{EndsOfLoad, HasThreads, AreOptionsOf, LoadsApart, LoadsQueue, LoadsText};
 ghost use Rattle.jb_tool.specs.Load.{JudgesLoad, LoadsOpened, RunsLoad, load_fault};
 
 use crate::load_report::{LoadDone, LoadReport};
+use crate::own_homes::own_touched;
 use crate::{LoadFault, LoadOptions, load_on};
 use jb_args::{LoadWords, OptionName};
 use jb_block::Stamp;
 use jb_commands::{
-    CommandFault, Opening, ProgramEnd, TwoFiles, close, fault_answer, judge_on, open_counted,
+    CommandFault, Opening, ProgramEnd, TwoFiles, close, fault_answer, judge_on, open_placed,
     read_file,
 };
 use jb_disk::{Disk, FileDisk, FixedClock, Start, Unknown};
-use jb_image::{ImageDisk, JournalUse};
+use jb_image::{ExtentsFault, ImageDisk, JournalUse};
 use jb_journal::OpenFault;
 use jb_queue::{QueueLines, read_lines};
 use std::fs::File;
-use std::io::Write;
+use std::io::{Read, Write};
 use std::marker::Brand;
 use std::rt::Files;
 use std::sync::Wait;
@@ -31,30 +33,36 @@ const MOST_THREADS: u64 = 64;
 /// Runs `jb load` and gives the program's end; a load that ends without an answer has its line on `err`.
 pub(crate) fn run_load<
     R: Files<File = File> + AllocGlobal + Threads + Wait + Clock + Sync,
+    I: Read,
     O: Write,
     E: Write,
->(rt: &R, load: LoadWords<'_>, out: &mut O, err: &mut E) -> ProgramEnd
-    ensures runs { RunsLoad (load_said load.entry) (record { out = O.contents out.old; err = E.contents err.old })
+>(rt: &R, load: LoadWords<'_>, input: &mut I, out: &mut O, err: &mut E) -> ProgramEnd
+    ensures runs { RunsLoad (load_said load.entry) (I.remaining input.old)
+        (record { out = O.contents out.old; err = E.contents err.old })
         (record { out = O.contents out.new; err = E.contents err.new }) result }
+    ensures unread { reads_list (load_said load.entry).extents ≡ false → input.new ≡ input.old }
 {
-    let done = load_files::<Unknown, Unknown, R>(rt, load);
+    let done = load_files::<Unknown, Unknown, R, I>(rt, load, input);
     let told = done.tell(out, err);
     close(told, TwoFiles::of(load.image, load.journal), err)
 }
 
-/// Loads the queue text of one file into the image that another one is. Where the journal is in a file of its own, the
-/// image may be a file system, which has to be the journal's own.
+/// Loads the queue text of one file into the image that another one is. Where the journal is not at its front, the
+/// image may be a file system, which has to be the journal's own. A list of extents may be read from `input`.
 ///
 /// # Errors
 /// `CommandFault::BadOption` where `--threads` is not from 1 to 64, before any file is looked at; those of
-/// `open_counted`, of `judge_on` and of `read_file`; and those of `load_on`, after which the image is lost.
+/// `open_placed`, of `judge_on` and of `read_file`; `CommandFault::Extents` where a handle touches a home block that is
+/// one of the journal's own: nothing is written then; and those of `load_on`, after which the image is lost.
 pub fn load_files<
     'a,
     S: Start + Send,
     T: Start + Send,
     R: Files<File = File> + AllocGlobal + Threads + Wait + Clock + Sync,
->(rt: &R, load: LoadWords<'a>) -> LoadDone<'a, S, T>
-    ensures ends { EndsOfLoad (load_said load.entry) result.image result.end }
+    I: Read,
+>(rt: &R, load: LoadWords<'a>, input: &mut I) -> LoadDone<'a, S, T>
+    ensures ends { EndsOfLoad (load_said load.entry) (I.remaining input.old) result.image result.end }
+    ensures unread { reads_list (load_said load.entry).extents ≡ false → input.new ≡ input.old }
 {
     let Some(options) = load_options(load) else {
         return LoadDone {
@@ -62,16 +70,20 @@ pub fn load_files<
             end: Err(CommandFault::BadOption(OptionName::Threads)),
         };
     };
-    let (disk, homes) = match open_counted(rt, load.image, load.journal, Opening::Change) {
-        Ok(opened) => opened,
-        Err(fault) => {
-            return LoadDone {
-                image: None,
-                end: Err(fault),
-            };
-        }
-    };
-    load_opened(rt, load, disk, homes, options)
+    match open_placed(
+        rt,
+        load.image,
+        load.journal,
+        load.extents,
+        Opening::Change,
+        input,
+    ) {
+        Ok(opened) => load_opened(rt, load, opened.disk, opened.homes, options),
+        Err(fault) => LoadDone {
+            image: None,
+            end: Err(fault),
+        },
+    }
 }
 
 /// The same of an image that is open, with so many home blocks.
@@ -152,7 +164,7 @@ fn load_text<
         }
     };
     match read_lines(rt.alloc(), text) {
-        Ok(queue) => load_queue(rt, disk, homes, load.stamp, &queue, options),
+        Ok(queue) => load_apart(rt, disk, homes, load.stamp, &queue, options),
         Err(fault) => match fault_answer(rt.alloc(), fault) {
             Ok(answer) => LoadDone {
                 image: Some(disk),
@@ -162,6 +174,34 @@ fn load_text<
                 image: Some(disk),
                 end: Err(CommandFault::Memory),
             },
+        },
+    }
+}
+
+/// Loads a queue, no handle of which touches a home block that is one of the journal's own.
+///
+/// # Errors
+/// `CommandFault::Extents` with the first such home block, and those of `load_queue`.
+fn load_apart<'a, S: Start + Send, T: Start + Send, R: AllocGlobal + Threads + Wait + Clock + Sync>(
+    rt: &R,
+    disk: ImageDisk<FileDisk<S>, FileDisk<T>>,
+    homes: u64,
+    stamp: u64,
+    queue: &QueueLines,
+    options: LoadOptions,
+) -> LoadDone<'a, S, T>
+    requires threads { (1 ≤ options.threads) × (options.threads ≤ 64) }
+    ensures loads { LoadsApart options homes disk (queue_in queue.now) result.image result.end }
+{
+    match own_touched(rt.alloc(), &disk, queue) {
+        Ok(None) => load_queue(rt, disk, homes, stamp, queue, options),
+        Ok(Some(home)) => LoadDone {
+            image: Some(disk),
+            end: Err(CommandFault::Extents(ExtentsFault::Home(home))),
+        },
+        Err(_) => LoadDone {
+            image: Some(disk),
+            end: Err(CommandFault::Memory),
         },
     }
 }

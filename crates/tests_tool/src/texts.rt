@@ -29,7 +29,7 @@ const DUMPED: &str = "super bs=1024 maxlen=33 first=1 sequence=2 start=1 errno=0
 const BAD_OPTION: End = (2, "", "jb: bad option\n");
 
 /// The runs, in their order on one image, with at least one of each command.
-static ROWS: [Row; 28] = [
+static ROWS: [Row; 30] = [
     (
         "cost -",
         b"bs 1024\nlimit 7\nh w1 w2 w3\nh w3 w4 w5\nh w1 w2\n",
@@ -73,6 +73,12 @@ static ROWS: [Row; 28] = [
         "widen run.img --extents -",
         b"0-31",
         (1, "", "jb: Extents Short 32\n"),
+    ),
+    ("load run.img run.txt --extents -", b"x", BAD_OPTION),
+    (
+        "load run.img run.txt --extents 0-32",
+        b"",
+        (1, "", "jb: Extents Front 1\n"),
     ),
     ("dump run.img --extents x", b"", BAD_OPTION),
     (

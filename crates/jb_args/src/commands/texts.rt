@@ -137,6 +137,10 @@ log for jb recover.
 With --journal FILE, where IMAGE has the superblock of ext2, ext3 or ext4, the journal is refused as jb
 recover refuses it: so its block size has to be the file system's.
 
+An IMAGE of ext2, ext3 or ext4 has its own journal found, as by jb recover. The flag needs_recovery is to be
+set, as it mostly is after jb recover, or a mount would empty the log unread (jb: FileSystem Clean). A queue
+with a handle on one of the journal's own blocks is refused (jb: Extents Home N). So it is with --extents.
+
 A journal that is put back into its file system with a log is thrown away at the next mount, and e2fsck -p
 stops at it, where the flag needs_recovery is clear: set it by debugfs -w -R 'feature needs_recovery' fs.img
 before, and run e2fsck or mount. OCFS2 has the flag dirty of the journal's inode in its place.

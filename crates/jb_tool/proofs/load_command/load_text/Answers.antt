@@ -5,7 +5,7 @@ use Rattle.jb_tool.proofs.load_command.load_text.Goals as goal
 
 pub returns-in-Ok-read_lines : goal.returns-in-Ok-read_lines
 returns-in-Ok-read_lines g c = record {
-  loads = inr (c.in-Ok.text.items, c.in-Ok.ensures.text, rw c.in-Ok-read_lines.ensures.ok c.load_queue.ensures.loads);
+  loads = inr (c.in-Ok.text.items, c.in-Ok.ensures.text, rw c.in-Ok-read_lines.ensures.ok c.load_apart.ensures.loads);
 }
 
 pub returns-in-Ok-fault_answer : goal.returns-in-Ok-fault_answer
