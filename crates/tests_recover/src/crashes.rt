@@ -12,20 +12,20 @@ use jb_recover::recover;
 use tests_support::{Bench, check_in, crashed, difference};
 
 /// More calls than a recovery of an image here makes.
-const MOST: u64 = 200;
+pub const MOST: u64 = 200;
 
 /// A small image with these rows, or with none the image that wraps; the rows that its recovery changes; and the
 /// mixtures of its pending sectors: each sector is one of so many versions, and there are so many mixtures, or too
 /// many.
-struct Case {
-    name: &'static str,
-    rows: &'static [Row],
+pub struct Case {
+    pub name: &'static str,
+    pub rows: &'static [Row],
     after: &'static [Row],
     versions: u32,
     mixtures: Option<u32>,
 }
 
-static CASES: [Case; 7] = [
+pub static CASES: [Case; 7] = [
     // An escaped copy of home 5.
     Case {
         name: "escaped",
@@ -166,7 +166,7 @@ static CASES: [Case; 7] = [
 ];
 
 /// The image of a case before its recovery.
-fn before(test: &impl Bench, case: &Case) -> MemoryDisk {
+pub fn before(test: &impl Bench, case: &Case) -> MemoryDisk {
     if case.rows.is_empty() {
         return wraps::before(test);
     }
@@ -174,7 +174,7 @@ fn before(test: &impl Bench, case: &Case) -> MemoryDisk {
 }
 
 /// The same image, recovered.
-fn after(test: &impl Bench, case: &Case) -> MemoryDisk {
+pub fn after(test: &impl Bench, case: &Case) -> MemoryDisk {
     if case.rows.is_empty() {
         return wraps::after(test);
     }

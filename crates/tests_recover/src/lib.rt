@@ -10,6 +10,8 @@ mod cases;
 #[cfg(test)]
 mod checks;
 #[cfg(test)]
+mod copies;
+#[cfg(test)]
 mod crashes;
 #[cfg(test)]
 mod dates;
