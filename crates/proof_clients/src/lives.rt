@@ -92,6 +92,7 @@ fn live(alloc: Global, disk: MemoryDisk, life: Life) -> Result<(MemoryDisk, bool
 {
     jb_deck::laws::holds_on();
     jb_recover::laws::recovered();
+    jb_disk::laws::runs_as_calls::<FuseDisk<MemoryDisk>>(); // a failure comes after so many blocks
     let Life {
         handles,
         stamp,
