@@ -3,8 +3,9 @@
 
 use crate::blocks::{DATA, UUID};
 use crate::checks::By;
+use crate::summed_tags::{TagsOf, check_most_tags, check_summed_tag};
 use crate::superblocks::block_of_words;
-use jb_block::put32;
+use jb_block::{Layout, Sums, Width, put32};
 use jb_crc::crc32c;
 use jb_sums::{Seed, is_super_right, put_super_sum};
 use tests_support::{Test, block_of, check, check_at, check_row};
@@ -32,11 +33,12 @@ static SUMS: [Sum; 5] = [
     ),
 ];
 
-/// The blocks of a journal with one transaction, of number 2: it frees home 7, and copies escaped data to home 5. And
-/// its superblock, with the transaction and after its recovery.
+/// The blocks of a journal with one transaction, of number 2: it frees home 7, and copies escaped data to home 5; what
+/// its tags are; and its superblock, with the transaction and after its recovery.
 struct Form {
     name: &'static str,
     tails: [&'static str; 2],
+    tags: TagsOf,
     supers: [&'static str; 2],
 }
 
@@ -47,6 +49,14 @@ static FORMS: [Form; 4] = [
             "0:c03b3998 5 2 14 7 3fc:863e8dbd",
             "0:c03b3998 1 2 5 9 0 408b7374 10203 4050607 8090a0b c0d0e0f 3fc:4b753ea6",
         ],
+        tags: TagsOf {
+            layout: Layout {
+                width: Width::Narrow,
+                sums: Sums::Whole,
+            },
+            sum: 0x408B_7374,
+            most: 63,
+        },
         supers: [
             "0:c03b3998 4 0 400 21 1 2 1 28:11 30:10203 4050607 8090a0b c0d0e0f 1 50:4000000 fc:2557addb",
             "0:c03b3998 4 0 400 21 1 3 0 28:11 30:10203 4050607 8090a0b c0d0e0f 1 50:4000000 fc:80527ebc",
@@ -58,6 +68,14 @@ static FORMS: [Form; 4] = [
             "0:c03b3998 5 2 18 0 7 3fc:c4410aef",
             "0:c03b3998 1 2 5 9 0 408b7374 10203 4050607 8090a0b c0d0e0f 3fc:4b753ea6",
         ],
+        tags: TagsOf {
+            layout: Layout {
+                width: Width::Wide,
+                sums: Sums::Whole,
+            },
+            sum: 0x408B_7374,
+            most: 63,
+        },
         supers: [
             "0:c03b3998 4 0 400 21 1 2 1 28:13 30:10203 4050607 8090a0b c0d0e0f 1 50:4000000 fc:1cf2358e",
             "0:c03b3998 4 0 400 21 1 3 0 28:13 30:10203 4050607 8090a0b c0d0e0f 1 50:4000000 fc:b9f7e6e9",
@@ -69,6 +87,14 @@ static FORMS: [Form; 4] = [
             "0:c03b3998 5 2 14 7 3fc:863e8dbd",
             "0:c03b3998 1 2 5 73740009 1 2030405 6070809 a0b0c0d e0f0000 3fc:c5c9ed73",
         ],
+        tags: TagsOf {
+            layout: Layout {
+                width: Width::Narrow,
+                sums: Sums::Short,
+            },
+            sum: 0x7374,
+            most: 100,
+        },
         supers: [
             "0:c03b3998 4 0 400 21 1 2 1 28:9 30:10203 4050607 8090a0b c0d0e0f 1 50:4000000 fc:0b0178d6",
             "0:c03b3998 4 0 400 21 1 3 0 28:9 30:10203 4050607 8090a0b c0d0e0f 1 50:4000000 fc:ae04abb1",
@@ -80,6 +106,14 @@ static FORMS: [Form; 4] = [
             "0:c03b3998 5 2 18 0 7 3fc:c4410aef",
             "0:c03b3998 1 2 5 73740009 0 1 2030405 6070809 a0b0c0d e0f0000 3fc:2fb7103d",
         ],
+        tags: TagsOf {
+            layout: Layout {
+                width: Width::Wide,
+                sums: Sums::Short,
+            },
+            sum: 0x7374,
+            most: 72,
+        },
         supers: [
             "0:c03b3998 4 0 400 21 1 2 1 28:b 30:10203 4050607 8090a0b c0d0e0f 1 50:4000000 fc:32a4e083",
             "0:c03b3998 4 0 400 21 1 3 0 28:b 30:10203 4050607 8090a0b c0d0e0f 1 50:4000000 fc:97a133e4",
@@ -131,7 +165,9 @@ fn check_each_form(test: &impl Test, seed: Seed) {
         check_summed_tail(test, seed, form.name, form.tails[0]);
         check_summed_tail(test, seed, form.name, form.tails[1]);
         check_summed_super(test, form.name, form.supers[0]);
-        check_summed_super(test, form.name, form.supers[1])
+        check_summed_super(test, form.name, form.supers[1]);
+        check_summed_tag(test, &form.tags, form.name, form.tails[1]);
+        check_most_tags(test, &form.tags, form.name)
     }
 }
 
