@@ -33,7 +33,7 @@ class Load:
 
     def expect(self, what, is_so):
         if not is_so:
-            self.faults.append(what)
+            self.faults.append(ascii(what[:200]))
 
     def ran(self, command, *words):
         return self.jb.run(command, "load.img", *words, *self.places)

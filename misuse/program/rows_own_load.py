@@ -24,7 +24,7 @@ AGAIN = '"$1" recover a > /dev/null || exit 9'
 row("load a q --hold", 0, "handles 1 changes 1 settled 1 groups 1 blocks 3\n", files=SIX, how=AGAIN, after=ext(image(superblock(4, 1), GROUP, written=WRITTEN)))
 row("cat a 6", 0, data(b"six").decode(), files=SIX, how=AGAIN + '; "$1" load a q --hold > /dev/null || exit 8', after=ext(image(superblock(4, 1), GROUP, written=WRITTEN)))
 row("recover a", 0, "transactions 1 copies 1 revoked 0 next 6\n", files=SIX, how=AGAIN + '; "$1" load a q --hold > /dev/null || exit 8',
-    after=ext(image(superblock(6), GROUP, written={**WRITTEN, 6: data(b"six")})))
+    after=ext(image(superblock(5), GROUP, written={**WRITTEN, 6: data(b"six")})))
 # a handle that touches a home block which is the journal's own: the first such handle, and the lowest of its home blocks
 for handles, home in (("w20", 20), ("r52", 52), ("w5 w9/w6 w52 w33/w20", 33), ("w5/w6/w7/w8/w9/w10/w11 r20", 20), ("w53 w19 w1199/w20", 20), ("w1200/w20", 20)):
     for words, files in ("", ext(image(SMALL))), (" --extents 20-52", ext(image(SMALL))), (" --extents 20-52", within(image(SMALL), [(20, 33)])):

@@ -5,7 +5,10 @@ pub returns-in-Ok-clause-ends : goal.returns-in-Ok-clause-ends
 returns-in-Ok-clause-ends g c = inr (
   c.in-Some.ensures.good.0 refl,
   (
-    c.in-Ok.opened.disk, c.in-Ok.opened.homes, c.in-Ok.opened.found, c.in-Ok.ensures.opened,
+    c.in-Ok.opened.disk,
+    c.in-Ok.opened.homes,
+    c.in-Ok.opened.found,
+    c.in-Ok.ensures.opened,
     (c.in-Some.options, c.in-Some.ensures.asked, c.load_opened.ensures.loads),
   ),
 )
