@@ -1,6 +1,5 @@
 use Rattle.std.proofs.Common.{◌≡◌, ◌≤◌, ◌+◌, length, length-append, ap, sym, subst, ◌∙◌, arith}
 use Rattle.jb_book.specs.CallsToBook.{Registered}
-use Rattle.jb_book.proofs.RegisterCalls.{both-same}
 use Rattle.jb_book.proofs.register.Register.look.Goals as goal
 
 pub returns-clause-seen : goal.returns-clause-seen
