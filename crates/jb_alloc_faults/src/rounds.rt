@@ -11,7 +11,7 @@ use crate::met::{Met, ample, refusing, tried};
 use crate::stopping::{stop, written};
 use jb_block::Memory;
 use jb_deck::{Checked, CheckpointFault};
-use jb_desk::{Committer, Ended, Left, Origin, Round, RoundFault, Seat};
+use jb_desk::{Committer, Ended, Left, Origin, Retired, Round, RoundFault, Seat};
 use jb_disk::Disk;
 use std::fs::File;
 use std::rt::Files;
@@ -47,8 +47,11 @@ fn retired<R: Wait, D: Disk, H: Origin, N: Ledger>(
     ensures { result.0 ≡ seat_of committer }
 {
     match desk.retire(rt, committer) {
-        Ok(seat) => (seat, true),
-        Err(committer) => (desk.give_up(rt, committer), false),
+        Ok(Retired { seat, lost: _ }) => (seat, true),
+        Err(committer) => {
+            let Retired { seat, lost: _ } = desk.give_up(rt, committer);
+            (seat, false)
+        }
     }
 }
 
@@ -82,10 +85,10 @@ fn round<R: Wait, D: Disk, H: Origin, N: Ledger>(
     requires desk { desk_of (seat_of committer.old) ≡ desk_id desk.now }
     ensures { desk_of (seat_of committer.new) ≡ desk_of (seat_of committer.old) }
 {
-    match desk.commit_round(rt, committer) {
+    match desk.commit_round(rt, committer, &mut desk.sights(rt)) {
         Ok(Round::Committed(done)) if done.entries().len() == 1 => Some(Met::Ample),
         Err(RoundFault::Memory) => Some(Met::Memory),
-        Err(RoundFault::DeviceFault) => Some(Met::Fault),
+        Err(RoundFault::DeviceFault(_)) => Some(Met::Fault),
         _ => None,
     }
 }

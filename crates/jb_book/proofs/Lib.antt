@@ -4,6 +4,7 @@ pub mod BookMarks
 pub mod CallTies
 pub mod CallsLead
 pub mod CommitEntries
+pub mod HomesAtEnd
 pub mod LeastCut
 pub mod MachineLimits
 pub mod MarksLast

@@ -1,4 +1,5 @@
 pub mod Account
+pub mod AtHome
 pub mod Book
 pub mod Calls
 pub mod CallsToBook

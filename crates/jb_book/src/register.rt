@@ -207,6 +207,14 @@ impl<D: Disk, S: Origin> Register<D, S> {
         }
     }
 
+    /// Looks at the history, which has all that was seen of it: each ticket that was seen is below the next one.
+    pub fn look(&mut self, history: &History<Words, S>, sight: &mut Prefix<Words, S>)
+        ensures seen { length sight.old ≤ self.old.book.shadow.next }
+        ensures kept { (self.new ≡ self.old) × (sight.new ≡ sight.old) }
+    {
+        look(history, &mut self.appender, sight);
+    }
+
     /// The book.
     pub fn book(&self) -> &Book<S>
         ensures value { result.now ≡ self.now.book }

@@ -10,7 +10,7 @@ use Rattle.jb_book.specs.Origin.{Begun}
 use Rattle.jb_book.specs.Rounds.{end_of}
 use Rattle.jb_desk.specs.Rounds.{AnswersRound, GivesBatch, IdleKeeps}
 use Rattle.jb_desk.specs.Seats.{KeepsSeat, changes, desk_of, made_by, seat_number, stops}
-use Rattle.jb_desk.specs.Views.{IsOneHeld, SeesCommit, SeesRound, TakesUp, with_taken}
+use Rattle.jb_desk.specs.Views.{IsNextBatch, SeesCommit, SeesRound, TakesUp, with_taken}
 use Rattle.jb_board.specs.declared.place.Place.{Ghosts as Places}
 use Rattle.jb_book.specs.declared.origin.Origin.{Ghosts}
 use Rattle.jb_desk.specs.declared.seat.Seat.{Seat}
@@ -22,18 +22,21 @@ use Rattle.jb_desk.specs.declared.committer.RoundFault.TheVariants as round
 -- ---- the counts
 
 -- after a batch was taken, its commit is the round's
-pub sees-taken : (held after : Option Gathered) (b : Gathered) (v u w : Front) (r : Result Round RoundFault) → TakesUp held b → u ≡ with_taken (end_of b) v → AnswersRound (Some b) after w.settled r → SeesCommit b u w r → SeesRound held after v w r
-sees-taken held after b v u w r up taken answers is = inr (b, up, answers, subst (λ x. SeesCommit b x w r) taken is)
+pub sees-taken : (seen : ℕ) (held after : Option Gathered) (b : Gathered) (v u w : Front) (r : Result Round RoundFault) → TakesUp seen held b → u ≡ with_taken (end_of b) v → AnswersRound (Some b) after w.settled r → SeesCommit b u w r → SeesRound seen held after v w r
+sees-taken seen held after b v u w r up taken answers is = inr (b, up, answers, subst (λ x. SeesCommit b x w r) taken is)
 
--- the batch that a book gives is the one that was held, where there was one
-gives-held : (held given : Option Gathered) (out : Gathered) (old new : Account) → given ≡ Some out → GivesBatch (Ok given) held old new → IsOneHeld held out
-gives-held None given out old new is gives = tt
-gives-held (Some h) given out old new is gives = let same : ◌≡◌ {A = Option Gathered} (Some out) (Some h) = sym is ∙ gives.1 in let eq : out ≡ h = cc in eq
+-- the batch that a book gives is the one that was held, or else has all that was seen
+gives-next : (seen : ℕ) (held given : Option Gathered) (out : Gathered) (old new : Account) → given ≡ Some out → GivesBatch (Ok given) held old new → seen ≤ new.shadow.next → IsNextBatch seen held out
+gives-next seen None None out old new is gives all = let never : ⊥ = cc in absurd never
+gives-next seen None (Some b) out old new is gives all =
+    let same : b ≡ out = cc in
+    subst (λ (x : Gathered). seen ≤ end_of x) same (subst (λ n. seen ≤ n) (sym gives.1.2) all)
+gives-next seen (Some h) given out old new is gives all = let same : ◌≡◌ {A = Option Gathered} (Some out) (Some h) = sym is ∙ gives.1 in let eq : out ≡ h = cc in eq
 
 -- so it is the one that is taken up, as it has a handle
-pub takes-up : (held taken given : Option Gathered) (out b : Gathered) (old new : Account) → taken ≡ held → given ≡ Some out → b ≡ out → 0 < length b.handles → GivesBatch (Ok given) taken old new → TakesUp held b
-takes-up held taken given out b old new was is same some gives = record {
-  same = subst (λ h. IsOneHeld h b) was (subst (IsOneHeld taken) (sym same) (gives-held taken given out old new is gives));
+pub takes-up : (seen : ℕ) (held taken given : Option Gathered) (out b : Gathered) (old new : Account) → taken ≡ held → given ≡ Some out → b ≡ out → 0 < length b.handles → GivesBatch (Ok given) taken old new → seen ≤ new.shadow.next → TakesUp seen held b
+takes-up seen held taken given out b old new was is same some gives all = record {
+  next = subst (λ h. IsNextBatch seen h b) was (subst (IsNextBatch seen taken) (sym same) (gives-next seen taken given out old new is gives all));
   some = some;
 }
 
@@ -43,44 +46,44 @@ gives-none old new None given is gives = refl
 gives-none old new (Some h) given is gives = let same : ◌≡◌ {A = Option Gathered} None (Some h) = sym is ∙ gives.1 in absurd (let never : ⊥ = cc in never)
 
 -- such a batch is held on
-pub answers-held : (held after : Option Gathered) (b : Gathered) (n : ℕ) → TakesUp held b → after ≡ Some b → AnswersRound held after n (Err round.Memory)
-answers-held None after b n up again = ap is_some again
-answers-held (Some h) after b n up again = again ∙ ap (λ x. Some x) up.same
+pub answers-held : (seen : ℕ) (held after : Option Gathered) (b : Gathered) (n : ℕ) → TakesUp seen held b → after ≡ Some b → AnswersRound held after n (Err round.Memory)
+answers-held seen None after b n up again = ap is_some again
+answers-held seen (Some h) after b n up again = again ∙ ap (λ x. Some x) up.next
 
 -- what is answered of the batch that is taken up is the round's answer
-pub answers-up : (held after : Option Gathered) (b : Gathered) (n : ℕ) (r : Result Round RoundFault) → TakesUp held b → AnswersRound (Some b) after n r → AnswersRound held after n r
-answers-up (Some h) after b n r up is = subst (λ (x : Gathered). AnswersRound (Some x) after n r) up.same is
-answers-up None after b n (Ok (Idle seen)) up is = (refl, is.1)
-answers-up None after b n (Ok (Committed done)) up is = (is.0, (is.1.0, is.1.1, is.1.2, is.1.3, tt))
-answers-up None after b n (Err round.Aborted) up is = is
-answers-up None after b n (Err round.DeviceFault) up is = is
-answers-up None after b n (Err round.Memory) up is = ap is_some is
-answers-up None after b n (Err round.Refused) up is = ap is_some is
+pub answers-up : (seen : ℕ) (held after : Option Gathered) (b : Gathered) (n : ℕ) (r : Result Round RoundFault) → TakesUp seen held b → AnswersRound (Some b) after n r → AnswersRound held after n r
+answers-up seen (Some h) after b n r up is = subst (λ (x : Gathered). AnswersRound (Some x) after n r) up.next is
+answers-up seen None after b n (Ok (Idle none)) up is = (refl, is.1)
+answers-up seen None after b n (Ok (Committed done)) up is = (is.0, (is.1.0, is.1.1, is.1.2, is.1.3, tt))
+answers-up seen None after b n (Err (round.Aborted failed)) up is = is
+answers-up seen None after b n (Err (round.DeviceFault failed)) up is = is
+answers-up seen None after b n (Err round.Memory) up is = ap is_some is
+answers-up seen None after b n (Err round.Refused) up is = ap is_some is
 
 -- what is done with the batch that is taken up is done in the round
-up-again : (held : Option Gathered) (b x : Gathered) → TakesUp held b → TakesUp (Some b) x → TakesUp held x
-up-again held b x up again = record { same = subst (IsOneHeld held) (sym again.same) up.same; some = again.some }
+up-again : (seen any : ℕ) (held : Option Gathered) (b x : Gathered) → TakesUp seen held b → TakesUp any (Some b) x → TakesUp seen held x
+up-again seen any held b x up again = record { next = subst (IsNextBatch seen held) (sym again.next) up.next; some = again.some }
 
-pub round-up : {D : Type 0} (G : Disks D) (begun : Begun) (held after : Option Gathered) (b : Gathered) (reached : ℕ) (r : Result Round RoundFault)
-    → TakesUp held b → CommitsRound G begun (Some b) after reached r → CommitsRound G begun held after reached r
-round-up G begun held after b reached (Ok (Idle seen)) up is = tt
-round-up G begun held after b reached (Ok (Committed done)) up is = (is.0, up-again held b is.0.batch up is.1, is.2)
-round-up G begun held after b reached (Err round.Aborted) up is = tt
-round-up G begun held after b reached (Err round.DeviceFault) up is = (is.0, is.1, up-again held b is.0.batch up is.2, is.3, is.4)
-round-up G begun held after b reached (Err round.Memory) up is = tt
-round-up G begun held after b reached (Err round.Refused) up is = (is.0, is.1, up-again held b is.0.batch up is.2, is.3, is.4)
+pub round-up : {D : Type 0} (G : Disks D) (begun : Begun) (seen any : ℕ) (held after : Option Gathered) (b : Gathered) (reached : ℕ) (r : Result Round RoundFault)
+    → TakesUp seen held b → CommitsRound G begun any (Some b) after reached r → CommitsRound G begun seen held after reached r
+round-up G begun seen any held after b reached (Ok (Idle none)) up is = tt
+round-up G begun seen any held after b reached (Ok (Committed done)) up is = (is.0, up-again seen any held b is.0.batch up is.1, is.2)
+round-up G begun seen any held after b reached (Err (round.Aborted failed)) up is = tt
+round-up G begun seen any held after b reached (Err (round.DeviceFault failed)) up is = (is.0, is.1, up-again seen any held b is.0.batch up is.2, is.3, is.4)
+round-up G begun seen any held after b reached (Err round.Memory) up is = tt
+round-up G begun seen any held after b reached (Err round.Refused) up is = (is.0, is.1, up-again seen any held b is.0.batch up is.2, is.3, is.4)
 
 -- a batch that a round has committed was cut
-pub round-cut : {D : Type 0} (G : Disks D) (begun : Begun) (held after : Option Gathered) (reached : ℕ) (r : Result Round RoundFault) → CommitsRound G begun held after reached r → CutsRound G begun held r
-round-cut G begun held after reached (Ok (Idle seen)) is = tt
-round-cut G begun held after reached (Ok (Committed done)) is = (is.0, is.1, is.2.cut)
-round-cut G begun held after reached (Err fault) is = tt
+pub round-cut : {D : Type 0} (G : Disks D) (begun : Begun) (seen : ℕ) (held after : Option Gathered) (reached : ℕ) (r : Result Round RoundFault) → CommitsRound G begun seen held after reached r → CutsRound G begun seen held r
+round-cut G begun seen held after reached (Ok (Idle none)) is = tt
+round-cut G begun seen held after reached (Ok (Committed done)) is = (is.0, is.1, is.2.cut)
+round-cut G begun seen held after reached (Err fault) is = tt
 
 -- a batch that was taken up is committed, so the round is not idle
-pub never-idle : {H N : Type 0} {O : Ghosts H} {P : Places H} (b : Gathered) (u w : Front) (old new : Seat H N O P) (r : Result Round RoundFault) → SeesCommit b u w r → IdleKeeps old new r
-never-idle b u w old new (Ok (Idle seen)) is = absurd is
-never-idle b u w old new (Ok (Committed done)) is = tt
-never-idle b u w old new (Err fault) is = tt
+pub never-idle : {H N : Type 0} {O : Ghosts H} {P : Places H} (seen : ℕ) (b : Gathered) (u w : Front) (old new : Seat H N O P) (r : Result Round RoundFault) → SeesCommit b u w r → IdleKeeps seen old new r
+never-idle seen b u w old new (Ok (Idle none)) is = absurd is
+never-idle seen b u w old new (Ok (Committed done)) is = tt
+never-idle seen b u w old new (Err fault) is = tt
 
 -- ---- a raise
 

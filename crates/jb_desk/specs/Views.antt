@@ -37,8 +37,8 @@ RefusesWait ticket old new wait.Unknown = new ≡ old
 abbrev pub SeesCommit : Gathered → Front → Front → Result Round RoundFault → Type 0
 SeesCommit b old new (Ok (Idle seen)) = ⊥
 SeesCommit b old new (Ok (Committed done)) = new ≡ raised_settled old (end_of b)
-SeesCommit b old new (Err Aborted) = new ≡ old
-SeesCommit b old new (Err DeviceFault) = (lost : ℕ) × (b.first ≤ lost) × (lost < end_of b) × (new ≡ raised_settled old lost)
+SeesCommit b old new (Err (Aborted failed)) = new ≡ old
+SeesCommit b old new (Err (DeviceFault failed)) = (lost : ℕ) × (b.first ≤ lost) × (lost < end_of b) × (new ≡ raised_settled old lost)
 SeesCommit b old new (Err Memory) = new ≡ old
 SeesCommit b old new (Err Refused) = new ≡ old
 
@@ -46,24 +46,24 @@ SeesCommit b old new (Err Refused) = new ≡ old
 abbrev pub TakesNone : Result Round RoundFault → Type 0
 TakesNone (Ok (Idle seen)) = Unit {0}
 TakesNone (Ok (Committed done)) = ⊥
-TakesNone (Err Aborted) = Unit {0}
-TakesNone (Err DeviceFault) = ⊥
+TakesNone (Err (Aborted failed)) = Unit {0}
+TakesNone (Err (DeviceFault failed)) = ⊥
 TakesNone (Err Memory) = ⊥
 TakesNone (Err Refused) = ⊥
 
--- a batch that is held is this one
-abbrev pub IsOneHeld : Option Gathered → Gathered → Type 0
-IsOneHeld None b = Unit {0}
-IsOneHeld (Some held) b = b ≡ held
+-- a batch that is held is this one; where none is, this one has all handles that were seen and not taken before
+abbrev pub IsNextBatch : ℕ → Option Gathered → Gathered → Type 0
+IsNextBatch seen None b = seen ≤ end_of b
+IsNextBatch seen (Some held) b = b ≡ held
 
--- the batch that a round takes up: the one that is held, where one is; it has a handle at least
-pub record TakesUp (held : Option Gathered) (b : Gathered) : Type 0 where
-  pub same : IsOneHeld held b
+-- the batch that a round takes up, where so many handles were seen before: it has a handle at least
+pub record TakesUp (seen : ℕ) (held : Option Gathered) (b : Gathered) : Type 0 where
+  pub next : IsNextBatch seen held b
   pub some : 0 < length b.handles
 
--- What a round makes of them, where the committer held such a batch before and after it: nothing where it takes up no batch;
+-- What a round makes of them, where so many handles were seen and the committer held such a batch before and after it: nothing where it takes up no batch;
 -- otherwise its batch is taken, and then committed
-abbrev pub SeesRound : Option Gathered → Option Gathered → Front → Front → Result Round RoundFault → Type 0
-SeesRound held after old new result =
+abbrev pub SeesRound : ℕ → Option Gathered → Option Gathered → Front → Front → Result Round RoundFault → Type 0
+SeesRound seen held after old new result =
     (TakesNone result × (new ≡ old))
-    ⊎ ((b : Gathered) × TakesUp held b × AnswersRound (Some b) after new.settled result × SeesCommit b (with_taken (end_of b) old) new result)
+    ⊎ ((b : Gathered) × TakesUp seen held b × AnswersRound (Some b) after new.settled result × SeesCommit b (with_taken (end_of b) old) new result)

@@ -2,7 +2,7 @@
 ghost use Rattle.std.specs.Prelude.{◌≡◌, None, Some, Ok, Err, OnOk, IfErr};
 
 use crate::held_batch::HeldBatch;
-use crate::queue_state::{BookCounts, NothingToTake};
+use crate::queue_state::{HasAborted, NothingToTake, Out};
 use crate::seat::Seat;
 use jb_board::Tickets;
 use jb_book::{Origin, Sights};
@@ -11,6 +11,15 @@ use jb_disk::Disk;
 use std::mem;
 use std::sync::ledger::Ledger;
 use thiserror::Error;
+
+/// What is left of a committer that has ended.
+#[must_use]
+pub struct Retired<H: Origin, N: Ledger> {
+    /// Its seat.
+    pub seat: Seat<H, N>,
+    /// That the journal has failed, where the committer held a batch: this is lost.
+    pub lost: Option<HasAborted>,
+}
 
 /// A seat that commits, with the batch that it has taken and could not commit yet. It must be used
 /// up: it retires or gives up, and cannot be dropped by accident.
@@ -31,10 +40,7 @@ impl<H: Origin, N: Ledger> Committer<H, N> {
     {
         match mem::replace(&mut self.batch, Some(batch)) {
             None => {}
-            Some(other) => {
-                other.lose();
-                unreachable!()
-            }
+            Some(_) => unreachable!(),
         }
     }
 
@@ -44,13 +50,13 @@ impl<H: Origin, N: Ledger> Committer<H, N> {
         prepared: Prepared,
         tickets: Tickets<H>,
         seen: Sights<D, H>,
-        taken: BookCounts,
+        out: Out,
     )
         requires free { self.old.batch ≡ None }
-        requires out { IsOut H.begun prepared.batch (given_by tickets) seen.stops taken.taken }
+        requires out { IsOut H.begun prepared.batch (given_by tickets) seen.stops out }
         ensures { (self.new.seat ≡ self.old.seat) × (self.new.batch ≡ Some prepared.batch) }
     {
-        self.hold(HeldBatch::of(prepared.back(), tickets, seen.stops, taken));
+        self.hold(HeldBatch::of(prepared.back(), tickets, seen.stops, out));
     }
 }
 
@@ -81,13 +87,14 @@ impl Round {
 pub enum RoundFault {
     /// The journal has failed before. The batch is lost.
     #[error("the journal has failed; start the program anew and recover it")]
-    Aborted,
+    Aborted(HasAborted),
     /// There was no memory. The committer holds the batch for its next round.
     #[error("out of memory; the next round commits the batch")]
     Memory,
-    /// A call of the disk failed. The groups that were committed are settled, and the rest of the batch is lost.
+    /// A call of the disk failed, and the journal with it. The groups that were committed are settled, and the rest of
+    /// the batch is lost.
     #[error("the disk failed; start the program anew and recover the journal")]
-    DeviceFault,
+    DeviceFault(HasAborted),
     /// The journal does not take the batch: it has no numbers left for its groups, for example. The committer holds it.
     #[error("the journal does not take the batch")]
     Refused,

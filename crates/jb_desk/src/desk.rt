@@ -1,4 +1,4 @@
-ghost use Rattle.std.specs.Prelude.{◌≡◌, ◌+◌, ◌<◌, ◌^◌, [], false, IfOk, IfErr, OnOk};
+ghost use Rattle.std.specs.Prelude.{◌≡◌, ◌+◌, ◌<◌, ◌^◌, [], false, IfOk, IfErr, OnOk, IsTrue, ◌↔◌, length};
 ghost use Rattle.std.specs.FinMap as map;
 ghost use Rattle.jb_handle.specs.Handle.{holder, changes_of};
 ghost use Rattle.jb_handle.specs.HeldChanges.{held};
@@ -232,6 +232,15 @@ impl<D: Disk, C: Clock, H: Origin, N: Ledger> Desk<D, C, H, N> {
         ensures kept { SeesSame other.old other.new }
     {
         self.histories.learn(seen, other);
+    }
+
+    /// Sees all handles that have stopped, so that a later [`stop`](Desk::stop) gives a higher ticket, and says whether
+    /// one of them has this ticket. It waits for no commit.
+    pub fn see<R: Wait>(&self, rt: &R, seen: &mut Sights<D, H>, ticket: u64) -> bool
+        ensures given { IsTrue result ↔ ticket < length seen.new.stops }
+        ensures sees { SeesMore seen.old seen.new }
+    {
+        self.counter.lock(rt).see(&self.histories, seen, ticket)
     }
 
     /// Waits until the handle with this ticket is committed, and gives the number of its transaction

@@ -1,7 +1,7 @@
 //! A batch that a committer holds.
 ghost use Rattle.std.specs.Prelude.{◌≡◌};
 
-use crate::queue_state::BookCounts;
+use crate::queue_state::{HasAborted, Out};
 use jb_board::{Prefix, Tickets};
 use jb_book::Origin;
 use jb_deck::Batch;
@@ -9,14 +9,14 @@ use jb_handle::Words;
 use std::marker::Model;
 
 /// A batch of one handle at least, which has a cut within the journal's limit, and whose handles stopped with words
-/// that a handle may stop with (`S.begun`); that its tickets were given and taken; and a first part of the history of
-/// stops that has its handles. It must be used up, as the batch in it.
+/// that a handle may stop with (`S.begun`); that its tickets were given and are out; and a first part of the history
+/// of stops that has its handles. It must be used up, as the batch in it.
 #[must_use]
 pub struct HeldBatch<S: Origin> {
     batch: Batch,
     tickets: Tickets<S>,
     sight: Prefix<Words, S>,
-    seen: BookCounts,
+    out: Out,
 }
 
 impl<S: Origin> Model for HeldBatch<S> {
@@ -32,7 +32,7 @@ impl<S: Origin> Model for HeldBatch<S> {
 
     ghost view = { λ h. h.batch };
 
-    ghost invariant = { λ h. IsOut S.begun h.batch (given_by h.tickets) h.sight h.seen.taken };
+    ghost invariant = { λ h. IsOut S.begun h.batch (given_by h.tickets) h.sight h.out };
 }
 
 impl<S: Origin> HeldBatch<S> {
@@ -44,36 +44,37 @@ impl<S: Origin> HeldBatch<S> {
         batch: Batch,
         tickets: Tickets<S>,
         sight: Prefix<Words, S>,
-        seen: BookCounts,
+        out: Out,
     ) -> HeldBatch<S>
-        requires { IsOut S.begun batch (given_by tickets) sight seen.taken }
+        requires { IsOut S.begun batch (given_by tickets) sight out }
         ensures { result ≡ batch }
     {
         HeldBatch {
             batch,
             tickets,
             sight,
-            seen,
+            out,
         }
     }
 
-    /// The batch again, that its tickets were given, what has its handles, and that it was taken.
-    pub(crate) fn end(self) -> (Batch, Tickets<S>, Prefix<Words, S>, BookCounts)
+    /// The batch again, that its tickets were given, what has its handles, and that it is out.
+    pub(crate) fn end(self) -> (Batch, Tickets<S>, Prefix<Words, S>, Out)
         ensures batch { result.0 ≡ self }
-        ensures out { IsOut S.begun result.0 (given_by result.1) result.2 result.3.taken }
+        ensures out { IsOut S.begun result.0 (given_by result.1) result.2 result.3 }
     {
         let HeldBatch {
             batch,
             tickets,
             sight,
-            seen,
+            out,
         } = self;
-        (batch, tickets, sight, seen)
+        (batch, tickets, sight, out)
     }
 
-    /// The batch is lost.
-    pub(crate) fn lose(self) {
-        let (batch, _, _, _) = self.end();
+    /// The batch is lost, as its book has failed.
+    pub(crate) fn lose(self, failed: &HasAborted) {
+        let (batch, _, _, out) = self.end();
+        out.lose(failed);
         let _lost = batch.end();
     }
 }

@@ -17,7 +17,7 @@ mod signals;
 mod stop_ledger;
 mod waits;
 
-pub use committer::{Committer, Round, RoundFault};
+pub use committer::{Committer, Retired, Round, RoundFault};
 pub use delay::Delay;
 pub use desk::{CloseFault, Closed, Desk};
 pub use ended::Ended;
@@ -26,6 +26,6 @@ pub use jb_book::{
     BeginFault, Book, CheckpointRound, EnqueueFault, Marks, Origin, Sights, WrongBatch, open,
 };
 pub use jb_handle::Ticket;
-pub use queue_state::{Drained, NothingToTake};
+pub use queue_state::{Drained, HasAborted, NothingToTake};
 pub use seat::{Left, Seat};
 pub use stop_ledger::StopLedger;

@@ -1,7 +1,9 @@
 ghost use Rattle.std.specs.Prelude.{◌≡◌, ◌+◌, ◌<◌, ◌≤◌, ◌^◌, ◌⊎◌, true, None, IsTrue, ◌↔◌};
-ghost use Rattle.std.specs.Prelude.{OnOk, IfOk, IfErr, IfSome, IfNone, []};
+ghost use Rattle.std.specs.Prelude.{OnOk, IfOk, IfErr, IfSome, IfNone, [], length};
 ghost use Rattle.jb_desk.specs.Parts.{ledger_parts};
 
+mod aborted;
+mod batch_out;
 mod book_counts;
 mod drained;
 mod handling;
@@ -14,6 +16,8 @@ mod waiting;
 
 use crate::fault::WaitFault;
 use crate::seat::{Left, Seat};
+pub use aborted::HasAborted;
+pub(crate) use batch_out::Out;
 pub(crate) use book_counts::BookCounts;
 pub use drained::Drained;
 use jb_board::{BoardSeat, OwnEntries, Tickets};
@@ -204,6 +208,19 @@ impl<D: Disk, H: Origin, N: Ledger> QueueState<D, H, N> {
         ensures { self.new.register.book ≡ self.old.register.book }
     {
         self.register.sights(histories)
+    }
+
+    /// Sees all that has stopped, and whether a handle has this ticket: then it is seen, and else it is not.
+    pub fn see(&mut self, histories: &Histories<D, H>, seen: &mut Sights<D, H>, ticket: u64) -> bool
+        ensures given { IsTrue result ↔ ticket < length seen.new.stops }
+        ensures sees { SeesMore seen.old seen.new }
+        ensures book { self.new.register.book ≡ self.old.register.book }
+    {
+        let next = self.register.book().next();
+        let mut all = self.register.sights(histories);
+        histories.learn(seen, &mut all);
+        self.register.look(&histories.stops, &mut seen.stops);
+        ticket < next
     }
 
     /// How many seats were given.

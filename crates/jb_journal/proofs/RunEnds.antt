@@ -1,5 +1,5 @@
 -- What a run tells of its end.
-use Rattle.std.proofs.Common.{◌≡◌, ℕ, ◌≤◌, All, List, [], ◌∷◌, map, sym, ap, subst, ◌∙◌, arith}
+use Rattle.std.proofs.Common.{◌≡◌, ℕ, ◌≤◌, All, List, [], ◌∷◌, map, Option, Some, sym, ap, subst, ◌∙◌, arith}
 use Rattle.std.proofs.lemmas.List.Elements.{All-map, All-weaker}
 use Rattle.jb_cost.specs.Pieces.{joined}
 use Rattle.jb_disk.specs.declared.disk.Disk.{Ghosts}
@@ -9,7 +9,7 @@ use Rattle.jb_deck.specs.Done.{Follow, past_after, start_of}
 use Rattle.jb_deck.specs.declared.done.Entry.{Entry}
 use Rattle.jb_book.proofs.TrailEntries.{follow-past}
 use Rattle.jb_book.specs.History.{AreAllStops, CameAbout, EndsWith}
-use Rattle.jb_book.specs.SinceMark.{EndsMarked}
+use Rattle.jb_book.specs.AtHome.{AreHome, EndsUsing, log_used}
 use Rattle.jb_book.specs.Origin.{Begun}
 use Rattle.jb_book.specs.Marks.{SeesMore}
 use Rattle.jb_book.specs.declared.sights.Sights.{Sights}
@@ -57,11 +57,12 @@ module _ {D : Type 0} (G : Ghosts D) (b : Begun)
     runs_as = came.runs_as;
   }
 
-  -- and what each worker knew lasts; a disk that is honest was so at all that each had seen
-  pub ends-known : {H X : Type 0} (sights : X → Sights D H) (ws : List X) (seen : Sights D H) → all ≡ [] ∷ stopped
-      → EndsMarked G b all handles shape disk trail seen.stops seen.marks → All (λ w. SeesMore (sights w) seen) ws
+  -- and what each worker knew lasts; a disk that is honest was so at all that each had seen; and so much of the log is in use
+  pub ends-known : {H X : Type 0} (sights : X → Sights D H) (ws : List X) (seen : Sights D H) (in_log : Option ℕ) → all ≡ [] ∷ stopped
+      → EndsUsing G b all handles shape disk trail seen.stops seen.marks in_log → All (λ w. SeesMore (sights w) seen) ws
       → (ends : Ends stopped) × All (KnownLasts G b ends.log ends.since.given disk trail) (map (λ w. known_in G.moment (sights w)) ws) × (G.honest disk → All (AreHonest G) (map (λ w. (sights w).marks) ws))
-  ends-known sights ws seen is ends each = (
+      × (in_log ≡ log_used ends.deck) × (in_log ≡ Some 0 → b.is_known → G.honest disk → AreHome G b ends.since.given disk)
+  ends-known sights ws seen in_log is using each = let ends = using.marked in (
     ends-without is ends.ends,
     All-map (KnownLasts G b ends.ends.log ends.ends.since.given disk trail) (λ w. known_in G.moment (sights w)) ws
         (All-weaker (λ w. SeesMore (sights w) seen) (λ w. KnownLasts G b ends.ends.log ends.ends.since.given disk trail (known_in G.moment (sights w)))
@@ -70,4 +71,6 @@ module _ {D : Type 0} (G : Ghosts D) (b : Begun)
     (λ held. All-map (AreHonest G) (λ w. (sights w).marks) ws
         (All-weaker (λ w. SeesMore (sights w) seen) (λ w. AreHonest G (sights w).marks)
         (λ w more. were-honest G b ends.ends.since.given ends.ends.deck disk (sights w).marks seen.marks ends.ends.same_disk more.1 ends.last held) ws each)),
+    using.used,
+    using.home,
   )

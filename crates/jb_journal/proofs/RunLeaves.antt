@@ -1,5 +1,5 @@
 -- What a run leaves, from what its threads left and how its desk was closed.
-use Rattle.std.proofs.Common.{◌≡◌, ℕ, ◌<◌, List, [], ◌∷◌, length, get_or, map, Some, refl, sym, ap, ◌∙◌, arith, Result, IfOk, subst}
+use Rattle.std.proofs.Common.{◌≡◌, ℕ, ◌<◌, List, [], ◌∷◌, length, get_or, map, Option, Some, refl, sym, ap, ◌∙◌, arith, Result, IfOk, subst}
 use Rattle.std.proofs.Math.ListN.{length-map}
 use Rattle.std.proofs.lemmas.List.{get_or-map}
 use Rattle.jb_book.specs.declared.origin.Origin.{Ghosts}
@@ -21,7 +21,7 @@ use Rattle.jb_desk.specs.declared.ended.Ended.{Ended}
 use Rattle.jb_book.specs.History.{CameAbout}
 use Rattle.jb_book.specs.Origin.{Begun}
 use Rattle.jb_book.specs.Since.{EndsSince}
-use Rattle.jb_book.specs.SinceMark.{EndsMarked}
+use Rattle.jb_book.specs.AtHome.{EndsUsing}
 use Rattle.jb_journal.specs.Gather.{HasEnded, IsClosed, IsGatheredFrom}
 use Rattle.jb_journal.specs.declared.fault.RunFault.{RunFault}
 use Rattle.jb_journal.specs.declared.thread_results.ThreadResults.{ThreadResults}
@@ -73,12 +73,12 @@ since-as {D = D} G b told disk trail same_disk same_trail ends = subst (λ (x : 
 module _ {T D H N : Type 0} {O : Ghosts H} {P : Places H} (G : Disks D) (b : Begun) where
   -- what was told of a desk that was closed
   pub closed-as : {C : Type 0} (all : ThreadResults T D H N G O P) (told : Ran T D) (closed : Closed D C) → HasEnded G b all.lefts.items all.seen closed
-      → (shape : Shape) → closed.shape ≡ shape → told.disk ≡ closed.disk → told.answers ≡ all.answers → told.handles ≡ closed.handles → told.trail.items ≡ closed.trail.items → told.changes ≡ closed.changes → IsClosed G b all shape told
-  closed-as all told closed ended shape same_shape same_disk same_answers same_handles same_trail same_changes = record {
+      → (shape : Shape) → closed.shape ≡ shape → told.disk ≡ closed.disk → told.answers ≡ all.answers → told.handles ≡ closed.handles → told.trail.items ≡ closed.trail.items → told.changes ≡ closed.changes → told.in_log ≡ closed.in_log → IsClosed G b all shape told
+  closed-as all told closed ended shape same_shape same_disk same_answers same_handles same_trail same_changes same_log = record {
     answers = same_answers;
     changes = same_changes ∙ ended.changes ∙ all.counted;
-    ends = subst (λ (x : ((ℕ × Shape) × D) × List Entry). EndsMarked G b (map (λ l. made_left l) all.lefts.items) x.0.0.0 x.0.0.1 x.0.1 x.1 all.seen.stops all.seen.marks)
-        (λ i. (((sym same_handles i, same_shape i), sym same_disk i), sym same_trail i)) ended.ends;
+    ends = subst (λ (x : (((ℕ × Shape) × D) × List Entry) × Option ℕ). EndsUsing G b (map (λ l. made_left l) all.lefts.items) x.0.0.0.0 x.0.0.0.1 x.0.0.1 x.0.1 all.seen.stops all.seen.marks x.1)
+        (λ i. ((((sym same_handles i, same_shape i), sym same_disk i), sym same_trail i), sym same_log i)) ended.ends;
     came = subst (λ (x : (Shape × D) × List Entry). CameAbout G b (map (λ l. made_left l) all.lefts.items) x.0.0 x.0.1 x.1) (λ i. ((same_shape i, sym same_disk i), sym same_trail i)) ended.came;
   }
 
@@ -90,7 +90,7 @@ module _ {T D H N : Type 0} {O : Ghosts H} {P : Places H} (G : Disks D) (b : Beg
       let has : HasThreaded G may workers gathered.of = IfOk-at_ok (HasThreaded G may workers) gathered.is threaded in
       let stopped : List (List Stop) = map (λ (w : Worked T D H N O P). stops_of_worked w) ws in
       let made = gathered.stops ∙ ap (λ xs. xs ∷ stopped) has.committed in
-      let ends = ends-known G b _ stopped told.handles shape told.disk told.trail.items (λ (w : Worked T D H N O P). w.seen) ws all.0.seen made closed.ends gathered.seen in
+      let ends = ends-known G b _ stopped told.handles shape told.disk told.trail.items (λ (w : Worked T D H N O P). w.seen) ws all.0.seen told.in_log made closed.ends gathered.seen in
       record {
         stopped = stopped;
         known = map (λ (w : Worked T D H N O P). known_of_worked G.moment w) ws;
@@ -101,4 +101,6 @@ module _ {T D H N : Type 0} {O : Ghosts H} {P : Places H} (G : Disks D) (b : Beg
         came = came-without G b _ stopped told.handles shape told.disk told.trail.items made closed.came;
         last = ends.1;
         honest = ends.2;
+        used = ends.3;
+        home = ends.4;
       }

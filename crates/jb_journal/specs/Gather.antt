@@ -12,7 +12,7 @@ use Rattle.jb_desk.specs.declared.seat.Left.{Left}
 use Rattle.jb_book.specs.History.{CameAbout}
 use Rattle.jb_book.specs.Origin.{Begun}
 use Rattle.jb_book.specs.Since.{EndsSince}
-use Rattle.jb_book.specs.SinceMark.{EndsMarked}
+use Rattle.jb_book.specs.AtHome.{EndsUsing}
 use Rattle.jb_book.specs.declared.origin.Origin.{Ghosts}
 use Rattle.jb_book.specs.declared.sights.Sights.{Sights}
 use Rattle.jb_board.specs.declared.place.Place.{Ghosts as Places}
@@ -29,7 +29,7 @@ module _ {D H N : Type 0} {O : Ghosts H} {P : Places H} where
     pub changes : closed.changes ≡ sum_by changes_left lefts
     pub within : (past : ℕ) × Follow (start_of closed.trail.items) 0 past closed.trail.items × (past ≤ closed.handles)
     pub since : EndsSince G b closed.disk closed.trail.items
-    pub ends : EndsMarked G b (map made_left lefts) closed.handles closed.shape closed.disk closed.trail.items seen.stops seen.marks
+    pub ends : EndsUsing G b (map made_left lefts) closed.handles closed.shape closed.disk closed.trail.items seen.stops seen.marks closed.in_log
     pub came : CameAbout G b (map made_left lefts) closed.shape closed.disk closed.trail.items
 
 module _ {T D H N : Type 0} {Q : Disks D} {O : Ghosts H} {P : Places H} where
@@ -46,5 +46,5 @@ module _ {T D H N : Type 0} {Q : Disks D} {O : Ghosts H} {P : Places H} where
   pub record IsClosed (G : Disks D) (b : Begun) (all : ThreadResults T D H N Q O P) (shape : Shape) (ran : Ran T D) : Type 0 where
     pub answers : ran.answers ≡ all.answers
     pub changes : ran.changes ≡ sum_by changed_by (joined (map made_left all.lefts.items))
-    pub ends : EndsMarked G b (map made_left all.lefts.items) ran.handles shape ran.disk ran.trail.items all.seen.stops all.seen.marks
+    pub ends : EndsUsing G b (map made_left all.lefts.items) ran.handles shape ran.disk ran.trail.items all.seen.stops all.seen.marks ran.in_log
     pub came : CameAbout G b (map made_left all.lefts.items) shape ran.disk ran.trail.items

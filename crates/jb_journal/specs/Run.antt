@@ -12,6 +12,7 @@ use Rattle.jb_desk.specs.declared.ended.Ended.{Ended}
 use Rattle.jb_desk.specs.declared.ended.Ended.TheVariants as ended
 use Rattle.jb_book.specs.History.{CameAbout, EndsWith}
 use Rattle.jb_book.specs.Origin.{Begun}
+use Rattle.jb_book.specs.AtHome.{AreHome, log_used}
 use Rattle.jb_desk.specs.Seats.{made_by, made_left}
 use Rattle.jb_book.specs.declared.origin.Origin.{Ghosts}
 use Rattle.jb_board.specs.declared.place.Place.{Ghosts as Places}
@@ -105,7 +106,8 @@ AllSettled ran = ran.settled ≡ ran.handles
 -- are all of one history, of as many as are reported, and each is there once; the home blocks that they changed, each handle's added up, are as many as are reported. The
 -- journal that the disk is left with has this shape, by which its groups have cost what its trail says, and was given the first of this history; and the machine of
 -- handles accepts a list of events in which they stopped in this order, and whose settled groups are those of the trail. What a client knew to be committed at some
--- moment, what a crash at any time since then leaves has. Where the disk that is given back is honest, it was so at all that any client has seen
+-- moment, what a crash at any time since then leaves has. Where the disk that is given back is honest, it was so at all that any client has seen. Of the journal's log so many blocks
+-- are in use as are told: where none are, each home on the disk is as these handles left it
 pub record RanAll {T D : Type 0} (G : Disks D) (b : Begun) (may : Type 0 → ℕ → ℕ → List Stop → Known → T → Type 0) (workers : ℕ) (shape : Shape) (ran : Ran T D) : Type 0 where
   pub stopped : List (List Stop)
   pub known : List Known
@@ -116,6 +118,8 @@ pub record RanAll {T D : Type 0} (G : Disks D) (b : Begun) (may : Type 0 → ℕ
   pub came : CameAbout G b stopped shape ran.disk ran.trail.items
   pub last : All (KnownLasts G b ends.log ends.since.given ran.disk ran.trail.items) known
   pub honest : G.honest ran.disk → All (AreHonest G) seen
+  pub used : ran.in_log ≡ log_used ends.deck
+  pub home : ran.in_log ≡ Some 0 → b.is_known → G.honest ran.disk → AreHome G b ends.since.given ran.disk
 
 -- what was run on this disk: the journal on it was opened, with the shape that its workers' handles had to fit
 pub record RanOn {T D : Type 0} (G : Disks D) (disk : D) (b : Begun) (may : Shape → Type 0 → ℕ → ℕ → List Stop → Known → T → Type 0) (workers : ℕ) (ran : Ran T D) : Type 0 where

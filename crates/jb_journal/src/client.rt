@@ -1,5 +1,5 @@
 //! What a worker has of the journal.
-ghost use Rattle.std.specs.Prelude.{◌≡◌, ◌<◌, ◌≤◌, [], None, Some, IfErr, IfOk, OnOk, length};
+ghost use Rattle.std.specs.Prelude.{◌≡◌, ◌<◌, ◌≤◌, ◌↔◌, [], None, Some, IfErr, IfOk, OnOk, length, IsTrue};
 ghost use Rattle.std.specs.FinMap as map;
 ghost use Rattle.jb_handle.specs.HeldChanges.{held};
 ghost use Rattle.jb_desk.specs.Desks.{desk_id, shape_in};
@@ -164,6 +164,18 @@ impl<'a, D: Disk, C: Clock, R: Wait + time::Clock, H: Origin, N: Ledger> Client<
         ensures kept { client_stops self.new ≡ client_stops self.old }
     {
         self.desk.read(self.rt, &mut self.seen, home, buf)
+    }
+
+    /// Sees all handles that have stopped, and says whether one of them has this ticket, of which another worker has
+    /// told. A later [`change`](Client::change) of this client gives a higher ticket then. It waits for no commit.
+    pub fn see(&mut self, ticket: u64) -> bool
+        requires client { IsClient H.begun self.old }
+        ensures client { IsClient H.begun self.new }
+        ensures given { IsTrue result ↔ ticket < length (client_known self.new).log }
+        ensures goes_on { ClientGoesOn self.old self.new }
+        ensures kept { client_stops self.new ≡ client_stops self.old }
+    {
+        self.desk.see(self.rt, &mut self.seen, ticket)
     }
 
     /// Takes the entries of groups that are settled and home from the front of the trail; the last one stays. A journal

@@ -66,7 +66,7 @@ fn tell<T: Drop, D: Disk + Drop, C: Clock + Drop>(
     requires { (past : ℕ) × Follow (start_of closed.trail.items) 0 past closed.trail.items × (past ≤ closed.handles) }
     ensures told { IfOk result (λ ran. (ran.disk ≡ closed.disk) × (ran.answers ≡ answers)
         × (ran.handles ≡ closed.handles) × (ran.trail ≡ closed.trail) × (ran.changes ≡ closed.changes)
-        × (closed.shape ≡ shape)) }
+        × (ran.in_log ≡ closed.in_log) × (closed.shape ≡ shape)) }
     ensures ends { IfOk result (λ ran. (asked : Bool) → EndsChecked asked checkpoint → EndsRun asked ran) }
     ensures faults { IfErr result (λ fault. fault ≡ Accounts) }
 {
@@ -75,6 +75,7 @@ fn tell<T: Drop, D: Disk + Drop, C: Clock + Drop>(
         handles,
         changes,
         trail,
+        in_log,
         shape: at_end,
         ..
     } = closed;
@@ -92,6 +93,7 @@ fn tell<T: Drop, D: Disk + Drop, C: Clock + Drop>(
         settled,
         changes,
         trail,
+        in_log,
         commit,
         checkpoint,
     })

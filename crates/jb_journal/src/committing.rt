@@ -6,7 +6,7 @@ ghost use Rattle.jb_journal.specs.Run.{HasLeft};
 
 use crate::counted::{CountedLeft, CountedSeat};
 use crate::gate::Gate;
-use jb_desk::{Delay, Desk, Ended, Origin};
+use jb_desk::{Delay, Desk, Ended, Origin, Retired};
 use jb_disk::{Clock, Disk};
 use std::sync::Wait;
 use std::sync::ledger::Ledger;
@@ -25,8 +25,8 @@ pub(crate) fn commit_all<D: Disk, C: Clock, R: Wait + time::Clock, H: Origin, N:
 {
     let CountedSeat { seat } = seat;
     let (committer, ended) = desk.run_committer_after(rt, desk.committer(seat), delay);
-    let seat = match desk.retire(rt, committer) {
-        Ok(seat) => seat,
+    let Retired { seat, lost: _ } = match desk.retire(rt, committer) {
+        Ok(left) => left,
         Err(committer) => desk.give_up(rt, committer),
     };
     (CountedSeat { seat }.leave(rt, desk), ended)

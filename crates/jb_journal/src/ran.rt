@@ -21,6 +21,9 @@ pub struct Ran<T, D> {
     /// The transactions that were committed, in the order of their tickets, without those that a worker has taken from
     /// the trail. They begin at the ticket 0 where none was.
     pub trail: Vec<Entry>,
+    /// How many blocks of the log are in use by transactions that are not home; `None` where the journal has failed.
+    /// With `Some(0)` each home on the disk is as the handles left it that are committed.
+    pub in_log: Option<u32>,
     /// How the committer ended. Where it is `Shut`, every handle that stopped is settled. Otherwise the handles after
     /// the settled ones may be lost, and the program is to end, and to recover the journal when it is started anew.
     pub commit: Ended,

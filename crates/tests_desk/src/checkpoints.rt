@@ -139,7 +139,7 @@ fn check_failed(rt: &impl Abort, call: u64, found: &Found) -> bool {
     let is_settled = after.settled == Ok(2);
     let is_lost = after.lost == Err(WaitFault::Aborted);
     let is_first = is_one(found.first, 0, 2);
-    let is_second = matches!(found.second, Came::Failed(RoundFault::Aborted));
+    let is_second = matches!(found.second, Came::Failed(RoundFault::Aborted(_)));
     let is_read = found.read == Err(ReadHomeFault::Aborted);
     check_at(rt, is_first, "the first round, fault", call);
     check_at(rt, is_read, "a read, fault", call);

@@ -12,7 +12,7 @@ use crate::closing::{check_close, is_closed, left, over_at};
 use crate::journal::{PARTS, Small, refused, retired, seated, write};
 use jb_board::{Front, Opened};
 use jb_deck::{CheckpointFault, Deck};
-use jb_desk::{Origin, Seat, StopLedger};
+use jb_desk::{Origin, Retired, Seat, StopLedger};
 use jb_disk::MemoryDisk;
 use std::alloc::Global;
 use std::marker::Brand;
@@ -38,7 +38,7 @@ fn stop_two<R: Abort + Wait, H: Origin, N: Ledger>(
     requires desk { desk_of seat ≡ desk_id desk.now }
     ensures { desk_of result ≡ desk_id desk.now }
 {
-    let seat = desk.give_up(rt, desk.committer(seat));
+    let Retired { seat, lost: _ } = desk.give_up(rt, desk.committer(seat));
     let (seat, begun) = refused(rt, desk, seat, 1);
     check(
         rt,

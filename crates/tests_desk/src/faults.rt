@@ -156,7 +156,7 @@ fn check_found(rt: &impl Abort, call: u64, found: &Found) -> bool {
         check_answers(rt, call, &found.answers, &COMMITTED);
         return false;
     }
-    let has_failed = matches!(found.came, Came::Failed(RoundFault::DeviceFault));
+    let has_failed = matches!(found.came, Came::Failed(RoundFault::DeviceFault(_)));
     check_at(rt, has_failed, "how the round fails, fault", call);
     check_answers(rt, call, &found.answers, &FAILED);
     true

@@ -10,7 +10,8 @@ use crate::checks::{read_at, write_at};
 use jb_block::{BlockSize, Width, put32};
 use jb_deck::{Deck, Entry};
 use jb_desk::{
-    BeginFault, Committer, Desk, EnqueueFault, Origin, Round, RoundFault, Seat, StopFault, Ticket,
+    BeginFault, Committer, Desk, EnqueueFault, Origin, Retired, Round, RoundFault, Seat, StopFault,
+    Ticket,
 };
 use jb_disk::{Disk, FixedClock, MemoryDisk};
 use jb_format::format;
@@ -199,7 +200,7 @@ pub fn round<R: Wait, D: Disk, H: Origin, N: Ledger>(
     requires desk { desk_of (seat_of committer.old) ≡ desk_id desk.now }
     ensures desk { desk_of (seat_of committer.new) ≡ desk_of (seat_of committer.old) }
 {
-    match desk.commit_round(rt, committer) {
+    match desk.commit_round(rt, committer, &mut desk.sights(rt)) {
         Ok(Round::Idle(_)) => Came::Idle,
         Ok(Round::Committed(done)) => {
             let entries = done.entries();
@@ -249,7 +250,10 @@ pub fn retired<R: Wait, D: Disk, H: Origin, N: Ledger>(
     ensures { result.0 ≡ seat_of committer }
 {
     match desk.retire(rt, committer) {
-        Ok(seat) => (seat, true),
-        Err(committer) => (desk.give_up(rt, committer), false),
+        Ok(Retired { seat, lost: _ }) => (seat, true),
+        Err(committer) => {
+            let Retired { seat, lost: _ } = desk.give_up(rt, committer);
+            (seat, false)
+        }
     }
 }

@@ -1,4 +1,5 @@
-//! A thread that waits for a ticket goes on once the ticket is settled, or cannot be any more.
+//! A thread that waits for a ticket goes on once the ticket is settled, or cannot be any more; so does a checkpointer
+//! that rests.
 ghost use Rattle.std.specs.Prelude.{◌≡◌, ◌+◌, ◌^◌};
 ghost use Rattle.jb_desk.specs.Desks.{desk_id};
 ghost use Rattle.jb_desk.specs.History.{history_in};
@@ -7,13 +8,15 @@ ghost use Rattle.jb_board.specs.History.{history_id};
 ghost use Rattle.jb_handle.specs.Word.{WordMap};
 
 use crate::blind::{marks, start, stops};
-use crate::checks::check;
+use crate::checks::{check, check_of};
 use crate::gate::{await_flag, has_come};
-use crate::journal::{PARTS, Small, formatted, numbered, opened, retired, round, seated, write};
+use crate::journal::{
+    Came, PARTS, Still, commit, formatted, is_one, numbered, opened, retired, round, seated, write,
+};
 use jb_board::Opened;
-use jb_deck::Deck;
-use jb_desk::{Origin, Seat, StopLedger, WaitFault};
-use jb_disk::MemoryDisk;
+use jb_deck::{CheckpointFault, Deck};
+use jb_desk::{Origin, RoundFault, Seat, Sights, StopLedger, WaitFault};
+use jb_disk::{Disk, MemoryDisk, OneFaultDisk};
 use std::alloc::Global;
 use std::marker::Brand;
 use std::process::Abort;
@@ -27,7 +30,46 @@ use std::time::{Clock, Duration};
 /// How long after a thread says that it will wait a handle is committed, in milliseconds.
 const APART: u64 = 100;
 
-/// What two threads tell one another.
+/// How a wait ends.
+#[derive(Clone, Copy, PartialEq, Eq)]
+enum End {
+    /// the ticket is committed
+    Committed,
+    /// its committer gives up, as the journal has one number for two transactions
+    GivenUp,
+    /// the disk fails in its round
+    DiskFails,
+    /// the journal has failed before its round, in a checkpoint
+    HasFailed,
+}
+
+impl End {
+    /// Its name in a message.
+    fn name(self) -> &'static str {
+        match self {
+            End::Committed => "a ticket that is committed",
+            End::GivenUp => "a ticket that is given up",
+            End::DiskFails => "a ticket whose round fails",
+            End::HasFailed => "a ticket of a journal that has failed",
+        }
+    }
+
+    /// The call of the disk that fails: none, the first one of the round, or the first one of the checkpoint.
+    fn call(self) -> u64 {
+        match self {
+            End::Committed | End::GivenUp => u64::MAX,
+            End::DiskFails => 34,
+            End::HasFailed => 41,
+        }
+    }
+
+    /// The ticket that is waited for: one is committed before a checkpoint.
+    fn ticket(self) -> u64 {
+        u64::from(self == End::HasFailed)
+    }
+}
+
+/// What the threads tell one another.
 #[derive(Drop)]
 struct Told {
     /// the handle has stopped
@@ -36,33 +78,18 @@ struct Told {
     is_awaited: AtomicBool,
     /// the wait has ended
     has_ended: AtomicBool,
+    /// the checkpointer has ended
+    is_over: AtomicBool,
 }
 
-/// Waits for the first ticket, which is committed or lost, and reads what it wrote.
-fn wait<R: Abort + Wait + Clock, H: Origin, N: Ledger>(
+/// Reads what the first handle wrote, with a sight that is informed of what was seen after a wait for it.
+fn read_informed<R: Abort + Wait, D: Disk, H: Origin, N: Ledger>(
     rt: &R,
-    desk: &Small<H, N>,
-    told: &Told,
-    is_lost: bool,
+    desk: &Still<D, H, N>,
+    seen: &mut Sights<D, H>,
 ) {
-    let mut seat = seated(rt, desk);
-    await_flag(rt, &told.has_stopped, "no handle has stopped");
-    told.is_awaited.store(true, Ordering::SeqCst);
-    let mut seen = desk.sights(rt);
-    let number = desk.wait(rt, &mut seat, &mut seen, 0);
-    told.has_ended.store(true, Ordering::SeqCst);
-    let _left = desk.leave(rt, seat);
-    let wanted = if is_lost {
-        Err(WaitFault::Aborted)
-    } else {
-        Ok(2)
-    };
-    check(rt, number == wanted, "the number of the ticket");
-    if is_lost {
-        return;
-    }
     let mut informed = desk.sights(rt);
-    desk.inform(&mut informed, &mut seen);
+    desk.inform(&mut informed, seen);
     let mut block = [0; 1024];
     let read = desk.read(rt, &mut informed, 1, &mut block);
     check(
@@ -72,49 +99,123 @@ fn wait<R: Abort + Wait + Clock, H: Origin, N: Ledger>(
     );
 }
 
-/// One handle stops; or two, of which each takes a transaction.
-fn stopped<R: Abort + Wait, H: Origin, N: Ledger>(
+/// Waits for a ticket, which is committed or lost. Its seat leaves once the checkpointer has ended, since that would
+/// wake it.
+fn wait<R: Abort + Wait + Clock, D: Disk, H: Origin, N: Ledger>(
     rt: &R,
-    desk: &Small<H, N>,
-    are_two: bool,
+    desk: &Still<D, H, N>,
+    told: &Told,
+    end: End,
+) {
+    let mut seat = seated(rt, desk);
+    await_flag(rt, &told.has_stopped, "no handle has stopped");
+    told.is_awaited.store(true, Ordering::SeqCst);
+    let mut seen = desk.sights(rt);
+    let number = desk.wait(rt, &mut seat, &mut seen, end.ticket());
+    told.has_ended.store(true, Ordering::SeqCst);
+    await_flag(rt, &told.is_over, end.name());
+    let _left = desk.leave(rt, seat);
+    if end == End::Committed {
+        check(rt, number == Ok(2), "the number of the ticket");
+        read_informed(rt, desk, &mut seen);
+    } else {
+        check(rt, number == Err(WaitFault::Aborted), end.name());
+    }
+}
+
+/// One handle stops, before its journal fails or after; or two, of which each takes a transaction.
+fn stopped<R: Abort + Wait, D: Disk, H: Origin, N: Ledger>(
+    rt: &R,
+    desk: &Still<D, H, N>,
+    end: End,
 ) -> Seat<H, N>
     requires { (words : WordMap) → H.begun.stops words }
     ensures { desk_of result ≡ desk_id desk.now }
 {
     let seat = seated(rt, desk);
-    if are_two {
+    if end == End::GivenUp {
         let (seat, _) = write(rt, desk, seat, 6, &[0, 1, 2, 3, 4, 5]);
         let (seat, _) = write(rt, desk, seat, 6, &[6, 7, 8, 9, 10, 11]);
+        return seat;
+    }
+    if end == End::HasFailed {
+        let (seat, came) = commit(rt, desk, seat, 1);
+        check(rt, is_one(came, 0, 2), "the round before the checkpoint");
+        let (seat, _) = write(rt, desk, seat, 1, &[2]);
+        let checked = desk.checkpoint_round(rt);
+        let has_failed = checked == Err(CheckpointFault::DeviceFault);
+        check(rt, has_failed, "the checkpoint does not fail");
         return seat;
     }
     let (seat, _) = write(rt, desk, seat, 1, &[1]);
     seat
 }
 
-/// Commits a handle that another thread waits for, whose wait ends before anything else happens; or gives it up, where
-/// the journal has one number for two transactions.
-fn commit<R: Abort + Wait + Clock, H: Origin, N: Ledger>(
+/// Whether a round has come to this end.
+fn is_round(end: End, came: Came) -> bool {
+    match end {
+        End::Committed => is_one(came, 0, 2),
+        End::GivenUp => matches!(came, Came::Failed(RoundFault::Refused)),
+        End::DiskFails => matches!(came, Came::Failed(RoundFault::DeviceFault(_))),
+        End::HasFailed => matches!(came, Came::Failed(RoundFault::Aborted(_))),
+    }
+}
+
+/// Commits a handle that another thread waits for, whose wait ends before anything else happens; or its round fails, or
+/// it is given up.
+fn end_wait<R: Abort + Wait + Clock, D: Disk, H: Origin, N: Ledger>(
     rt: &R,
-    desk: &Small<H, N>,
+    desk: &Still<D, H, N>,
     told: &Told,
-    is_lost: bool,
+    end: End,
 )
     requires { (words : WordMap) → H.begun.stops words }
 {
-    let seat = stopped(rt, desk, is_lost);
+    let seat = stopped(rt, desk, end);
     told.has_stopped.store(true, Ordering::SeqCst);
     await_flag(rt, &told.is_awaited, "the ticket is not waited for");
     thread::sleep(rt, Duration::from_millis(APART));
     let mut committer = desk.committer(seat);
-    let _came = round(rt, desk, &mut committer);
-    let by_round = !is_lost && has_come(rt, &told.has_ended);
+    let came = round(rt, desk, &mut committer);
+    check_of(
+        rt,
+        is_round(end, came),
+        end.name(),
+        "the round of ticket",
+        end.ticket(),
+    );
+    let by_round = end != End::GivenUp && has_come(rt, &told.has_ended);
     let (seat, _) = retired(rt, desk, committer);
-    let by_end = is_lost && has_come(rt, &told.has_ended);
+    let by_end = end == End::GivenUp && has_come(rt, &told.has_ended);
+    check_of(
+        rt,
+        by_round || by_end,
+        end.name(),
+        "no end of the wait for",
+        end.ticket(),
+    );
+    if end == End::Committed {
+        desk.shut(rt);
+    }
+    let is_over = has_come(rt, &told.is_over);
+    check_of(
+        rt,
+        is_over,
+        end.name(),
+        "no end of the checkpointer, ticket",
+        end.ticket(),
+    );
     let _left = desk.leave(rt, seat);
-    check(rt, by_round || by_end, "the wait does not end");
 }
 
-/// A thread waits for the ticket of a handle that another one commits, or gives up.
+/// A checkpointer that rests until the desk is over or the journal has failed.
+fn rest<R: Wait, D: Disk, H: Origin, N: Ledger>(rt: &R, desk: &Still<D, H, N>, told: &Told) {
+    let _ended = desk.run_checkpointer_at(rt, u32::MAX);
+    told.is_over.store(true, Ordering::SeqCst);
+}
+
+/// A thread waits for the ticket of a handle that another one commits or gives up, or whose journal fails, beside a
+/// checkpointer.
 fn waited<
     R: Abort + Threads + Wait + Clock + Sync,
     H: Origin + Send + Sync,
@@ -122,10 +223,10 @@ fn waited<
 >(
     rt: &R,
     alloc: Global,
-    is_lost: bool,
+    end: End,
     handles: StopLedger,
     changes: Blank,
-    marks: Opened<Deck<MemoryDisk>>,
+    marks: Opened<Deck<OneFaultDisk<MemoryDisk>>>,
 )
     requires blind { H.begun.is_known → ⊥ }
     requires any { (words : WordMap) → H.begun.stops words }
@@ -133,32 +234,40 @@ fn waited<
     requires histories { (history_in handles ≡ H.history) × (history_id marks ≡ H.marks) }
     requires changes { (changes.name ≡ N.name) × (changes.parts ≡ N.parts) × (N.parts ≡ 2 ^ 61 + 1) }
 {
-    let disk = if is_lost {
+    let disk = if end == End::GivenUp {
         numbered(rt, alloc, 4294967294)
     } else {
         formatted(rt, alloc)
     };
-    let deck = opened(alloc, disk).expect(rt, "the journal is not opened");
-    let desk: Small<H, N> = start(rt, alloc, handles, changes, marks, deck);
+    let failing = OneFaultDisk::of(disk, end.call());
+    let deck = opened(alloc, failing).expect(rt, "the journal is not opened");
+    let desk: Still<OneFaultDisk<MemoryDisk>, H, N> = start(
+        rt, alloc, handles, changes, marks, deck,
+    );
     let told = Told {
         has_stopped: AtomicBool::new(false),
         is_awaited: AtomicBool::new(false),
         has_ended: AtomicBool::new(false),
+        is_over: AtomicBool::new(false),
     };
     thread::join(
         rt,
-        || wait(rt, &desk, &told, is_lost),
-        || commit(rt, &desk, &told, is_lost),
+        || thread::join(
+            rt,
+            || wait(rt, &desk, &told, end),
+            || rest(rt, &desk, &told),
+        ),
+        || end_wait(rt, &desk, &told, end),
     );
 }
 
 #[test]
 fn a_commit_ends_the_wait_for_its_ticket(rt: HostRuntime) {
-    for is_lost in [false, true] {
+    for end in [End::Committed, End::GivenUp, End::DiskFails, End::HasFailed] {
         waited::<HostRuntime, Brand, Brand>(
             &rt,
             rt.alloc(),
-            is_lost,
+            end,
             stops(&rt, rt.alloc()),
             Blank::new(PARTS),
             marks(&rt, rt.alloc()),

@@ -23,6 +23,7 @@ fn left(test: &impl Bench, settled: u64) -> Ran<u8, u8> {
         settled,
         changes: 2,
         trail: Vec::new(test.alloc()),
+        in_log: None,
         commit: Ended::Aborted,
         checkpoint: None,
     }

@@ -20,6 +20,8 @@ mod makings;
 #[cfg(test)]
 mod recoveries;
 #[cfg(test)]
+mod seeing;
+#[cfg(test)]
 mod telling;
 #[cfg(test)]
 mod trails;

@@ -144,6 +144,8 @@ fn check_waited(rt: &impl Host) {
         matches!(ran.commit, Ended::Shut(_)),
         "how the commits end",
     );
+    let is_in_log = ran.in_log.is_some_and(|blocks| blocks > 0);
+    check(&test, is_in_log, "how much of the log is in use");
     check_homes(&test, homes(&test, &ran.disk))
 }
 
@@ -210,6 +212,12 @@ fn check_level(rt: &impl Host, level: u32) {
         &test,
         is_shut,
         "how the checkpoints end at level",
+        level.into(),
+    );
+    check_at(
+        &test,
+        ran.in_log == Some(0),
+        "what is in the log at level",
         level.into(),
     );
     // one that is not clean would have to be recovered

@@ -1,9 +1,9 @@
 //! A desk is closed.
-ghost use Rattle.std.specs.Prelude.{◌≡◌, ℕ, ◌+◌, ◌≤◌, ◌^◌, IfOk, IfErr, vec_len, map};
+ghost use Rattle.std.specs.Prelude.{◌≡◌, ℕ, ◌+◌, ◌≤◌, ◌^◌, IfOk, IfErr, Some, [], false, vec_len, map};
 ghost use Rattle.jb_deck.specs.Done.{Follow, start_of};
 ghost use Rattle.jb_desk.specs.Seats.{AddsUp, made_left};
 ghost use Rattle.jb_book.specs.History.{CameAbout};
-ghost use Rattle.jb_book.specs.SinceMark.{EndsMarked};
+ghost use Rattle.jb_book.specs.AtHome.{EndsUsing, log_used};
 ghost use Rattle.jb_desk.specs.Close.{DiffersAs};
 ghost use Rattle.jb_desk.specs.Parts.{ledger_parts};
 
@@ -35,6 +35,9 @@ pub struct Closed<D, C> {
     /// The groups that were settled, in the order of their tickets, without those whose entries were taken. They begin
     /// at the ticket 0 where none was.
     pub trail: Vec<Entry>,
+    /// How many blocks of the log are in use; `None` where the journal has failed. With `Some(0)` all that was settled
+    /// is home.
+    pub in_log: Option<u32>,
 }
 
 /// Why a desk is not closed.
@@ -72,12 +75,13 @@ impl<D: Disk, C: Clock, H: Origin, N: Ledger> fmt::Display for CloseFault<D, C, 
 
 impl<D: Disk + Drop, C: Clock, H: Origin, N: Ledger> Desk<D, C, H, N> {
     ghost use Rattle.jb_book.specs.History.{CameAbout};
-    ghost use Rattle.jb_book.specs.SinceMark.{EndsMarked};
+    ghost use Rattle.jb_book.specs.AtHome.{EndsUsing};
     ghost use Rattle.jb_desk.specs.Close.{IsNotClosed};
     ghost use Rattle.jb_book.specs.Since.{EndsSince};
 
     /// Closes the desk, where every seat that it gave has left. It writes nothing. Of the marks that were seen it says
-    /// that each lasts: what a crash since then leaves has all that was settled at the mark.
+    /// that each lasts: what a crash since then leaves has all that was settled at the mark. With `Some(0)` blocks in
+    /// the log, each home on the disk is as the handles left it that the journal was given.
     ///
     /// # Errors
     ///
@@ -93,8 +97,8 @@ impl<D: Disk + Drop, C: Clock, H: Origin, N: Ledger> Desk<D, C, H, N> {
         ensures trail { IfOk result (λ closed. (past : ℕ) × Follow (start_of closed.trail.items) 0 past
             closed.trail.items × (past ≤ closed.handles)) }
         ensures since { IfOk result (λ closed. EndsSince D.Disk H.begun closed.disk closed.trail.items) }
-        ensures stops { IfOk result (λ closed. EndsMarked D.Disk H.begun (map made_left lefts.items) closed.handles
-            closed.shape closed.disk closed.trail.items seen.stops seen.marks) }
+        ensures stops { IfOk result (λ closed. EndsUsing D.Disk H.begun (map made_left lefts.items) closed.handles
+            closed.shape closed.disk closed.trail.items seen.stops seen.marks closed.in_log) }
         ensures came { IfOk result (λ closed. CameAbout D.Disk H.begun (map made_left lefts.items) closed.shape
             closed.disk closed.trail.items) }
         ensures refused { IfErr result (IsNotClosed self lefts seen) }
@@ -142,8 +146,8 @@ fn close_parts<D: Disk + Drop, C: Clock, H: Origin, N: Ledger>(
     ensures sums { IfOk result (λ closed. AddsUp lefts.items closed.handles closed.changes) }
     ensures tiles { IfOk result (λ closed. (past : ℕ) × Follow (start_of closed.trail.items) 0 past closed.trail.items
         × (past ≤ closed.handles)) }
-    ensures stops { IfOk result (λ closed. EndsMarked D.Disk H.begun (map made_left lefts.items) closed.handles
-        closed.shape closed.disk closed.trail.items seen.stops seen.marks) }
+    ensures stops { IfOk result (λ closed. EndsUsing D.Disk H.begun (map made_left lefts.items) closed.handles
+        closed.shape closed.disk closed.trail.items seen.stops seen.marks closed.in_log) }
     ensures came { IfOk result (λ closed. CameAbout D.Disk H.begun (map made_left lefts.items) closed.shape
         closed.disk closed.trail.items) }
     ensures given { IfOk result (λ closed. (closed.disk ≡ works.deck.disk) × (closed.clock ≡ works.clock)
@@ -168,6 +172,7 @@ fn close_parts<D: Disk + Drop, C: Clock, H: Origin, N: Ledger>(
         });
     }
     let shape = deck.shape();
+    let in_log = used_of(&deck);
     Ok(Closed {
         disk: deck.close(),
         clock,
@@ -175,5 +180,18 @@ fn close_parts<D: Disk + Drop, C: Clock, H: Origin, N: Ledger>(
         changes,
         shape,
         trail,
+        in_log,
     })
+}
+
+/// How many blocks of the log of a journal are in use; `None` where it has failed.
+fn used_of<D: Disk>(deck: &Deck<D>) -> Option<u32>
+    ensures used { result ≡ log_used deck.now }
+    ensures none { result ≡ Some 0 → (deck.now.aborted ≡ false) × (deck.now.groups ≡ []) }
+{
+    if deck.aborted() {
+        None
+    } else {
+        Some(deck.in_use())
+    }
 }

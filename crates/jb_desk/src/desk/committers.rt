@@ -1,8 +1,9 @@
 //! What becomes a committer, and what becomes of it.
 ghost use Rattle.std.specs.Prelude.{◌≡◌, None, is_some, true, IfOk, IfErr};
 
-use crate::committer::Committer;
+use crate::committer::{Committer, Retired};
 use crate::desk::Desk;
+use crate::queue_state::HasAborted;
 use crate::seat::Seat;
 use jb_book::{Origin, Sights};
 use jb_disk::{Clock, Disk};
@@ -29,17 +30,21 @@ impl<D: Disk, C: Clock, H: Origin, N: Ledger> Desk<D, C, H, N> {
         &self,
         rt: &R,
         committer: Committer<H, N>,
-    ) -> Result<Seat<H, N>, Committer<H, N>>
-        ensures seat { IfOk result (λ seat. seat ≡ seat_of committer) }
+    ) -> Result<Retired<H, N>, Committer<H, N>>
+        ensures seat { IfOk result (λ left. left.seat ≡ seat_of committer) }
+        ensures lost { IfOk result (λ left. is_some left.lost ≡ is_some (held_by committer)) }
         ensures back { IfErr result (λ back. (back ≡ committer) × (is_some (held_by committer) ≡ true)) }
     {
         let Committer { seat, batch } = committer;
         let Some(batch) = batch else {
-            return Ok(seat);
+            return Ok(Retired { seat, lost: None });
         };
         let released = self.counter.lock(rt).release(batch);
         match released {
-            Ok(()) => Ok(seat),
+            Ok(failed) => Ok(Retired {
+                seat,
+                lost: Some(failed),
+            }),
             Err(batch) => Err(Committer {
                 seat,
                 batch: Some(batch),
@@ -47,25 +52,27 @@ impl<D: Disk, C: Clock, H: Origin, N: Ledger> Desk<D, C, H, N> {
         }
     }
 
-    /// A committer ends. Where it holds a batch, this is lost, and no handle is begun, stopped or committed any
-    /// more.
-    pub fn give_up<R: Wait>(&self, rt: &R, committer: Committer<H, N>) -> Seat<H, N>
-        ensures { result ≡ seat_of committer }
+    /// A committer ends. Where it holds a batch, this is lost, and the journal has failed then: no handle is begun,
+    /// stopped or committed any more.
+    pub fn give_up<R: Wait>(&self, rt: &R, committer: Committer<H, N>) -> Retired<H, N>
+        ensures seat { result.seat ≡ seat_of committer }
+        ensures lost { is_some result.lost ≡ is_some (held_by committer) }
     {
         let Committer { seat, batch } = committer;
-        self.counter.lock(rt).give_up(&self.histories.stops, batch);
+        let lost = self.counter.lock(rt).give_up(&self.histories.stops, batch);
         self.signals.tell();
         self.waits.wake_all();
-        seat
+        Retired { seat, lost }
     }
 
     /// The journal has failed, as was seen at a mark.
-    pub(crate) fn fail<R: Wait>(&self, rt: &R, seen: &mut Sights<D, H>)
+    pub(crate) fn fail<R: Wait>(&self, rt: &R, seen: &mut Sights<D, H>) -> HasAborted
         requires { HasFailedMark seen.old.marks }
         ensures { SeesSame seen.old seen.new }
     {
-        self.counter.lock(rt).fail(&self.histories, seen);
+        let failed = self.counter.lock(rt).fail(&self.histories, seen);
         self.signals.tell();
         self.waits.wake_all();
+        failed
     }
 }

@@ -47,16 +47,17 @@ impl<D: Disk, C: Clock, H: Origin, N: Ledger> Desk<D, C, H, N> {
         ensures held { EndsHolding result.1 (held_by result.0) }
     {
         let (mut committer, mut pace) = (committer, Pace::new(delay));
+        let mut seen = self.sights(rt);
         for _ in rt.forever() {
             self.gather(rt, &committer, &mut pace);
-            match self.commit_round(rt, &mut committer) {
+            match self.commit_round(rt, &mut committer, &mut seen) {
                 Ok(Round::Committed(_)) => pace.end(rt),
                 Ok(Round::Idle(_)) => {
                     if let Some(over) = self.await_work(rt) {
                         return (committer, Ended::Shut(over));
                     }
                 }
-                Err(RoundFault::Aborted | RoundFault::DeviceFault) => {
+                Err(RoundFault::Aborted(_) | RoundFault::DeviceFault(_)) => {
                     return (committer, Ended::Aborted);
                 }
                 Err(RoundFault::Memory) => return (committer, Ended::Memory),

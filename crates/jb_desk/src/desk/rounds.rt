@@ -6,13 +6,13 @@ ghost use Rattle.jb_desk.specs.Seats.{view_of};
 use crate::committer::{Committer, Round, RoundFault};
 use crate::desk::Desk;
 use crate::held_batch::HeldBatch;
-use crate::queue_state::BookCounts;
+use crate::queue_state::Out;
 use crate::seat::Seat;
 use jb_board::{Prefix, Tickets};
 use jb_book::{Origin, Sights, end_of};
 use jb_deck::{Batch, BatchFault, Done, PrepareFault, Prepared, prepare};
 use jb_disk::{Clock, Disk};
-use jb_handle::{Shape, Words};
+use jb_handle::Words;
 use std::sync::Wait;
 use std::sync::ledger::Ledger;
 
@@ -24,15 +24,16 @@ impl<D: Disk, C: Clock, H: Origin, N: Ledger> Desk<D, C, H, N> {
     ghost use Rattle.jb_desk.specs.Seats.{KeepsSeat, desk_of};
     ghost use Rattle.jb_desk.specs.BatchOut.{IsOut};
     ghost use Rattle.jb_book.specs.CallsToBook.{IsSettling};
-    ghost use Rattle.jb_book.specs.Marks.{HasFailedMark, IsMarked};
+    ghost use Rattle.jb_book.specs.Marks.{HasFailedMark, IsMarked, SeesSame};
     ghost use Rattle.jb_desk.specs.Views.{SeesCommit, SeesRound};
     ghost use Rattle.jb_board.specs.Seats.{given_by};
     ghost use Rattle.jb_board.specs.Steps.{raised_settled};
     ghost use Rattle.jb_desk.specs.declared.committer.RoundFault.TheVariants.{Aborted, DeviceFault};
+    ghost use Rattle.jb_desk.specs.declared.queue_state.aborted.HasAborted.{HasAborted};
 
     /// Commits the batch that the committer holds, or else all handles that have stopped since the last batch
-    /// was taken (`jbd2_journal_commit_transaction`), and settles them. The book is not locked while the disk is
-    /// at work.
+    /// was taken (`jbd2_journal_commit_transaction`), with all that were seen, and settles them. The book is not locked
+    /// while the disk is at work.
     ///
     /// # Errors
     ///
@@ -43,34 +44,36 @@ impl<D: Disk, C: Clock, H: Origin, N: Ledger> Desk<D, C, H, N> {
         &self,
         rt: &R,
         committer: &mut Committer<H, N>,
+        seen: &mut Sights<D, H>,
     ) -> Result<Round, RoundFault>
         requires { desk_of (seat_of committer.old) ≡ desk_id self.now }
         ensures seat { KeepsSeat (seat_of committer.old) (seat_of committer.new) }
         ensures answers { AnswersRound (held_by committer.old) (held_by committer.new)
             (view_of (seat_of committer.new)).settled result }
-        ensures idle { IdleKeeps (seat_of committer.old) (seat_of committer.new) result }
-        ensures view { SeesRound (held_by committer.old) (held_by committer.new) (view_of (seat_of committer.old))
-            (view_of (seat_of committer.new)) result }
-        ensures round { CommitsRound D.Disk H.begun (held_by committer.old) (held_by committer.new)
-            (view_of (seat_of committer.new)).settled result }
-        ensures cut { CutsRound D.Disk H.begun (held_by committer.old) result }
+        ensures idle { IdleKeeps (length seen.old.stops) (seat_of committer.old) (seat_of committer.new) result }
+        ensures view { SeesRound (length seen.old.stops) (held_by committer.old) (held_by committer.new)
+            (view_of (seat_of committer.old)) (view_of (seat_of committer.new)) result }
+        ensures round { CommitsRound D.Disk H.begun (length seen.old.stops) (held_by committer.old)
+            (held_by committer.new) (view_of (seat_of committer.new)).settled result }
+        ensures kept { SeesSame seen.old seen.new }
+        ensures cut { CutsRound D.Disk H.begun (length seen.old.stops) (held_by committer.old) result }
     {
         let held = committer.batch.take();
         let mut counter = self.counter.lock(rt);
-        let Some(held) = counter.next_batch(&self.histories.stops, held)? else {
+        let Some(held) = counter.next_batch(&self.histories.stops, seen, held)? else {
             return Ok(Round::Idle(counter.no_batch()));
         };
         drop(counter);
-        let (batch, tickets, sight, seen) = held.end();
+        let (batch, tickets, sight, out) = held.end();
         let end = past(&batch);
         self.board
             .raise_stopped(&mut committer.seat.board, end, &tickets);
         self.board
-            .raise_taken(&mut committer.seat.board, end, &seen);
+            .raise_taken(&mut committer.seat.board, end, out.counts());
         match prepare(self.alloc, batch) {
-            Ok(prepared) => self.commit(rt, committer, prepared, (tickets, sight, seen)),
+            Ok(prepared) => self.commit(rt, committer, prepared, (tickets, sight, out)),
             Err((batch, fault)) => {
-                committer.hold(HeldBatch::of(batch, tickets, sight, seen));
+                committer.hold(HeldBatch::of(batch, tickets, sight, out));
                 match fault {
                     PrepareFault::Memory => Err(RoundFault::Memory),
                     // a batch of a book has a cut
@@ -86,88 +89,90 @@ impl<D: Disk, C: Clock, H: Origin, N: Ledger> Desk<D, C, H, N> {
         rt: &R,
         committer: &mut Committer<H, N>,
         prepared: Prepared,
-        held: (Tickets<H>, Prefix<Words, H>, BookCounts),
+        held: (Tickets<H>, Prefix<Words, H>, Out),
     ) -> Result<Round, RoundFault>
         requires desk { desk_of (seat_of committer.old) ≡ desk_id self.now }
         requires free { held_by committer.old ≡ None }
-        requires out { IsOut H.begun prepared.batch (given_by held.0) held.1 held.2.taken }
+        requires out { IsOut H.begun prepared.batch (given_by held.0) held.1 held.2 }
         requires taken { end_in prepared.batch ≤ (view_of (seat_of committer.old)).taken }
         ensures seat { KeepsSeat (seat_of committer.old) (seat_of committer.new) }
         ensures answers { AnswersRound (Some prepared.batch) (held_by committer.new)
             (view_of (seat_of committer.new)).settled result }
         ensures view { SeesCommit prepared.batch (view_of (seat_of committer.old)) (view_of (seat_of committer.new))
             result }
-        ensures round { CommitsRound D.Disk H.begun (Some prepared.batch) (held_by committer.new)
+        ensures round { CommitsRound D.Disk H.begun 0 (Some prepared.batch) (held_by committer.new)
             (view_of (seat_of committer.new)).settled result }
     {
-        let (tickets, sight, taken) = held;
+        let (tickets, sight, out) = held;
         // for the proof alone: only the clause of this method says that the cut is a least one
         let _groups = prepared.groups();
-        let end = past(prepared.batch());
-        let shape = prepared.batch().shape();
         // bound first, so that the lock is free again before the book's is taken
         let (result, mut seen) = self.works.lock(rt).commit(prepared, &self.histories, sight);
         match result {
             Ok(done) => {
-                let settled = self.settle(rt, &mut committer.seat, &mut seen, &done, end, shape);
+                let settled = self.settle(rt, &mut committer.seat, &mut seen, &done, out);
                 Round::settled(done, settled)
             }
             Err(BatchFault::DeviceFault { settled }) => {
-                Err(self.settle_last(rt, &mut committer.seat, &mut seen, &settled, end, shape))
+                Err(self.settle_last(rt, &mut committer.seat, &mut seen, &settled, out))
             }
             Err(BatchFault::Aborted(prepared)) => {
                 lose(prepared);
-                self.fail(rt, &mut seen);
-                Err(RoundFault::Aborted)
+                let failed = self.fail(rt, &mut seen);
+                out.lose(&failed);
+                Err(RoundFault::Aborted(failed))
             }
             Err(BatchFault::Memory(prepared)) => {
-                committer.hold_again(prepared, tickets, seen, taken);
+                committer.hold_again(prepared, tickets, seen, out);
                 Err(RoundFault::Memory)
             }
             Err(BatchFault::WrongTicket(prepared, _)) => {
-                committer.hold_again(prepared, tickets, seen, taken);
+                committer.hold_again(prepared, tickets, seen, out);
                 Err(RoundFault::Refused)
             }
             Err(BatchFault::OtherShape(prepared)) => {
-                committer.hold_again(prepared, tickets, seen, taken);
+                committer.hold_again(prepared, tickets, seen, out);
                 Err(RoundFault::Refused)
             }
             Err(BatchFault::NumbersSpent(prepared)) => {
-                committer.hold_again(prepared, tickets, seen, taken);
+                committer.hold_again(prepared, tickets, seen, out);
                 Err(RoundFault::Refused)
             }
         }
     }
 
-    /// Settles a batch that is committed: one of this shape that ends at this ticket, whose handles were seen, and its
-    /// groups at a mark.
+    /// Settles a batch that is committed: one whose handles were seen, and its groups at a mark.
     fn settle<R: Wait>(
         &self,
         rt: &R,
         seat: &mut Seat<H, N>,
         seen: &mut Sights<D, H>,
         done: &Done,
-        end: u64,
-        shape: Shape,
+        out: Out,
     ) -> Result<(), RoundFault>
         requires desk { desk_of seat.old ≡ desk_id self.now }
-        requires settling { IsSettling seen.old.stops end shape done.now }
+        requires settling { IsSettling seen.old.stops out.counts.taken out.shape done.now }
+        requires first { first_ticket done.now ≡ out.counts.settled }
         requires marked { All (IsMarked seen.old.marks) (entries_of done.now) }
         requires taken { past_after (first_ticket done.now) (entries_of done.now) ≤ (view_of seat.old).taken }
         ensures seat { KeepsSeat seat.old seat.new }
         ensures view { OnOk result (view_of seat.new ≡ raised_settled (view_of seat.old)
             (past_after (first_ticket done.now) (entries_of done.now))) }
-        ensures failed { IfErr result (λ fault. (fault ≡ Aborted) × (seat.new ≡ seat.old)) }
+        ensures failed { IfErr result (λ fault. (failed : HasAborted) × (fault ≡ Aborted failed)
+            × (seat.new ≡ seat.old)) }
     {
         let mut counter = self.counter.lock(rt);
-        let settled = counter.settle(&self.histories, seen, done, end, shape);
+        let settled = counter.settle(&self.histories, seen, done, out);
+        let Ok(()) = settled else {
+            let failed = counter.failed();
+            drop(counter);
+            self.signals.tell();
+            self.waits.wake_all();
+            return Err(RoundFault::Aborted(failed));
+        };
         let (counts, is_odd) = (counter.seen(), counter.is_odd());
         drop(counter);
         self.signals.tell();
-        let Ok(()) = settled else {
-            self.waits.wake_all();
-            return Err(RoundFault::Aborted);
-        };
         self.waits.wake(rt, is_odd);
         self.board
             .raise_settled(&mut seat.board, end_of(done), &counts);
@@ -182,31 +187,35 @@ impl<D: Disk, C: Clock, H: Origin, N: Ledger> Desk<D, C, H, N> {
         seat: &mut Seat<H, N>,
         seen: &mut Sights<D, H>,
         done: &Done,
-        end: u64,
-        shape: Shape,
+        out: Out,
     ) -> RoundFault
         requires desk { desk_of seat.old ≡ desk_id self.now }
-        requires settling { IsSettling seen.old.stops end shape done.now }
+        requires settling { IsSettling seen.old.stops out.counts.taken out.shape done.now }
+        requires first { first_ticket done.now ≡ out.counts.settled }
         requires marked { All (IsMarked seen.old.marks) (entries_of done.now) }
         requires failed { HasFailedMark seen.old.marks }
         requires taken { past_after (first_ticket done.now) (entries_of done.now) ≤ (view_of seat.old).taken }
         ensures seat { KeepsSeat seat.old seat.new }
-        ensures view { ((result ≡ DeviceFault) × (view_of seat.new ≡ raised_settled (view_of seat.old)
-            (past_after (first_ticket done.now) (entries_of done.now))))
-            ⊎ ((result ≡ Aborted) × (seat.new ≡ seat.old)) }
+        ensures view { (failed : HasAborted) × (((result ≡ DeviceFault failed) × (view_of seat.new ≡
+            raised_settled (view_of seat.old) (past_after (first_ticket done.now) (entries_of done.now))))
+            ⊎ ((result ≡ Aborted failed) × (seat.new ≡ seat.old))) }
     {
         let mut counter = self.counter.lock(rt);
-        let settled = counter.settle_last(&self.histories, seen, done, end, shape);
-        let counts = counter.seen();
+        let settled = counter.settle_last(&self.histories, seen, done, out);
+        let Ok(()) = settled else {
+            let failed = counter.failed();
+            drop(counter);
+            self.signals.tell();
+            self.waits.wake_all();
+            return RoundFault::Aborted(failed);
+        };
+        let (counts, failed) = (counter.seen(), counter.failed());
         drop(counter);
         self.signals.tell();
         self.waits.wake_all();
-        let Ok(()) = settled else {
-            return RoundFault::Aborted;
-        };
         self.board
             .raise_settled(&mut seat.board, end_of(done), &counts);
-        RoundFault::DeviceFault
+        RoundFault::DeviceFault(failed)
     }
 }
 

@@ -13,6 +13,15 @@ pub(crate) struct BookCounts {
     settled: u64,
 }
 
+impl BookCounts {
+    /// The tickets below it were taken.
+    pub fn taken(&self) -> u64
+        ensures { result ≡ self.now.taken }
+    {
+        self.taken
+    }
+}
+
 impl<D: Disk, H: Origin, N: Ledger> QueueState<D, H, N> {
     /// How far the book has come.
     pub fn seen(&self) -> BookCounts

@@ -1,25 +1,26 @@
 //! The book's part in a round of a committer.
-ghost use Rattle.std.specs.Prelude.{◌≡◌, ◌↔◌, IsTrue, true, false, All, OnOk, IfErr, IfOk, IfNone};
+ghost use Rattle.std.specs.Prelude.{◌≡◌, ◌↔◌, ◌≤◌, IsTrue, true, false, All, length, is_some};
+ghost use Rattle.std.specs.Prelude.{OnOk, IfErr, IfOk, IfSome, IfNone};
 
 use crate::committer::RoundFault;
 use crate::held_batch::HeldBatch;
-use crate::queue_state::QueueState;
+use crate::queue_state::{HasAborted, Out, QueueState};
 use jb_board::History;
 use jb_book::{Histories, Origin, Sights, WrongBatch};
 use jb_deck::Done;
 use jb_disk::Disk;
-use jb_handle::{Shape, Words};
+use jb_handle::Words;
 use std::sync::ledger::Ledger;
 
 impl<D: Disk, H: Origin, N: Ledger> QueueState<D, H, N> {
     ghost use Rattle.jb_book.specs.Account.{failed_of, CanTake};
-    ghost use Rattle.jb_desk.specs.Rounds.{GivesBatch, GivesUp, Rests};
+    ghost use Rattle.jb_desk.specs.Rounds.{GivesBatch, GivesUp, Rests, TakesQueue};
     ghost use Rattle.jb_book.specs.CallsToBook.{FailsAfter, IsSettling, SettlesOrFails};
     ghost use Rattle.jb_book.specs.Marks.{HasFailedMark, IsMarked, SeesSame};
-    ghost use Rattle.jb_deck.specs.Done.{entries_of};
+    ghost use Rattle.jb_deck.specs.Done.{entries_of, first_ticket};
 
-    /// The batch of a round: the one that the committer holds, or else the whole queue. `None` where there is
-    /// nothing to take.
+    /// The batch of a round: the one that the committer holds, or else the whole queue, with all handles that were seen
+    /// and not taken before. `None` where there is nothing to take.
     ///
     /// # Errors
     ///
@@ -27,32 +28,43 @@ impl<D: Disk, H: Origin, N: Ledger> QueueState<D, H, N> {
     pub fn next_batch(
         &mut self,
         history: &History<Words, H>,
+        seen: &mut Sights<D, H>,
         held: Option<HeldBatch<H>>,
     ) -> Result<Option<HeldBatch<H>>, RoundFault>
         ensures batch { GivesBatch result held self.old.register.book self.new.register.book }
         ensures none { IfOk result (λ given. IfNone given
             ((self.new.register.book.aborted ≡ false) × (CanTake self.new.register.book → ⊥))) }
+        ensures all { length seen.old.stops ≤ self.new.register.book.shadow.next }
+        ensures kept { SeesSame seen.old seen.new }
     {
+        self.register.look(history, &mut seen.stops);
         match held {
             Some(batch) if self.register.book().is_aborted() => {
-                batch.lose();
-                Err(RoundFault::Aborted)
+                let failed = self.failed();
+                batch.lose(&failed);
+                Err(RoundFault::Aborted(failed))
             }
-            None if self.register.book().is_aborted() => Err(RoundFault::Aborted),
+            None if self.register.book().is_aborted() => Err(RoundFault::Aborted(self.failed())),
             Some(batch) => Ok(Some(batch)),
-            None => match self.register.take(history) {
-                Some((batch, sight)) => {
-                    self.is_odd = !self.is_odd;
-                    let (tickets, seen) = (self.tickets(), self.seen());
-                    Ok(Some(HeldBatch::of(batch, tickets, sight, seen)))
-                }
-                None => Ok(None),
-            },
+            None => Ok(self.take(history)),
         }
     }
 
-    /// Settles a batch that is committed whole: one of this shape that ends at this ticket, whose handles were seen,
-    /// and its groups at a mark.
+    /// The whole queue, where there is a batch to take.
+    fn take(&mut self, history: &History<Words, H>) -> Option<HeldBatch<H>>
+        ensures batch { IfSome result (λ b. CanTake self.old.register.book
+            × TakesQueue b self.old.register.book self.new.register.book) }
+        ensures none { IfNone result ((CanTake self.old.register.book → ⊥)
+            × (self.new.register.book ≡ self.old.register.book)) }
+    {
+        // for the proof alone: only the clause of a method says that the book is sound
+        let _reserved = self.register.book().reserved();
+        let (batch, sight) = self.register.take(history)?;
+        self.is_odd = !self.is_odd;
+        Some(HeldBatch::of(batch, self.tickets(), sight, self.out()))
+    }
+
+    /// Settles a batch that is committed whole: one whose handles were seen, and its groups at a mark.
     ///
     /// # Errors
     ///
@@ -62,18 +74,21 @@ impl<D: Disk, H: Origin, N: Ledger> QueueState<D, H, N> {
         histories: &Histories<D, H>,
         seen: &mut Sights<D, H>,
         done: &Done,
-        end: u64,
-        shape: Shape,
+        out: Out,
     ) -> Result<(), WrongBatch>
-        requires settling { IsSettling seen.old.stops end shape done.now }
+        requires settling { IsSettling seen.old.stops out.counts.taken out.shape done.now }
+        requires first { first_ticket done.now ≡ out.counts.settled }
         requires marked { All (IsMarked seen.old.marks) (entries_of done.now) }
-        ensures settles { SettlesOrFails end shape done.now self.old.register.book result self.new.register.book }
+        ensures settles { SettlesOrFails out.counts.taken out.shape done.now self.old.register.book result
+            self.new.register.book }
         ensures kept { SeesSame seen.old seen.new }
     {
+        let (end, shape) = out.end();
         self.register.settle(histories, seen, done, end, shape)
     }
 
-    /// Settles the groups that were committed before the journal failed, as was seen at a mark, and fails with it.
+    /// Settles the groups of a batch that were committed before the journal failed, as was seen at a mark, and fails
+    /// with it.
     ///
     /// # Errors
     ///
@@ -83,25 +98,28 @@ impl<D: Disk, H: Origin, N: Ledger> QueueState<D, H, N> {
         histories: &Histories<D, H>,
         seen: &mut Sights<D, H>,
         done: &Done,
-        end: u64,
-        shape: Shape,
+        out: Out,
     ) -> Result<(), WrongBatch>
-        requires settling { IsSettling seen.old.stops end shape done.now }
+        requires settling { IsSettling seen.old.stops out.counts.taken out.shape done.now }
+        requires first { first_ticket done.now ≡ out.counts.settled }
         requires marked { All (IsMarked seen.old.marks) (entries_of done.now) }
         requires failed { HasFailedMark seen.old.marks }
-        ensures fails { FailsAfter end shape done.now self.old.register.book result self.new.register.book }
+        ensures fails { FailsAfter out.counts.taken out.shape done.now self.old.register.book result
+            self.new.register.book }
         ensures kept { SeesSame seen.old seen.new }
     {
+        let (end, shape) = out.end();
         self.register.settle_last(histories, seen, done, end, shape)
     }
 
     /// The journal has failed, as was seen at a mark: what is queued or taken is lost.
-    pub fn fail(&mut self, histories: &Histories<D, H>, seen: &mut Sights<D, H>)
+    pub fn fail(&mut self, histories: &Histories<D, H>, seen: &mut Sights<D, H>) -> HasAborted
         requires { HasFailedMark seen.old.marks }
         ensures book { self.new.register.book ≡ failed_of self.old.register.book }
         ensures kept { SeesSame seen.old seen.new }
     {
         self.register.fail(histories, seen);
+        self.failed()
     }
 
     /// Lets a batch that is held go where the journal has failed.
@@ -109,27 +127,35 @@ impl<D: Disk, H: Origin, N: Ledger> QueueState<D, H, N> {
     /// # Errors
     ///
     /// The batch, where it has not.
-    pub fn release(&self, batch: HeldBatch<H>) -> Result<(), HeldBatch<H>>
+    pub fn release(&self, batch: HeldBatch<H>) -> Result<HasAborted, HeldBatch<H>>
         ensures lost { OnOk result (self.now.register.book.aborted ≡ true) }
         ensures back { IfErr result (λ back. (self.now.register.book.aborted ≡ false) × (back ≡ batch)) }
     {
         if !self.register.book().is_aborted() {
             return Err(batch);
         }
-        batch.lose();
-        Ok(())
+        let failed = self.failed();
+        batch.lose(&failed);
+        Ok(failed)
     }
 
     /// A committer gives up. A batch that it holds is lost, and the book has failed then: nobody could settle the
     /// batch's tickets any more.
-    pub fn give_up(&mut self, history: &History<Words, H>, held: Option<HeldBatch<H>>)
-        ensures { GivesUp held self.old.register.book self.new.register.book }
+    pub fn give_up(
+        &mut self,
+        history: &History<Words, H>,
+        held: Option<HeldBatch<H>>,
+    ) -> Option<HasAborted>
+        ensures book { GivesUp held self.old.register.book self.new.register.book }
+        ensures told { is_some result ≡ is_some held }
     {
         let Some(held) = held else {
-            return;
+            return None;
         };
-        let (batch, _, sight, _) = held.end();
+        let (batch, _, sight, out) = held.end();
+        let _lost = out.end();
         self.register.give_up(history, sight, batch);
+        Some(self.failed())
     }
 
     /// Whether a committer has nothing to do yet.

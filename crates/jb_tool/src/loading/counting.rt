@@ -33,6 +33,7 @@ pub(crate) fn count_up<D: Drop>(
         trail,
         commit,
         checkpoint,
+        ..
     } = ran;
     if !begins_at_first(&trail) {
         return Err(LoadFault::Accounts);

@@ -12,7 +12,7 @@ returns-in-Some g c =
     let ended = c.in-Some.ensures in
     record {
       closed = IfOk-weaker c.tell.result _ _
-          (λ ran told. closed-as g.D.Disk g.H.Origin.begun c.args.gathered ran closed ended c.args.shape told.5 told.0 told.1 told.2 (ap (λ t. t.items) told.3) told.4)
+          (λ ran told. closed-as g.D.Disk g.H.Origin.begun c.args.gathered ran closed ended c.args.shape told.6 told.0 told.1 told.2 (ap (λ t. t.items) told.3) told.4 told.5)
           c.tell.ensures.told;
       since = IfOk-weaker c.tell.result _ _
           (λ ran told. since-as g.D.Disk g.H.Origin.begun ran closed.disk closed.trail.items told.0 (ap (λ t. t.items) told.3) ended.since)

@@ -9,7 +9,7 @@ use Rattle.jb_journal.proofs.closing.tell.Goals as goal
 use Rattle.jb_journal.proofs.closing.tell.Goals.{else-is_shut-via-then-is_shut+else-settled-handles, else-is_shut-via-else-is_shut}
 
 pub returns-clause-told : goal.returns-clause-told
-returns-clause-told g c = (refl, refl, refl, refl, refl, shape-same c.args.closed.shape c.args.shape c.if-ne.ensures)
+returns-clause-told g c = (refl, refl, refl, refl, refl, refl, shape-same c.args.closed.shape c.args.shape c.if-ne.ensures)
 
 pub returns-clause-ends : goal.returns-clause-ends
 returns-clause-ends g c =

@@ -40,7 +40,7 @@ pub returns-clause-sums : goal.returns-clause-sums
 returns-clause-sums g c = c.close_parts.ensures.sums
 
 pub returns-clause-since : goal.returns-clause-since
-returns-clause-since g c = IfOk-weaker c.close_parts.result _ _ (λ closed ends. ends-since g.D.Disk g.H.Origin.begun _ _ _ _ _ _ _ ends) c.close_parts.ensures.stops
+returns-clause-since g c = IfOk-weaker c.close_parts.result _ _ (λ closed ends. ends-since g.D.Disk g.H.Origin.begun _ _ _ _ _ _ _ ends.marked) c.close_parts.ensures.stops
 
 pub returns-clause-refused : goal.returns-clause-refused
 returns-clause-refused g c = not-closed c.into_inner-counter.result c.into_inner.result c.args.self c.args.lefts c.args.seen c.close_parts.result c.close_parts.ensures.refused

@@ -26,6 +26,8 @@ use Rattle.jb_desk.specs.declared.seat.Seat.{Seat}
 use Rattle.jb_desk.specs.declared.committer.Round.{Round}
 use Rattle.jb_desk.specs.declared.committer.Round.TheVariants.{Committed}
 use Rattle.jb_desk.specs.declared.committer.RoundFault.{RoundFault}
+use Rattle.jb_desk.specs.declared.queue_state.aborted.HasAborted.{HasAborted}
+use Rattle.jb_desk.specs.declared.queue_state.batch_out.Out.{Out}
 use Rattle.jb_desk.specs.declared.committer.RoundFault.TheVariants as round
 use Rattle.jb_desk.proofs.SettledBatch.{settles-whole, whole-past}
 use Rattle.jb_desk.proofs.RoundCounts.{keeps-same, settled-by}
@@ -34,8 +36,8 @@ use Rattle.jb_desk.proofs.desk.Desk.commit.Goals.{After-settled, After-settle_la
 use Rattle.jb_desk.proofs.desk.Desk.commit.Goals as goal
 
 -- a batch that is handed back as it was is out as it was
-out-on : {b : Begun} {batch back : Gathered} {given taken : ℕ} {sight seen : List WordMap} → back ≡ batch → seen ≡ sight → IsOut b batch given sight taken → IsOut b back given seen taken
-out-on {b} {given = given} {taken} same kept out = subst (λ (x : Gathered × List WordMap). IsOut b x.0 given x.1 taken) (λ i. (sym same i, sym kept i)) out
+out-on : {b : Begun} {batch back : Gathered} {given : ℕ} {sight seen : List WordMap} {out : Out} → back ≡ batch → seen ≡ sight → IsOut b batch given sight out → IsOut b back given seen out
+out-on {b} {given = given} {out = out} same kept is = subst (λ (x : Gathered × List WordMap). IsOut b x.0 given x.1 out) (λ i. (sym same i, sym kept i)) is
 
 -- what is told of a commit is told of its fault
 falls : {r : Result Done BatchFault} {found fault : BatchFault} → r ≡ Err found → found ≡ fault → (Told : Result Done BatchFault → Type 0) → Told r → Told (Err fault)
@@ -45,30 +47,30 @@ falls fails is Told told = subst (λ (f : BatchFault). Told (Err f)) is (subst T
 record Ends {D : Type 0} (G : Disks D) (b : Begun) (p : Planned) (after : Option Gathered) (old new : Front) (r : Result Round RoundFault) : Type 0 where
   answers : AnswersRound (Some p.batch) after new.settled r
   view : SeesCommit p.batch old new r
-  round : CommitsRound G b (Some p.batch) after new.settled r
+  round : CommitsRound G b 0 (Some p.batch) after new.settled r
 
 module _ {D H N : Type 0} (G : Disks D) {O : Ghosts H} {P : Places H} (b : Begun) (p : Planned) (done : Done) (after : Option Gathered) (old new : Seat H N O P) (free : after ≡ None) (some : 0 < length p.batch.handles) where
   -- the batch is committed: it is settled whole, unless the book has failed
   settled-whole : (settled : Result Unit RoundFault) (r : Result Round RoundFault) → CommitsAs p (Ok done) → EndsRound G b p (Ok done)
       → OnOk settled (r ≡ Ok (Committed done)) → IfErr settled (λ fault. r ≡ Err fault)
-      → OnOk settled (view_of new ≡ raised_settled (view_of old) (past_after (first_ticket done) (entries_of done))) → IfErr settled (λ fault. (fault ≡ round.Aborted) × (new ≡ old))
+      → OnOk settled (view_of new ≡ raised_settled (view_of old) (past_after (first_ticket done) (entries_of done))) → IfErr settled (λ fault. (at : HasAborted) × (fault ≡ round.Aborted at) × (new ≡ old))
       → Ends G b p after (view_of old) (view_of new) r
   settled-whole (Ok u) r told ends is _ raised _ = subst (Ends G b p after (view_of old) (view_of new)) (sym is) (record {
     answers = (free, settles-whole p done (view_of new).settled some told (settled-by (view_of old) (view_of new) _ raised));
     view = raised ∙ ap (raised_settled (view_of old)) (whole-past p done told);
-    round = (p, record { same = refl; some = some }, ends);
+    round = (p, record { next = refl; some = some }, ends);
   })
-  settled-whole (Err fault) r told ends _ is _ failed = subst (Ends G b p after (view_of old) (view_of new)) (sym (is ∙ ap (λ (f : RoundFault). Err f) failed.0)) (record {
+  settled-whole (Err fault) r told ends _ is _ failed = subst (Ends G b p after (view_of old) (view_of new)) (sym (is ∙ ap (λ (f : RoundFault). Err f) failed.1)) (record {
     answers = free;
-    view = ap (λ s. view_of s) failed.1;
+    view = ap (λ s. view_of s) failed.2;
     round = tt;
   })
 
   -- a first part of it is committed before a failure: this is settled, unless the book has failed
   settled-last : (fault : RoundFault) → CommitsAs p (Err (DeviceFault done)) → EndsRound G b p (Err (DeviceFault done))
-      → ((fault ≡ round.DeviceFault) × (view_of new ≡ raised_settled (view_of old) (past_after (first_ticket done) (entries_of done)))) ⊎ ((fault ≡ round.Aborted) × (new ≡ old))
+      → (at : HasAborted) × (((fault ≡ round.DeviceFault at) × (view_of new ≡ raised_settled (view_of old) (past_after (first_ticket done) (entries_of done)))) ⊎ ((fault ≡ round.Aborted at) × (new ≡ old)))
       → Ends G b p after (view_of old) (view_of new) (Err fault)
-  settled-last fault told ends (inl (is, raised)) = subst (λ (f : RoundFault). Ends G b p after (view_of old) (view_of new) (Err f)) (sym is) (record {
+  settled-last fault told ends (at, inl (is, raised)) = subst (λ (f : RoundFault). Ends G b p after (view_of old) (view_of new) (Err f)) (sym is) (record {
     answers = free;
     view = (
       past_after (first_ticket done) (entries_of done),
@@ -76,9 +78,9 @@ module _ {D H N : Type 0} (G : Disks D) {O : Ghosts H} {P : Places H} (b : Begun
       subst (λ f. past_after f (entries_of done) < end_of p.batch) (sym told.0) told.2,
       raised,
     );
-    round = (p, done, record { same = refl; some = some }, ends, settled-by (view_of old) (view_of new) _ raised);
+    round = (p, done, record { next = refl; some = some }, ends, settled-by (view_of old) (view_of new) _ raised);
   })
-  settled-last fault told ends (inr (is, same)) = subst (λ (f : RoundFault). Ends G b p after (view_of old) (view_of new) (Err f)) (sym is) (record {
+  settled-last fault told ends (at, inr (is, same)) = subst (λ (f : RoundFault). Ends G b p after (view_of old) (view_of new) (Err f)) (sym is) (record {
     answers = free;
     view = ap (λ s. view_of s) same;
     round = tt;
@@ -102,13 +104,16 @@ settle-settled-requires-clause-settling g c =
     record {
       planned = p;
       is = c.groups-groups.ensures.least;
-      shape_is = search rules;
+      shape_is = c.requires.out.shape_is;
       tickets = c.commit-result.ensures.tells.2;
       recorded = subst (λ (l : List WordMap). All (IsInHistory l) p.batch.handles) (sym c.commit-result.ensures.stops) c.requires.out.recorded;
       first = told.0;
-      past = search rules;
+      past = sym c.requires.out.end_is;
       tells = subst (TellsFirst p) c.in-Ok.is c.commit-result.ensures.tells.1;
     }
+
+pub settle-settled-requires-clause-first : goal.settle-settled-requires-clause-first
+settle-settled-requires-clause-first g c = (subst (CommitsAs c.args.prepared) c.in-Ok.is c.commit-result.ensures.tells.0).0 ∙ c.requires.out.first_is
 
 pub settle-settled-requires-clause-marked : goal.settle-settled-requires-clause-marked
 settle-settled-requires-clause-marked g c = subst (MarksSettled c.commit-result.result.1.marks) c.in-Ok.is c.commit-result.ensures.marked
@@ -151,13 +156,16 @@ settle_last-requires-clause-settling g c =
     record {
       planned = p;
       is = c.groups-groups.ensures.least;
-      shape_is = search rules;
+      shape_is = c.requires.out.shape_is;
       tickets = c.commit-result.ensures.tells.2;
       recorded = subst (λ (l : List WordMap). All (IsInHistory l) p.batch.handles) (sym c.commit-result.ensures.stops) c.requires.out.recorded;
       first = (falls c.in-Err-DeviceFault.is c.in-Err-DeviceFault.field-0-is (CommitsAs p) c.commit-result.ensures.tells.0).0;
-      past = search rules;
+      past = sym c.requires.out.end_is;
       tells = falls c.in-Err-DeviceFault.is c.in-Err-DeviceFault.field-0-is (TellsFirst p) c.commit-result.ensures.tells.1;
     }
+
+pub settle_last-requires-clause-first : goal.settle_last-requires-clause-first
+settle_last-requires-clause-first g c = (falls c.in-Err-DeviceFault.is c.in-Err-DeviceFault.field-0-is (CommitsAs c.args.prepared) c.commit-result.ensures.tells.0).0 ∙ c.requires.out.first_is
 
 pub settle_last-requires-clause-marked : goal.settle_last-requires-clause-marked
 settle_last-requires-clause-marked g c = (falls c.in-Err-DeviceFault.is c.in-Err-DeviceFault.field-0-is (MarksSettled c.commit-result.result.1.marks) c.commit-result.ensures.marked).0
@@ -236,7 +244,7 @@ returns-in-Err-WrongTicket-clause-view g c = ap (λ s. view_of s) c.hold_again-i
 pub returns-in-Err-WrongTicket-clause-round : goal.returns-in-Err-WrongTicket-clause-round
 returns-in-Err-WrongTicket-clause-round g c =
     let again = c.hold_again-in-Err-WrongTicket.ensures.1 ∙ ap (λ (x : Planned). Some x.batch) (falls c.in-Err-WrongTicket.is c.in-Err-WrongTicket.field-0-is (CommitsAs c.args.prepared) c.commit-result.ensures.tells.0) in
-    (c.args.prepared, WrongTicket c.in-Err-WrongTicket.prepared c.in-Err-WrongTicket.field-0-1, record { same = refl; some = c.requires.out.some }, again, falls c.in-Err-WrongTicket.is c.in-Err-WrongTicket.field-0-is (EndsRound g.D.Disk g.H.Origin.begun c.args.prepared) c.commit-result.ensures.round)
+    (c.args.prepared, WrongTicket c.in-Err-WrongTicket.prepared c.in-Err-WrongTicket.field-0-1, record { next = refl; some = c.requires.out.some }, again, falls c.in-Err-WrongTicket.is c.in-Err-WrongTicket.field-0-is (EndsRound g.D.Disk g.H.Origin.begun c.args.prepared) c.commit-result.ensures.round)
 
 pub hold_again-requires-in-Err-OtherShape-clause-out : goal.hold_again-requires-in-Err-OtherShape-clause-out
 hold_again-requires-in-Err-OtherShape-clause-out g c = out-on (ap (λ (x : Planned). x.batch) (falls c.in-Err-OtherShape.is c.in-Err-OtherShape.field-0-is (CommitsAs c.args.prepared) c.commit-result.ensures.tells.0)) c.commit-result.ensures.stops c.requires.out
@@ -253,7 +261,7 @@ returns-in-Err-OtherShape-clause-view g c = ap (λ s. view_of s) c.hold_again-in
 pub returns-in-Err-OtherShape-clause-round : goal.returns-in-Err-OtherShape-clause-round
 returns-in-Err-OtherShape-clause-round g c =
     let again = c.hold_again-in-Err-OtherShape.ensures.1 ∙ ap (λ (x : Planned). Some x.batch) (falls c.in-Err-OtherShape.is c.in-Err-OtherShape.field-0-is (CommitsAs c.args.prepared) c.commit-result.ensures.tells.0) in
-    (c.args.prepared, OtherShape c.in-Err-OtherShape.prepared, record { same = refl; some = c.requires.out.some }, again, falls c.in-Err-OtherShape.is c.in-Err-OtherShape.field-0-is (EndsRound g.D.Disk g.H.Origin.begun c.args.prepared) c.commit-result.ensures.round)
+    (c.args.prepared, OtherShape c.in-Err-OtherShape.prepared, record { next = refl; some = c.requires.out.some }, again, falls c.in-Err-OtherShape.is c.in-Err-OtherShape.field-0-is (EndsRound g.D.Disk g.H.Origin.begun c.args.prepared) c.commit-result.ensures.round)
 
 pub hold_again-requires-in-Err-NumbersSpent-clause-out : goal.hold_again-requires-in-Err-NumbersSpent-clause-out
 hold_again-requires-in-Err-NumbersSpent-clause-out g c = out-on (ap (λ (x : Planned). x.batch) (falls c.in-Err-NumbersSpent.is c.in-Err-NumbersSpent.field-0-is (CommitsAs c.args.prepared) c.commit-result.ensures.tells.0)) c.commit-result.ensures.stops c.requires.out
@@ -270,4 +278,4 @@ returns-in-Err-NumbersSpent-clause-view g c = ap (λ s. view_of s) c.hold_again-
 pub returns-in-Err-NumbersSpent-clause-round : goal.returns-in-Err-NumbersSpent-clause-round
 returns-in-Err-NumbersSpent-clause-round g c =
     let again = c.hold_again-in-Err-NumbersSpent.ensures.1 ∙ ap (λ (x : Planned). Some x.batch) (falls c.in-Err-NumbersSpent.is c.in-Err-NumbersSpent.field-0-is (CommitsAs c.args.prepared) c.commit-result.ensures.tells.0) in
-    (c.args.prepared, NumbersSpent c.in-Err-NumbersSpent.prepared, record { same = refl; some = c.requires.out.some }, again, falls c.in-Err-NumbersSpent.is c.in-Err-NumbersSpent.field-0-is (EndsRound g.D.Disk g.H.Origin.begun c.args.prepared) c.commit-result.ensures.round)
+    (c.args.prepared, NumbersSpent c.in-Err-NumbersSpent.prepared, record { next = refl; some = c.requires.out.some }, again, falls c.in-Err-NumbersSpent.is c.in-Err-NumbersSpent.field-0-is (EndsRound g.D.Disk g.H.Origin.begun c.args.prepared) c.commit-result.ensures.round)

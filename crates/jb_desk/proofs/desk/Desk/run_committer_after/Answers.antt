@@ -23,12 +23,12 @@ within-settled v past settled = (omega arith, omega arith, omega arith)
 commit-rises : (b : Gathered) (v w : Front) (r : Result Round RoundFault) → SeesCommit b (with_taken (end_of b) v) w r → IsWithin v w
 commit-rises b v w (Ok (Idle seen)) is = absurd is
 commit-rises b v w (Ok (Committed done)) is = subst (IsWithin v) (sym is) (within-settled v (end_of b) (end_of b))
-commit-rises b v w (Err DeviceFault) (lost, from, to, is) = subst (IsWithin v) (sym is) (within-settled v (end_of b) lost)
+commit-rises b v w (Err (DeviceFault failed)) (lost, from, to, is) = subst (IsWithin v) (sym is) (within-settled v (end_of b) lost)
 commit-rises b v w (Err fault) is = subst (IsWithin v) (sym is) (omega arith, omega arith, omega arith)
 
-round-rises : (held after : Option Gathered) (v w : Front) (r : Result Round RoundFault) → SeesRound held after v w r → IsWithin v w
-round-rises held after v w r (inl none) = subst (IsWithin v) (sym none.1) (omega arith, omega arith, omega arith)
-round-rises held after v w r (inr (b, up, answers, is)) = commit-rises b v w r is
+round-rises : (seen : ℕ) (held after : Option Gathered) (v w : Front) (r : Result Round RoundFault) → SeesRound seen held after v w r → IsWithin v w
+round-rises seen held after v w r (inl none) = subst (IsWithin v) (sym none.1) (omega arith, omega arith, omega arith)
+round-rises seen held after v w r (inr (b, up, answers, is)) = commit-rises b v w r is
 
 -- what was within the first is within the second
 within-on : (u v w : Front) → IsWithin u v → IsWithin v w → IsWithin u w
@@ -38,7 +38,7 @@ within-on u v w first second = (omega arith, omega arith, omega arith)
 on : (g : Over) (c : After-commit_round g) → KeepsSeat (seat_of c.args.committer) (seat_of c.commit_round.new.committer) × IsWithin (view_of (seat_of c.args.committer)) (view_of (seat_of c.commit_round.new.committer))
 on g c = (
   keeps-on _ _ _ c.loop.invariant.2 c.commit_round.ensures.seat,
-  within-on _ _ _ c.loop.invariant.3 (round-rises (held_by c.loop.committer) (held_by c.commit_round.new.committer) _ _ c.commit_round.result c.commit_round.ensures.view),
+  within-on _ _ _ c.loop.invariant.3 (round-rises _ (held_by c.loop.committer) (held_by c.commit_round.new.committer) _ _ c.commit_round.result c.commit_round.ensures.view),
 )
 
 pub returns-in-Some-await_work : goal.returns-in-Some-await_work

@@ -5,8 +5,8 @@ use Rattle.jb_desk.proofs.desk.Desk.settle.Goals as goal
 
 pub raise_settled-requires-clause-seen : goal.raise_settled-requires-clause-seen
 raise_settled-requires-clause-seen g c =
-    let upto = settled-seen c.args.end c.args.shape c.args.done.now _ c.settle-settled.new.self.register.book c.in-Ok.ensures.settles in
-    let same : c.deref.result.now.register.book.shadow.settled ≡ c.settle-settled.new.self.register.book.shadow.settled = search rules in
+    let upto = settled-seen c.args.out.counts.taken c.args.out.shape c.args.done.now _ c.settle-settled.new.self.register.book c.in-Ok.ensures.settles in
+    let same : c.deref-2.result.now.register.book.shadow.settled ≡ c.settle-settled.new.self.register.book.shadow.settled = search rules in
     omega (arith, upto, same, c.end_of.ensures, c.seen-counts.ensures.counts.1)
 
 pub returns-clause-seat : goal.returns-clause-seat

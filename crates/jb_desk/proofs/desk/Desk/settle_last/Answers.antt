@@ -7,8 +7,8 @@ use Rattle.jb_desk.proofs.desk.Desk.settle_last.Goals as goal
 
 pub raise_settled-requires-clause-seen : goal.raise_settled-requires-clause-seen
 raise_settled-requires-clause-seen g c =
-    let upto = failed-seen c.args.end c.args.shape c.args.done.now _ c.settle_last-settled.new.self.register.book c.in-Ok.ensures.fails in
-    let same : c.deref.result.now.register.book.shadow.settled ≡ c.settle_last-settled.new.self.register.book.shadow.settled = search rules in
+    let upto = failed-seen c.args.out.counts.taken c.args.out.shape c.args.done.now _ c.settle_last-settled.new.self.register.book c.in-Ok.ensures.fails in
+    let same : c.deref-2.result.now.register.book.shadow.settled ≡ c.settle_last-settled.new.self.register.book.shadow.settled = search rules in
     omega (arith, upto, same, c.end_of.ensures, c.seen-counts.ensures.counts.1)
 
 pub returns-clause-seat : goal.returns-clause-seat
@@ -18,7 +18,7 @@ pub returns-in_default-clause-seat : goal.returns-in_default-clause-seat
 returns-in_default-clause-seat g c = keeps-same _ _ refl
 
 pub returns-clause-view : goal.returns-clause-view
-returns-clause-view g c = inl (refl, c.raise_settled.ensures.view ∙ ap (raised_settled (view_of c.args.seat.now)) c.end_of.ensures)
+returns-clause-view g c = (_, inl (refl, c.raise_settled.ensures.view ∙ ap (raised_settled (view_of c.args.seat.now)) c.end_of.ensures))
 
 pub returns-in_default-clause-view : goal.returns-in_default-clause-view
-returns-in_default-clause-view g c = inr (refl, refl)
+returns-in_default-clause-view g c = (_, inr (refl, refl))

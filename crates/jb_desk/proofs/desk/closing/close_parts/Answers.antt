@@ -6,6 +6,8 @@ use Rattle.jb_board.proofs.EntryPlaces.{all-first, at-place, placed_on}
 use Rattle.jb_book.specs.History.{IsStop}
 use Rattle.jb_book.specs.SinceMark.{Lasts}
 use Rattle.jb_book.proofs.StopHistories.{marked-weaker, of-begun, stop-on}
+use Rattle.jb_book.proofs.HomesAtEnd.{are-home}
+use Rattle.jb_book.specs.AtHome.{AreHome}
 use Rattle.jb_desk.proofs.desk.closing.close_parts.Goals as goal
 
 pub returns-clause-sums : goal.returns-clause-sums
@@ -21,19 +23,26 @@ returns-clause-stops g c =
     let since = c.end-deck.ensures.since in
     let is = marked-weaker g.D.Disk b (IsStop b c.end-deck.result.2) (IsStop b log) (stop-on b c.end-deck.result.2 log c.check.ensures.sight) marks deck since in
     record {
-      ends = record {
-        log = log;
-        number = search rules;
-        stopped = search rules;
-        deck = deck;
-        same_disk = sym c.close.ensures.value;
-        same_shape = sym c.shape-shape.ensures.value;
-        same_trail = search rules;
-        since = is.since;
-        journal = λ known_start held. of-begun g.D.Disk b (IsStop b c.end-deck.result.2) deck shape c.shape-shape.ensures.journal since.since known_start (subst g.D.Disk.honest c.close.ensures.value held);
+      marked = record {
+        ends = record {
+          log = log;
+          number = search rules;
+          stopped = search rules;
+          deck = deck;
+          same_disk = sym c.close.ensures.value;
+          same_shape = sym c.shape-shape.ensures.value;
+          same_trail = search rules;
+          since = is.since;
+          journal = λ known_start held. of-begun g.D.Disk b (IsStop b c.end-deck.result.2) deck shape c.shape-shape.ensures.journal since.since known_start (subst g.D.Disk.honest c.close.ensures.value held);
+        };
+        knows = subst (λ (l : List WordMap). IsPrefix c.args.seen.stops l) c.check.ensures.kept c.check-2.ensures.sight;
+        last = all-first (Lasts g.D.Disk b is.since.given deck) c.args.seen.marks marks c.learn.ensures.own is.marks_last;
       };
-      knows = subst (λ (l : List WordMap). IsPrefix c.args.seen.stops l) c.check.ensures.kept c.check-2.ensures.sight;
-      last = all-first (Lasts g.D.Disk b is.since.given deck) c.args.seen.marks marks c.learn.ensures.own is.marks_last;
+      used = c.used_of-in_log.ensures.used;
+      home = λ zero known_start held.
+          let none = c.used_of-in_log.ensures.none zero in
+          let there = is.since.since known_start (subst g.D.Disk.honest c.close.ensures.value held) in
+          subst (AreHome g.D.Disk b is.since.given) (sym c.close.ensures.value) (are-home g.D.Disk b is.since.given deck there none.0 none.1);
     }
 
 -- the book's shape is that of the journal at a mark, and so its shape now

@@ -1,0 +1,52 @@
+//! That a batch is out.
+ghost use Rattle.std.specs.Prelude.{◌≡◌};
+
+use crate::queue_state::{BookCounts, HasAborted, QueueState};
+use jb_book::Origin;
+use jb_disk::Disk;
+use jb_handle::Shape;
+use std::sync::ledger::Ledger;
+
+/// A batch is out: the tickets that were taken from a book and not settled when it was looked at, for a journal of this
+/// shape. It must be used up, under the book's lock: the batch is settled or given up, or the book has failed.
+#[must_use]
+pub(crate) struct Out {
+    counts: BookCounts,
+    shape: Shape,
+}
+
+impl Out {
+    /// How far the book had come when the batch was taken.
+    pub fn counts(&self) -> &BookCounts
+        ensures { result.now ≡ self.now.counts }
+    {
+        &self.counts
+    }
+
+    /// The batch is out no more, as its book has failed.
+    pub fn lose(self, _failed: &HasAborted) {
+        let _lost = self.end();
+    }
+
+    /// The batch is out no more. Gives the ticket after its last handle, and its shape.
+    pub(super) fn end(self) -> (u64, Shape)
+        ensures { (result.0 ≡ self.counts.taken) × (result.1 ≡ self.shape) }
+    {
+        let Out { counts, shape } = self;
+        (counts.taken(), shape)
+    }
+}
+
+impl<D: Disk, H: Origin, N: Ledger> QueueState<D, H, N> {
+    /// That the tickets are out which are taken and not settled.
+    pub(super) fn out(&self) -> Out
+        ensures tickets { (result.counts.settled ≡ self.now.register.book.shadow.settled)
+            × (result.counts.taken ≡ self.now.register.book.shadow.taken) }
+        ensures shape { result.shape ≡ self.now.register.book.shape }
+    {
+        Out {
+            counts: self.seen(),
+            shape: self.register.book().shape(),
+        }
+    }
+}
