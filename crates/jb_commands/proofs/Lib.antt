@@ -2,7 +2,7 @@ pub mod CatBlocks
 pub mod CertLength
 pub mod CommandEnds
 pub mod ComparedLists
-pub mod DumpWords
+pub mod DumpedSystem
 pub mod FoundSuper
 pub mod Judgement
 pub mod LineByLine
