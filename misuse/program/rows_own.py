@@ -73,7 +73,7 @@ row("recover a", 1, err="jb: Super NoMagic\n", files={"a": ext(FULL)["a"][:2047]
 
 OLD_LOG, NO_LOG, NARROW = image(CLEAN, OLD), image(superblock(0), CLEARED), image(SMALL, OLD)
 CHANGES = [("renumber a", "renumbered blocks 2 next 1\n", OLD_LOG, NO_LOG), ("widen a", "widened limit 8\n", NARROW, WIDENED), ("widen a", "already wide limit 8\n", WIDENED, WIDENED)]
-for kind, parts, said in (EXTENTS, ((20, 33),), "20-52"), (BLOCK_MAP, ((40, 10), (16, 23)), "40-49,~16-38"), (EXTENTS, ((59, 1), (30, 12), (20, 10), (45, 10)), "59,~30-41,~20-29,~45-54"):
+for kind, parts, said in (EXTENTS, ((20, 33),), "20-52"), (BLOCK_MAP, ((40, 10), (16, 23)), "40-49,~16-38"), (EXTENTS, ((59, 1), (30, 12), (60, 20)), "59,~30-41,~60-79"):
     for more in "", " --extents " + said:
         for words, line, before, after in CHANGES:
             row(words + more, 0, line, files=ext(before, parts, kind), after=ext(after, parts, kind) if before != after else {})
@@ -114,7 +114,7 @@ for given in dict(stdin=b"20-29,\n30-52\n"), dict(list=b"20-29, 30-52"):
         row(words + word, 0, line, files={**ext(before), **lists}, stdin=stdin, after=ext(after))
     row("dump a" + word, 0, DUMPED, files={**ext(FULL), **lists}, stdin=stdin)
 # what is dumped of a journal within its file system, or in a file of its own, is what is dumped of the journal alone
-for words, numbers in ((" --home 7", [2]), (" --super", [0, 1]), (" --last 0", [0, 1, 5])):
+for words, numbers in ((" --home 7", [2]), (" --super", [0, 1]), (" --last 0", [0, 1, 6])):
     row("dump a" + words, 0, "".join(DUMPED.splitlines(True)[n] for n in numbers), files=ext(FULL))
     row("dump a --extents 20-52" + words, 0, "".join(DUMPED.splitlines(True)[n] for n in numbers), files=ext(FULL))
     row("dump a --journal j" + words, 0, "".join(DUMPED.splitlines(True)[n] for n in numbers), files=parted(FULL))
