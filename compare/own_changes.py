@@ -138,8 +138,9 @@ class Changes:
         if recovery.perhaps and fault.startswith("jb: FileSystem Clean"):
             return None if kept else "something is written"
         if recovery.fault is None:
-            is_right = status == 0 and line == recovery.line and self.recovered(recovery)
-            return None if is_right else "not recovered as %s by the %s" % (recovery.line, recovery.by)
+            meant = recovery.line + (" backup" if recovery.by == "backup" else "")
+            is_right = status == 0 and line == meant and self.recovered(recovery)
+            return None if is_right else "not recovered as %s by the %s" % (meant, recovery.by)
         if status is None or status <= 0 or not fault.startswith("jb: "):
             return "no fault, but %s" % recovery.fault
         return None if kept else "something is written"
