@@ -4,7 +4,7 @@ use Rattle.jb_disk.specs.Image.{Image}
 use Rattle.jb_super.specs.Superblock.{Superblock}
 use Rattle.jb_handle.specs.Words.{word}
 use Rattle.jb_cost.specs.Pieces.{joined}
-use Rattle.jb_log.specs.Follows.{Follows, RecoversWith, HoldsBy, next_on}
+use Rattle.jb_log.specs.Follows.{Follows, RecoversWith, HoldsBy, OldHeaders, next_on}
 use Rattle.jb_deck.specs.GroupByGroup.{handles_to}
 use Rattle.jb_deck.proofs.Lives.{one-super}
 use Rattle.proof_clients.specs.Examples.{wrote_from}
@@ -50,6 +50,15 @@ module _ (own : Superblock) (next size count : ℕ) (old new : List ℕ) (c : Im
     from = from;
     to = omega arith;
     recovers = record { follows = follows-wrote own (next + 2) size count old new (take 2 lists) c (tt, (tt, tt)) none; headers = none.headers };
+  }
+
+  -- so may one with none of them, where none was settled
+  pub left-none : RecoversWith own next size count (with_new [] old new) [] c → MayBeLeft own next size count 0 old new c
+  left-none none = record {
+    groups = 0;
+    from = omega arith;
+    to = omega arith;
+    recovers = record { follows = follows-wrote own next size count old new (take 0 lists) c tt none; headers = subst (λ n. OldHeaders own n size count c) (omega arith) none.headers };
   }
 
   -- it is not the first groups, so many, that the image shows

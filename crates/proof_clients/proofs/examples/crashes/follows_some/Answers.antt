@@ -1,5 +1,5 @@
 use Rattle.std.proofs.Common.{sym, arith}
-use Rattle.proof_clients.proofs.ExampleCrashes.{left-two, not-left}
+use Rattle.proof_clients.proofs.ExampleCrashes.{left-none, left-two, not-left}
 use Rattle.proof_clients.proofs.examples.crashes.follows_some.Goals as goal
 
 pub returns-clause-meets : goal.returns-clause-meets
@@ -7,6 +7,9 @@ returns-clause-meets c own next size count old new image none = left-two own nex
 
 pub returns-clause-meets_settled : goal.returns-clause-meets_settled
 returns-clause-meets_settled c own next size count old new image none = left-two own next size count old new image 2 (omega arith) none
+
+pub returns-clause-meets_none : goal.returns-clause-meets_none
+returns-clause-meets_none c own next size count old new image none = left-none own next size count old new image none
 
 pub returns-clause-not_lost : goal.returns-clause-not_lost
 returns-clause-not_lost c own next size count number old new image apart none left =
