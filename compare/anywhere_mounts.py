@@ -72,7 +72,7 @@ def mounted(loaded):
             finally:
                 subprocess.run(["umount", room])
             got = run(["widen", "backing"])
-            expect("not mounted any more", got == (1, b"", b"jb: Super NoMagic\n"), got)
+            expect("not mounted any more", got == (1, b"", b"jb: Own None\n"), got)
     finally:
         subprocess.run(["losetup", "--detach", name])
     print("a mounted device, and its file: 18 runs")
@@ -141,7 +141,8 @@ def parted():
                 try:
                     for image in refused + taken:
                         got = run(["widen", image])
-                        want = (2, b"", b"jb: in use %s\n" % image.encode()) if image in refused else (1, b"", b"jb: Super NoMagic\n")
+                        free = b"jb: Super NoMagic\n" if image == two else b"jb: Own None\n"  # two has no file system yet
+                        want = (2, b"", b"jb: in use %s\n" % image.encode()) if image in refused else (1, b"", free)
                         expect("mounted %s: %s" % (mounted, image), got == want, got)
                 finally:
                     subprocess.run(["umount", room])
