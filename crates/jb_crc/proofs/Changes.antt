@@ -5,6 +5,7 @@ use Rattle.std.proofs.lemmas.Bool.{cases_lt}
 use Rattle.std.proofs.lemmas.Nat.{xor_lt}
 use lib.Bits.{xor_zero_r, xor_zero_l, xor_self}
 use Rattle.jb_crc.specs.Crc.{polynomial, times_x, times_x_to, crc32c}
+use Rattle.jb_crc.proofs.Fits.{times_x-lt}
 use Rattle.jb_crc.proofs.Bits.{xor_turn, xor-back, same-from_xor, none-from_xor}
 use Rattle.jb_crc.proofs.Pieces.{crc-append, crc-xor}
 use Rattle.jb_crc.proofs.Remainders.{times-xor, times-add}
@@ -20,13 +21,6 @@ none-from_times_x rest small none =
           let odd : rest % 2 ≡ 1 = omega arith in
           let half : rest / 2 ≡ polynomial = same-from_xor (rest / 2) polynomial (rw odd at none) in
           absurd (let h : ⊥ = omega (arith, half, small) in h)
-    ]
-
-times_x-lt : (rest : ℕ) → rest < 2 ^ 32 → times_x rest < 2 ^ 32
-times_x-lt rest small =
-    elim (cases_lt (rest % 2) 1) [
-      | inl low ↦ let even : rest % 2 ≡ 0 = omega arith in rw even (xor_lt 32 (rest / 2) 0 (omega arith) (omega arith))
-      | inr high ↦ let odd : rest % 2 ≡ 1 = omega arith in rw odd (xor_lt 32 (rest / 2) polynomial (omega arith) (omega arith))
     ]
 
 none-from_times : (n rest : ℕ) → rest < 2 ^ 32 → times_x_to n rest ≡ 0 → rest ≡ 0

@@ -35,14 +35,14 @@ static SUMS: [Sum; 5] = [
 
 /// The blocks of a journal with one transaction, of number 2: it frees home 7, and copies escaped data to home 5; what
 /// its tags are; and its superblock, with the transaction and after its recovery.
-struct Form {
-    name: &'static str,
-    tails: [&'static str; 2],
-    tags: TagsOf,
-    supers: [&'static str; 2],
+pub struct Form {
+    pub name: &'static str,
+    pub tails: [&'static str; 2],
+    pub tags: TagsOf,
+    pub supers: [&'static str; 2],
 }
 
-static FORMS: [Form; 4] = [
+pub static FORMS: [Form; 4] = [
     Form {
         name: "V3, narrow",
         tails: [

@@ -6,7 +6,7 @@ use crate::journals::{
     CLEAN_TEXT, WRAPPED, WRAPPED_TEXT, by_hand, check_told, journal_of, told_of,
 };
 use jb_dump::{DumpFault, DumpFilter};
-use jb_super::SuperFault;
+use jb_super::{CheckedSuperFault, SuperFault};
 use std::alloc::Global;
 use tests_support::{Must, Test, check_in};
 
@@ -52,7 +52,10 @@ static OF_WRAPPED: [Taken; 1] = [Taken(None, Some(1), false, &[0, 1, 2, 3, 4, 5,
 /// Words that leave a journal without a text, and why.
 static REFUSED: [(&str, DumpFault); 2] = [
     ("400:c03b3998 5 2 401", DumpFault::BadRevoke(1)),
-    ("10:7fffffff 1 2 1", DumpFault::Super(SuperFault::Geometry)),
+    (
+        "10:7fffffff 1 2 1",
+        DumpFault::Super(CheckedSuperFault::Super(SuperFault::Geometry)),
+    ),
 ];
 
 const EVERY_LINE: [usize; 18] = [0, 1, 2, 3, 4, 5, 6, 7, 8, 9, 10, 11, 12, 13, 14, 15, 16, 17];
@@ -91,6 +94,7 @@ fn choice_of(taken: &Taken) -> DumpFilter {
         last: taken.1,
         superblock: taken.2,
         summary: false,
+        checksums: false,
     }
 }
 

@@ -2,7 +2,7 @@
 
 use crate::checks::By;
 use jb_dump::{DumpFault, DumpFilter, dump, dump_chosen};
-use jb_super::SuperFault;
+use jb_super::{CheckedSuperFault, SuperFault};
 use std::alloc::Global;
 use tests_support::{Must, Test, check_at, put_text};
 
@@ -91,11 +91,11 @@ static CASES: [Case; 8] = [
     ),
     Case(
         "20:0 0 12 0",
-        Err(DumpFault::Super(SuperFault::Feature(2, 16))),
+        Err(DumpFault::Super(CheckedSuperFault::Super(SuperFault::Feature(2, 16)))),
     ),
     Case(
         "10:7fffffff 1 2 1",
-        Err(DumpFault::Super(SuperFault::Geometry)),
+        Err(DumpFault::Super(CheckedSuperFault::Super(SuperFault::Geometry))),
     ),
     Case("400:c03b3998 5 2 401", Err(DumpFault::BadRevoke(1))),
 ];

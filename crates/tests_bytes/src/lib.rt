@@ -31,6 +31,10 @@ mod stepped;
 #[cfg(test)]
 mod summaries;
 #[cfg(test)]
+mod summed_fronts;
+#[cfg(test)]
+mod summed_journals;
+#[cfg(test)]
 mod summed_supers;
 #[cfg(test)]
 mod summed_tags;

@@ -5,7 +5,7 @@ use crate::journals::{
     BLOCKS, REVOKE_AND_COPY_TEXT, WRAPPED, WRAPPED_TEXT, by_hand, check_dump, front,
 };
 use jb_dump::{DumpFault, dump};
-use jb_super::SuperFault;
+use jb_super::{CheckedSuperFault, SuperFault};
 use std::alloc::Global;
 use std::io::{self, Error, ErrorKind, Read};
 use tests_support::{Must, Test, check_at};
@@ -20,7 +20,7 @@ fn check_cut(test: &impl Test, alloc: Global) {
         } else {
             SuperFault::Geometry
         };
-        let wanted = Err(DumpFault::Super(fault));
+        let wanted = Err(DumpFault::Super(CheckedSuperFault::Super(fault)));
         check_dump(test, alloc, front(&journal, len), wanted, step as u64)
     }
 }

@@ -4,7 +4,7 @@ use crate::checks::By;
 use crate::dumped::SESSION;
 use crate::journals::{Case, WRAPPED, by_hand, check_told, journal_of, told_of};
 use jb_dump::{DumpFault, DumpFilter};
-use jb_super::SuperFault;
+use jb_super::{CheckedSuperFault, SuperFault};
 use std::alloc::Global;
 use tests_support::{Must, Test, check, check_at, put_text};
 
@@ -14,6 +14,7 @@ const GLANCE: DumpFilter = DumpFilter {
     last: None,
     superblock: false,
     summary: true,
+    checksums: false,
 };
 
 const CLEAN: &str = "log transactions=0 used=0 usable=32 free=32
@@ -102,7 +103,7 @@ static BY_HAND: [Case; 6] = [
     Case("400:c03b3998 5 2 401", Err(DumpFault::BadRevoke(1))),
     Case(
         "10:7fffffff 1 2 1",
-        Err(DumpFault::Super(SuperFault::Geometry)),
+        Err(DumpFault::Super(CheckedSuperFault::Super(SuperFault::Geometry))),
     ),
 ];
 
@@ -153,6 +154,7 @@ fn check_alone(test: &impl Test, alloc: Global) {
         last: Some(0),
         superblock: true,
         summary: true,
+        checksums: false,
     };
     let (answer, written) = told_of(alloc, &journal, choice);
     check(

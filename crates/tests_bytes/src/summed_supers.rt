@@ -2,9 +2,9 @@
 
 use crate::checks::By;
 use crate::superblocks::block_of_words;
-use jb_block::put32;
+use jb_block::{Sums, put32};
 use jb_sums::put_super_sum;
-use jb_super::{SumForm, Super};
+use jb_super::Super;
 use std::fmt::InlineText;
 use tests_support::{Test, check_in};
 
@@ -44,11 +44,11 @@ fn told(block: &[u8]) -> InlineText<64> {
     }
 }
 
-fn form_of(sums: Option<SumForm>) -> &'static str {
+fn form_of(sums: Sums) -> &'static str {
     match sums {
-        None => "none",
-        Some(SumForm::Short) => "V2",
-        Some(SumForm::Whole) => "V3",
+        Sums::Absent => "none",
+        Sums::Short => "V2",
+        Sums::Whole => "V3",
     }
 }
 
