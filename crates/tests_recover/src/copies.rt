@@ -2,11 +2,10 @@
 //! the log has the copies still, so a recovery of anything else in a home ends in the same image.
 
 use crate::checks::By;
-use crate::crashes::{CASES, Case, MOST, after, before};
+use crate::crashes::{CASES, Case, MOST, after, before, recovers};
 use crate::mixtures::SECTORS;
 use crate::small::{BLOCKS, HOMES};
 use jb_disk::{FuseDisk, MemoryDisk};
-use jb_recover::recover;
 use tests_support::{Bench, Test, check_in, crashed, read_at};
 
 /// A crash leaves the versions of these numbers of each sector: the first write since the last sync, and the second.
@@ -59,7 +58,7 @@ fn check_left(test: &impl Bench, case: &Case, disk: &MemoryDisk, version: u32, c
 /// Checks the homes of a recovery that is broken off after so many calls; whether it had ended.
 fn check_broken(test: &impl Bench, case: &Case, calls: u64) -> bool {
     let mut fuse = FuseDisk::of(before(test, case), calls);
-    let ended = recover(test.alloc(), &mut fuse).is_ok();
+    let ended = recovers(test, case, &mut fuse);
     let disk = fuse.into_inner();
     for version in &VERSIONS {
         check_left(test, case, &disk, *version, calls);

@@ -6,29 +6,32 @@ use crate::frames::same_frame;
 use crate::images::Row;
 use crate::mixtures::{SECTORS, SOME, digits, some_choice};
 use crate::small::{HOMES, MAGIC, small};
+use crate::summed_logs::{REVOKED_6, REVOKED_6_AFTER, V3, V3_AFTER};
 use crate::wraps;
-use jb_disk::{FuseDisk, MemoryDisk};
-use jb_recover::recover;
+use jb_disk::{Disk, FuseDisk, MemoryDisk};
+use jb_recover::{recover, recover_checked};
 use tests_support::{Bench, check_in, crashed, difference};
 
 /// More calls than a recovery of an image here makes.
 pub const MOST: u64 = 200;
 
-/// A small image with these rows, or with none the image that wraps; the rows that its recovery changes; and the
-/// mixtures of its pending sectors: each sector is one of so many versions, and there are so many mixtures, or too
-/// many.
+/// A small image with these rows, or with none the image that wraps; whether its recovery looks at checksums; the rows
+/// that it changes; and the mixtures of its pending sectors: each sector is one of so many versions, and there are so
+/// many mixtures, or too many.
 pub struct Case {
     pub name: &'static str,
+    is_summed: bool,
     pub rows: &'static [Row],
     after: &'static [Row],
     versions: u32,
     mixtures: Option<u32>,
 }
 
-pub static CASES: [Case; 7] = [
+pub static CASES: [Case; 9] = [
     // An escaped copy of home 5.
     Case {
         name: "escaped",
+        is_summed: false,
         rows: &[
             (1, 0, [MAGIC, 1, 2, 5]),
             (1, 1, [9, 0, 0, 0]),
@@ -45,6 +48,7 @@ pub static CASES: [Case; 7] = [
     // Copies of homes 5 and 6, and a later revoke of home 5.
     Case {
         name: "revoked",
+        is_summed: false,
         rows: &[
             (1, 0, [MAGIC, 1, 2, 5]),
             (1, 1, [2, 6, 10, 0]),
@@ -62,6 +66,7 @@ pub static CASES: [Case; 7] = [
     // Two copies of home 5.
     Case {
         name: "twice",
+        is_summed: false,
         rows: &[
             (1, 0, [MAGIC, 1, 2, 5]),
             (1, 1, [8, 0, 0, 0]),
@@ -79,6 +84,7 @@ pub static CASES: [Case; 7] = [
     // Copies of the homes 3 and 4, and then of 4 and 3: a run of two, and two of one.
     Case {
         name: "runs",
+        is_summed: false,
         rows: &[
             (1, 0, [MAGIC, 1, 2, 3]),
             (1, 1, [2, 4, 10, 0]),
@@ -108,6 +114,7 @@ pub static CASES: [Case; 7] = [
     // A log that begins after two blocks that are not of it, and words in block 0 after the superblock.
     Case {
         name: "gap",
+        is_summed: false,
         rows: &[
             (0, 1, [33, 3, 2, 3]),
             (0, 40, [7, 7, 7, 7]),
@@ -125,6 +132,7 @@ pub static CASES: [Case; 7] = [
     // Copies of the homes 0 to 7.
     Case {
         name: "many",
+        is_summed: false,
         rows: &[
             (1, 0, [MAGIC, 1, 2, 0]),
             (1, 1, [2, 1, 2, 2]),
@@ -155,15 +163,43 @@ pub static CASES: [Case; 7] = [
         versions: 2,
         mixtures: None,
     },
+    // An escaped copy of home 5, in a journal with checksums.
+    Case {
+        name: "summed",
+        is_summed: true,
+        rows: &V3,
+        after: &V3_AFTER,
+        versions: 2,
+        mixtures: Some(4),
+    },
+    // Copies of homes 5 and 6, and a later revoke of home 6.
+    Case {
+        name: "summed, revoked",
+        is_summed: true,
+        rows: &REVOKED_6,
+        after: &REVOKED_6_AFTER,
+        versions: 2,
+        mixtures: Some(4),
+    },
     // Three homes of two sectors, one of them written twice.
     Case {
         name: "wraps",
+        is_summed: false,
         rows: &[],
         after: &[],
         versions: 3,
         mixtures: Some(729),
     },
 ];
+
+/// Whether an image of a case is recovered.
+pub fn recovers<D: Disk>(test: &impl Bench, case: &Case, disk: &mut D) -> bool {
+    if case.is_summed {
+        recover_checked(test.alloc(), disk).is_ok()
+    } else {
+        recover(test.alloc(), disk).is_ok()
+    }
+}
 
 /// The image of a case before its recovery.
 pub fn before(test: &impl Bench, case: &Case) -> MemoryDisk {
@@ -182,9 +218,15 @@ pub fn after(test: &impl Bench, case: &Case) -> MemoryDisk {
 }
 
 /// Whether the image that a crash with this choice leaves is the expected one before the log, and recovers to it.
-fn mends(test: &impl Bench, disk: &MemoryDisk, choice: &[u32], wanted: &mut MemoryDisk) -> bool {
+fn mends(
+    test: &impl Bench,
+    case: &Case,
+    disk: &MemoryDisk,
+    choice: &[u32],
+    wanted: &mut MemoryDisk,
+) -> bool {
     let mut left = crashed(test, disk, choice);
-    if !same_frame(test, &mut left, wanted) || recover(test.alloc(), &mut left).is_err() {
+    if !same_frame(test, &mut left, wanted) || !recovers(test, case, &mut left) {
         return false;
     }
     difference(test, &mut left, wanted, 0).is_none()
@@ -206,7 +248,7 @@ fn mends_mixtures(
     wanted: &mut MemoryDisk,
 ) -> bool {
     for number in 0..case.mixtures.unwrap_or(SOME) {
-        if !mends(test, disk, &choice(case, number), wanted) {
+        if !mends(test, case, disk, &choice(case, number), wanted) {
             return false;
         }
     }
@@ -223,7 +265,7 @@ fn mends_each(
 ) -> bool {
     let mut old = crashed(test, disk, &[]);
     if difference(test, &mut old, disk, 0).is_none() {
-        return mends(test, disk, &[], wanted);
+        return mends(test, case, disk, &[], wanted);
     }
     mends_mixtures(test, case, disk, wanted)
 }
@@ -231,7 +273,7 @@ fn mends_each(
 /// Checks what a crash after so many calls leaves of a recovery; whether that had ended.
 fn break_off(test: &impl Bench, case: &Case, calls: u64, wanted: &mut MemoryDisk) -> bool {
     let mut fuse = FuseDisk::of(before(test, case), calls);
-    let ended = recover(test.alloc(), &mut fuse).is_ok();
+    let ended = recovers(test, case, &mut fuse);
     let mut disk = fuse.into_inner();
     let is_mended = mends_each(test, case, &mut disk, wanted);
     check_in(test, is_mended, case.name, "no mending after", calls);

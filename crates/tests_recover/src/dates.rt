@@ -3,7 +3,7 @@
 use crate::checks::By;
 use crate::images::Row;
 use crate::small::{MAGIC, small};
-use jb_block::BlockSize;
+use jb_block::{BlockSize, Sums};
 use jb_disk::Disk;
 use jb_format::read_super;
 use jb_recover::latest_commit;
@@ -55,7 +55,7 @@ fn dated<D: Disk>(test: &impl Test, disk: &mut D) -> u64 {
         return fail(test, "the size of a block");
     }
     let sb = read_super(disk, &mut block).must(test, "a superblock");
-    latest_commit(disk, &sb, &mut block).must(test, "the latest commit")
+    latest_commit(disk, &sb, Sums::Absent, &mut block).must(test, "the latest commit")
 }
 
 /// Checks the latest commit of a row.

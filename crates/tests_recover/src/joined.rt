@@ -1,13 +1,17 @@
 //! A journal on one disk, recovered to home blocks on another.
 
 use crate::checks::By;
+use crate::images::put_rows;
+use crate::small::journal;
+use crate::summed_logs::{V3, V3_AFTER};
 use jb_block::{BlockSize, Width};
 use jb_disk::{Disk, Fault, MemoryDisk};
 use jb_format::format;
 use jb_image::PairDisk;
-use jb_recover::{PeekFault, Recovered, peek, recover};
+use jb_recover::{PeekFault, Recovered, peek, recover, recover_checked};
 use tests_support::{
-    Bench, Must, Test, block_of, check, check_at, crashed, read_at, read_block, write_at, zeros,
+    Bench, Must, Test, block_of, check, check_at, check_none, crashed, difference, read_at,
+    read_block, write_at, zeros,
 };
 
 type Both = PairDisk<MemoryDisk, MemoryDisk>;
@@ -70,29 +74,36 @@ fn peeked<D: Disk>(disk: &mut D, home: u64) -> Result<[u8; 4], PeekFault> {
     Ok([block[0], block[1], block[2], block[3]])
 }
 
-/// Checks what a crash leaves of the two disks at least.
-fn check_left(test: &impl Test, log: &MemoryDisk, homes: &MemoryDisk) {
+/// Checks the homes that a crash leaves of the second disk at least.
+fn check_homes(test: &impl Test, homes: &MemoryDisk, fifth: [u8; 4]) {
     let mut left = crashed(test, homes, &[]);
     for home in 0..16 {
-        let is = if home == 5 { *b"five" } else { [0; 4] };
+        let is = if home == 5 { fifth } else { [0; 4] };
         check_at(test, look(&mut left, home) == Ok(is), "home", home)
     }
+}
+
+/// Checks what a crash leaves of the two disks at least.
+fn check_left(test: &impl Test, log: &MemoryDisk, homes: &MemoryDisk) {
+    check_homes(test, homes, *b"five");
     let copy = look(&mut crashed(test, log, &[]), 2);
     check(test, copy == Ok(*b"five"), "the copy in the log")
 }
+
+/// What a recovery of one copy reports.
+const FOUND: Recovered = Recovered {
+    transactions: 1,
+    copies: 1,
+    revoked: 0,
+    next: 4,
+};
 
 fn check_recovered(test: &impl Bench) {
     let mut disk = formatted(test);
     put_log(test, &mut disk);
     check(test, peeked(&mut disk, 5) == Ok(*b"five"), "a peek");
-    let found = Recovered {
-        transactions: 1,
-        copies: 1,
-        revoked: 0,
-        next: 4,
-    };
     let answer = recover(test.alloc(), &mut disk);
-    check(test, answer == Ok(found), "a recovery");
+    check(test, answer == Ok(FOUND), "a recovery");
     let (log, homes) = disk.into_parts();
     check_left(test, &log, &homes)
 }
@@ -100,4 +111,24 @@ fn check_recovered(test: &impl Bench) {
 #[test]
 fn a_journal_is_recovered_to_another_disk(rt: HostRuntime) {
     check_recovered(&By(&rt, rt.alloc()))
+}
+
+/// A journal with checksums, whose home 5 has the magic back, and what a crash leaves of both disks at least.
+fn check_summed(test: &impl Bench) {
+    let front = journal(test, u64::from(JOURNAL), &V3);
+    let mut disk = PairDisk::of(front, zeros(test, test.alloc(), BlockSize::OneKib, 16));
+    let answer = recover_checked(test.alloc(), &mut disk);
+    check(test, answer == Ok(FOUND), "a recovery with checksums");
+    let (log, homes) = disk.into_parts();
+    check_homes(test, &homes, [0xC0, 0x3B, 0x39, 0x98]);
+    let mut left = crashed(test, &log, &[]);
+    let mut wanted = journal(test, u64::from(JOURNAL), &V3);
+    put_rows(test, &mut wanted, 0, &V3_AFTER[..2]);
+    let place = difference(test, &mut left, &mut wanted, 0);
+    check_none(test, "the journal", "block", place)
+}
+
+#[test]
+fn a_journal_with_checksums_is_recovered_to_another_disk(rt: HostRuntime) {
+    check_summed(&By(&rt, rt.alloc()))
 }

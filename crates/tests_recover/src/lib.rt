@@ -62,6 +62,12 @@ mod shared;
 #[cfg(test)]
 mod small;
 #[cfg(test)]
+mod summed;
+#[cfg(test)]
+mod summed_logs;
+#[cfg(test)]
+mod summed_peeks;
+#[cfg(test)]
 mod widens;
 #[cfg(test)]
 mod wraps;

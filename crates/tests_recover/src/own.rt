@@ -4,6 +4,7 @@ use crate::checks::By;
 use jb_block::BlockSize;
 use jb_disk::MemoryDisk;
 use jb_ext::{FindFault, InodeFault, MapSource, OwnFault, OwnJournal, find_journal};
+use jb_super::Checksums;
 use tests_support::{Bench, Test, check, write_at, zeros};
 
 /// Bytes of a block, from this one on.
@@ -95,10 +96,10 @@ fn check_own(test: &impl Bench) {
     put_fields(test, &mut disk, 2, &DESCRIPTOR);
     put_fields(test, &mut disk, 3, &INODE);
     put_fields(test, &mut disk, 20, &JOURNAL);
-    let found = find_journal(test.alloc(), &mut disk);
+    let found = find_journal(test.alloc(), &mut disk, Checksums::Refused);
     check(test, is_found(&found), "the journal");
     put_fields(test, &mut disk, 3, &UNLINKED);
-    let found = find_journal(test.alloc(), &mut disk);
+    let found = find_journal(test.alloc(), &mut disk, Checksums::Refused);
     check(test, is_unlinked(&found), "an inode without a name")
 }
 
