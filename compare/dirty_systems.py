@@ -98,7 +98,8 @@ def empty(kind, image):
     with open(image, "wb") as file:
         file.truncate(kind.mib << 20)
     late = kind.step or kind.special == "dot"
-    given = [NO_SUMS if kind.kind == "ext4" else "", kind.features, "^has_journal" if late else ""]
+    plain = kind.kind == "ext4" and "metadata_csum" not in kind.features
+    given = [NO_SUMS if plain else "", kind.features, "^has_journal" if late else ""]
     words = ["-b", str(kind.size), "-O", ",".join(filter(None, given)) or "has_journal", "-E", "lazy_journal_init=1"]
     words += kind.words + ([] if late else ["-J", "size=%d" % kind.journal])
     run("mke2fs", "-q", "-F", "-t", kind.kind, *words, image)
@@ -201,9 +202,10 @@ def crashed(kind, source, target, folder):
         for turn in range(kind.turns):
             work(folder, chance, turn)
         opened = orphans(folder) if kind.special == "orphans" else []
-        handle = os.open(folder, os.O_RDONLY)
-        fcntl.ioctl(handle, SHUTDOWN, FLUSH_LOG)
-        os.close(handle)
+        if kind.special != "copied":
+            handle = os.open(folder, os.O_RDONLY)
+            fcntl.ioctl(handle, SHUTDOWN, FLUSH_LOG)
+            os.close(handle)
         copy(source, target)
         for file in opened:
             file.close()

@@ -6,6 +6,7 @@ import shutil
 import struct
 import subprocess
 
+import checksums_reference
 import ext_finder
 from in_place import changed_but, run
 from jbref_read import Refused, Super, replay
@@ -24,12 +25,14 @@ def log_of(data, size, places):
 class Recovery:
     """What a recovery of these bytes has to do: `writes`, each an offset and bytes, or `fault`, why it is refused."""
 
+    super_of = Super
+
     def __init__(self, data):
         self.fs = self.by = self.line = self.fault = None
         self.perhaps = False  # whether `FileSystem Clean` may be answered too
         self.stretches, self.places, self.writes = [], [], []
         try:
-            self.fs, self.stretches, self.by = ext_finder.find(data)
+            self.fs, self.stretches, self.by = ext_finder.find(data, self.super_of)
             self.places = ext_finder.places_of(self.stretches)
             self.read(data)
         except (ext_finder.Fault, Refused) as fault:
@@ -56,6 +59,23 @@ class Recovery:
         self.perhaps = bool(sup.start) and not self.fs.needs_recovery
 
 
+class Checked(Recovery):
+    """The same of `--checksums`."""
+
+    super_of = checksums_reference.Super
+
+    def read(self, data):
+        read, own = checksums_reference.Log(log_of(data, self.fs.size, self.places)), set(self.places)
+        self.guarded(read.sup)
+        homes, self.line = read.recovered(self.fs.whole())
+        for home in homes:
+            if home in own:
+                raise Refused("Extents Home %d" % home)
+        self.writes = [(home * self.fs.size, content) for home, content in homes.items()]
+        if read.sup.start:
+            self.writes.append((self.places[0] * self.fs.size, read.cleaned()))
+
+
 def put(data, writes):
     """Writes to a bytearray; gives the writes that undo them."""
     before = [(at, bytes(data[at:at + len(new)])) for at, new in writes]
@@ -67,11 +87,11 @@ def put(data, writes):
 class Image:
     """A dirty file system of the cache."""
 
-    def __init__(self, kind, path):
+    def __init__(self, kind, path, recovery=Recovery):
         self.kind, self.name, self.path = kind, kind.name, path
         with open(path, "rb") as file:
             self.data = file.read()
-        self.recovery = Recovery(self.data)
+        self.recovery = recovery(self.data)
         self.fs, self.size = self.recovery.fs, kind.size
         meant = bytearray(self.data)
         put(meant, self.recovery.writes)
@@ -107,6 +127,16 @@ class Held:
         for at, new in writes:
             self.map[at:at + len(new)] = new
 
+    def differing(self, data, size):
+        """The blocks in which it differs from these bytes, a bytearray of its length."""
+        step, found, other = 64 * size, [], (ctypes.c_char * len(data)).from_buffer(data)
+        for low in range(0, len(data), step):
+            high = min(low + step, len(data))
+            places = [ctypes.addressof(one) + low for one in (self.place, other)]
+            if MEMCMP(*map(ctypes.c_void_p, places), ctypes.c_size_t(high - low)):
+                found += [at // size for at in range(low, high, size) if self.map[at:at + size] != data[at:at + size]]
+        return found
+
 
 def is_meant(left, meant, fs):
     """Whether an image is as it is meant, but for the named words of the file system's superblock."""
@@ -115,21 +145,21 @@ def is_meant(left, meant, fs):
 
 
 class Program:
-    """JB, with SECONDS of the processor, and at most so many KiB of address space, or any where that is 0."""
+    """JB, with so many seconds of the processor, and at most so many KiB of address space, or any where that is 0."""
 
-    def __init__(self, name, memory):
-        self.name = os.path.realpath(shutil.which(name) or name)
-        limit = "ulimit -t %d; " % SECONDS + ("ulimit -v %d; " % memory if memory else "")
+    def __init__(self, name, memory, seconds=SECONDS):
+        self.name, self.most = os.path.realpath(shutil.which(name) or name), 30 * seconds
+        limit = "ulimit -t %d; " % seconds + ("ulimit -v %d; " % memory if memory else "")
         self.front = ["sh", "-c", limit + 'exec "$0" "$@"', self.name]
 
     def run(self, *words):
         """How it ended: status (of a signal below 0, None where it took too long), standard output and error."""
         try:
             done = subprocess.run(self.front + list(words), capture_output=True, text=True, check=False,
-                                  timeout=30 * SECONDS, errors="replace")
+                                  timeout=self.most, errors="replace")
             return done.returncode, done.stdout.strip(), done.stderr.strip()[:200]
         except subprocess.TimeoutExpired:
-            return None, "", "no end after %d seconds" % (30 * SECONDS)
+            return None, "", "no end after %d seconds" % self.most
 
 
 def whole(name):

@@ -19,6 +19,7 @@ A run of JB may take two seconds of the processor, and --memory KiB (0: any). Of
 over which e2fsck waits for two minutes, only so. Needs to be root, with loop devices, e2fsprogs and strace: else it
 says `skipped`, and ends with status 0. Prints a line for each file system; the last line has the number of faults."""
 import argparse
+import contextlib
 import hashlib
 import os
 import random
@@ -50,14 +51,16 @@ def recover_words(name, image, own):
 
 
 class Trial(in_place.Trial):
-    """One dirty file system, recovered by JB and by e2fsck."""
+    """One dirty file system, recovered by JB with these options and by e2fsck."""
+
+    options, fields, cleaned = [], in_place.FIELDS, CLEANED
 
     def __init__(self, jb, image, chance, kills, own):
         self.image, self.chance, self.kills, self.faults, self.told = image, chance, kills, [], []
         self.size, self.meant = image.size, image.meant
         self.log = image.recovery.places[0]
-        self.jb, self.words = jb, recover_words("jb.img", image, own)
-        self.fields = dict(in_place.FIELDS, **MORE.get(image.kind.special, {}))
+        self.jb, self.words = jb, recover_words("jb.img", image, own) + self.options
+        self.fields = dict(self.fields, **MORE.get(image.kind.special, {}))
 
     def new_jb(self):
         self.image.new("jb.img")
@@ -90,7 +93,7 @@ class Trial(in_place.Trial):
     def both_alone(self, one, other):
         """The blocks that differ, but for those of the two superblocks, of which only the fields may."""
         front, blocks = self.image.fs.front(), blocks_differing(one, other, self.size)
-        for block, fields, base in ((front, self.fields, 1024 % self.size), (self.log, CLEANED, 0)):
+        for block, fields, base in ((front, self.fields, 1024 % self.size), (self.log, self.cleaned, 0)):
             pair = [data[block * self.size:(block + 1) * self.size] for data in (one, other)]
             if changed_but(*pair, fields, base):
                 blocks.append("fields of %d" % block)
@@ -164,16 +167,16 @@ def mounted(image):
         run("umount", "mnt")
 
 
-def images_of(cache, names):
-    """The dirty file systems, made where the cache has them not."""
+def images_of(cache, names, kinds=dirty_systems.KINDS, make=dirty_systems.make):
+    """The dirty file systems of these kinds, made where the cache has them not."""
     os.makedirs(cache, exist_ok=True)
-    for kind in dirty_systems.KINDS:
+    for kind in kinds:
         path = os.path.join(cache, "%s-%08x.img" % (kind.name, zlib.crc32(repr(sorted(vars(kind).items())).encode())))
         if kind.name not in names if names else kind.special == "mmp":
             continue
         if not os.path.exists(path):
             with tempfile.TemporaryDirectory(dir=cache) as folder:
-                dirty_systems.make(kind, path, folder)
+                make(kind, path, folder)
         yield kind, path
 
 
@@ -199,6 +202,24 @@ def recovered(jb, image, chance, given):
     return not is_right
 
 
+def absent():
+    """What this machine has not of what is needed, or None."""
+    return dirty_systems.missing() or (None if shutil.which("strace") else "strace not installed")
+
+
+@contextlib.contextmanager
+def working(cache):
+    """Works in a new folder, in memory where it can, and gives the folder of the cache: this one, or one within."""
+    memory = "/dev/shm" if os.access("/dev/shm", os.W_OK) else None
+    with tempfile.TemporaryDirectory(dir=memory) as folder:
+        cache = os.path.abspath(cache or os.path.join(folder, "cache"))
+        os.chdir(folder)
+        try:
+            yield cache
+        finally:
+            os.chdir("/")
+
+
 def main():
     given = argparse.ArgumentParser(description=__doc__, formatter_class=argparse.RawDescriptionHelpFormatter)
     given.add_argument("jb")
@@ -210,28 +231,21 @@ def main():
                         ("beside", 3)):
         given.add_argument("--" + name, type=int, default=usual)
     given = given.parse_args()
-    absent = dirty_systems.missing() or (None if shutil.which("strace") else "strace not installed")
-    if absent:
-        print("skipped: %s" % absent)
+    if absent():
+        print("skipped: %s" % absent())
         return 0
     jb, chance, wrong, begin = Program(given.jb, given.memory), random.Random(given.seed), 0, time.time()
-    memory = "/dev/shm" if os.access("/dev/shm", os.W_OK) else None
-    with tempfile.TemporaryDirectory(dir=memory) as folder:
-        cache = os.path.abspath(given.cache or os.path.join(folder, "cache"))
-        os.chdir(folder)
-        try:
-            images = list(images_of(cache, [name for name in given.names.split(",") if name]))
-            print("%d file systems, %.0f seconds" % (len(images), time.time() - begin), flush=True)
-            if "recover" in given.parts:
-                wrong += sum(recovered(jb, image, chance, given) for image in images)
-            if "loads" in given.parts:
-                wrong += own_loads.tried(jb, images, chance, given.own)
-            if "lists" in given.parts:
-                wrong += own_lists.tried(jb, images, chance, given.lists, given.own)
-            if "changes" in given.parts and given.own:
-                wrong += own_changes.tried(jb, images, chance, given.changes, given.beside)
-        finally:
-            os.chdir("/")
+    with working(given.cache) as cache:
+        images = list(images_of(cache, [name for name in given.names.split(",") if name]))
+        print("%d file systems, %.0f seconds" % (len(images), time.time() - begin), flush=True)
+        if "recover" in given.parts:
+            wrong += sum(recovered(jb, image, chance, given) for image in images)
+        if "loads" in given.parts:
+            wrong += own_loads.tried(jb, images, chance, given.own)
+        if "lists" in given.parts:
+            wrong += own_lists.tried(jb, images, chance, given.lists, given.own)
+        if "changes" in given.parts and given.own:
+            wrong += own_changes.tried(jb, images, chance, given.changes, given.beside)
     print("%d wrong, %.0f seconds" % (wrong, time.time() - begin))
     return 1 if wrong else 0
 

@@ -5,6 +5,7 @@ from rows import FULL, HANDLE, RECOVERED, ROWS, THREE, queue, row
 import rows_images  # noqa: F401  (its rows are in the table, too)
 import rows_own  # noqa: F401
 import rows_own_load  # noqa: F401
+import rows_summed  # noqa: F401
 
 # ---- words -------------------------------------------------------------------------------------------------------------------
 
@@ -93,6 +94,7 @@ Options:
       --summary            The journal at a glance, in place of its lines
       --journal <JOURNAL>  The file with the journal; FILE has the home blocks alone then
       --extents <LIST>     Where the journal stands within FILE, as debugfs lists its blocks; - or @FILE has it
+      --checksums          Takes a journal with checksums, too, and judges it by them
   -h, --help               Print help (see more with '--help')
 """,
     "cat -h": """Writes home blocks of an image as recovery would leave them
@@ -108,6 +110,7 @@ Options:
       --hex             Writes lines of hexadecimal digits, as xxd does
       --journal <FILE>  The file with the journal; IMAGE has the home blocks alone then
       --extents <LIST>  Where the journal stands within IMAGE, as debugfs lists its blocks; - or @FILE has it
+      --checksums       Takes a journal with checksums, too, and judges it by them
   -h, --help            Print help (see more with '--help')
 """,
     "format -h": """Makes an image: a new journal, and home blocks of zeros after it
@@ -156,6 +159,7 @@ Options:
       --force           Recovers though the journal seems not its file system's own, or mounts are unknown
       --dry-run         Says what would be done, and writes nothing
       --list            With --dry-run: lists the home blocks that would be written
+      --checksums       Takes a journal with checksums, too, and judges it by them
   -h, --help            Print help (see more with '--help')
 """,
     "help renumber": """Restarts the transaction numbers of a clean journal at 1

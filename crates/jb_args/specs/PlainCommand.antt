@@ -28,6 +28,7 @@ pub record CatWords : Type 0 where
   pub hex : Bool
   pub journal : Option Text
   pub extents : Option Text
+  pub checksums : Bool
 
 -- the options of `dump` as they were given
 pub record DumpWords : Type 0 where
@@ -37,6 +38,7 @@ pub record DumpWords : Type 0 where
   pub summary : Bool
   pub journal : Option Text
   pub extents : Option Text
+  pub checksums : Bool
 
 -- the options of `recover` as they were given
 pub record RecoverWords : Type 0 where
@@ -45,6 +47,7 @@ pub record RecoverWords : Type 0 where
   pub force : Bool
   pub dry_run : Bool
   pub list : Bool
+  pub checksums : Bool
 
 -- a command with its words
 pub data Asked : Type 0 where
@@ -65,17 +68,17 @@ options_said o = record { bs = o.bs; journal = o.journal; homes = o.homes; max =
 -- the same of `cat`
 abbrev pub cat_said : CatOptions → CatWords
 cat_said o =
-    record { home = o.home; count = o.count; hex = o.hex; journal = option_map (λ word. word.now) o.journal; extents = option_map (λ word. word.now) o.extents }
+    record { home = o.home; count = o.count; hex = o.hex; journal = option_map (λ word. word.now) o.journal; extents = option_map (λ word. word.now) o.extents; checksums = o.checksums }
 
 -- the same of `dump`
 abbrev pub dump_said : DumpOptions → DumpWords
 dump_said o =
-    record { home = o.home; last = o.last; superblock = o.superblock; summary = o.summary; journal = option_map (λ word. word.now) o.journal; extents = option_map (λ word. word.now) o.extents }
+    record { home = o.home; last = o.last; superblock = o.superblock; summary = o.summary; journal = option_map (λ word. word.now) o.journal; extents = option_map (λ word. word.now) o.extents; checksums = o.checksums }
 
 -- the same of `recover`
 abbrev pub recover_said : RecoverOptions → RecoverWords
 recover_said o =
-    record { journal = option_map (λ word. word.now) o.journal; extents = option_map (λ word. word.now) o.extents; force = o.force; dry_run = o.dry_run; list = o.list }
+    record { journal = option_map (λ word. word.now) o.journal; extents = option_map (λ word. word.now) o.extents; force = o.force; dry_run = o.dry_run; list = o.list; checksums = o.checksums }
 
 -- what a value of the program's own type asks for
 abbrev pub asks : Plain → Asked
@@ -128,9 +131,9 @@ extents_asked rows = first_of (codes "extents") rows
 -- `dump FILE ..`
 abbrev pub dump_in : List Row → Option Asked
 dump_in rows =
-    option_and_then (λ file. option_and_then (λ alone.
-    option_map (λ sum. AsksDump file (record { home = number_in (codes "home") rows; last = number_in (codes "last") rows; superblock = alone; summary = sum; journal = journal_asked rows; extents = extents_asked rows }))
-    (flag_in (codes "summary") rows)) (flag_in (codes "super") rows)) (file_in rows)
+    option_and_then (λ file. option_and_then (λ alone. option_and_then (λ sum.
+    option_map (λ checksums. AsksDump file (record { home = number_in (codes "home") rows; last = number_in (codes "last") rows; superblock = alone; summary = sum; journal = journal_asked rows; extents = extents_asked rows; checksums = checksums }))
+    (flag_in (codes "checksums") rows)) (flag_in (codes "summary") rows)) (flag_in (codes "super") rows)) (file_in rows)
 
 -- the options of `format`
 abbrev pub options_in : List Row → Option Options
@@ -148,16 +151,16 @@ format_in rows =
 -- `recover IMAGE ..`
 abbrev pub recover_in : List Row → Option Asked
 recover_in rows =
-    option_and_then (λ image. option_and_then (λ force. option_and_then (λ dry.
-    option_map (λ list. AsksRecover image (record { journal = journal_asked rows; extents = extents_asked rows; force = force; dry_run = dry; list = list }))
-    (flag_in (codes "list") rows)) (flag_in (codes "dry-run") rows)) (flag_in (codes "force") rows)) (image_in rows)
+    option_and_then (λ image. option_and_then (λ force. option_and_then (λ dry. option_and_then (λ list.
+    option_map (λ checksums. AsksRecover image (record { journal = journal_asked rows; extents = extents_asked rows; force = force; dry_run = dry; list = list; checksums = checksums }))
+    (flag_in (codes "checksums") rows)) (flag_in (codes "list") rows)) (flag_in (codes "dry-run") rows)) (flag_in (codes "force") rows)) (image_in rows)
 
 -- `cat IMAGE HOME ..`
 abbrev pub cat_in : List Row → Option Asked
 cat_in rows =
-    option_and_then (λ image. option_and_then (λ home. option_and_then (λ count.
-    option_map (λ hex. AsksCat image (record { home = home; count = count; hex = hex; journal = journal_asked rows; extents = extents_asked rows }))
-    (flag_in (codes "hex") rows)) (number_in (codes "n") rows)) (number_in (codes "HOME") rows)) (image_in rows)
+    option_and_then (λ image. option_and_then (λ home. option_and_then (λ count. option_and_then (λ hex.
+    option_map (λ checksums. AsksCat image (record { home = home; count = count; hex = hex; journal = journal_asked rows; extents = extents_asked rows; checksums = checksums }))
+    (flag_in (codes "checksums") rows)) (flag_in (codes "hex") rows)) (number_in (codes "n") rows)) (number_in (codes "HOME") rows)) (image_in rows)
 
 -- the command of this name, with the words that stand under the names of its arguments
 abbrev pub asked : Text → List Row → Option Asked

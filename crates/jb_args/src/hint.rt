@@ -54,6 +54,12 @@ pub enum Hint {
     JournalLength,
     /// A superblock has a feature that is not taken.
     SuperFeature,
+    /// A superblock has a feature that is taken where checksums are.
+    SuperSummed,
+    /// A superblock has another type of checksums.
+    SuperChecksumType,
+    /// A superblock has a wrong checksum.
+    SuperChecksum,
     /// A file system has another block size than the journal.
     FileSystemBlockSize,
     /// A file system has another UUID than the journal.
@@ -114,6 +120,8 @@ pub enum Hint {
     OwnShort,
     /// A journal may not have so many blocks.
     Geometry,
+    /// A block of the journal has a wrong checksum.
+    BadChecksum,
     /// A revoke block is damaged.
     BadRevoke,
     /// A copy is for a home block that the image has not; how many it has, where that is known.

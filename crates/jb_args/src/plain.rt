@@ -78,6 +78,8 @@ pub struct DumpOptions<'a> {
     pub journal: Option<&'a str>,
     /// `--extents`: where the journal stands within the file.
     pub extents: Option<&'a str>,
+    /// `--checksums`: whether a journal with checksums is taken, too.
+    pub checksums: bool,
 }
 
 /// The words and options of `jb cat` after the image, as they were given, not checked yet.
@@ -93,6 +95,8 @@ pub struct CatOptions<'a> {
     pub journal: Option<&'a str>,
     /// `--extents`: where the journal stands within the image.
     pub extents: Option<&'a str>,
+    /// `--checksums`: whether a journal with checksums is taken, too.
+    pub checksums: bool,
 }
 
 /// The options of `jb recover` as they were given, not checked yet.
@@ -108,6 +112,8 @@ pub struct RecoverOptions<'a> {
     pub dry_run: bool,
     /// `--list`: whether the home blocks that would be written are listed.
     pub list: bool,
+    /// `--checksums`: whether a journal with checksums is taken, too.
+    pub checksums: bool,
 }
 
 /// The options of `jb format` as they were given, not checked yet.

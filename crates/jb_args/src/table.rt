@@ -56,8 +56,19 @@ macro_rules! diagnostics {
                     "the file of --journal has more blocks, the first number, than its superblock says, the second: \
                      copy it out again as it is, by debugfs -R 'dump <8> FILE' DEVICE; the image is as it was";
                 SuperFeature, "Super Feature ", "# #",
-                    "the journal has features that jb has not, as checksums (2 16, from the first mount on since 2016) \
-                     or fast commits (2 32): run e2fsck, or mount the file system; it is as it was";
+                    "the journal has features that jb has not: 1 1 is checksums of version 1, 2 4 commits out of order \
+                     (async commit), 2 32 fast commits, 2 8 and 2 16 checksums, and their sums are several of them: \
+                     run e2fsck, or mount the file system; it is as it was";
+                SuperSummed, "Super Feature 2 ", "#",
+                    "the journal has checksums (8 or 16, from the first mount on since 2016), with which dump, cat and \
+                     recover take it by --checksums: give that, or run e2fsck, or mount the file system; it is as it \
+                     was";
+                SuperChecksumType, "Super ChecksumType ", "#",
+                    "the journal's checksums are of a type that is not 4, CRC-32C, or its superblock is damaged: run \
+                     e2fsck, which makes the journal anew, and what it held is lost; it is as it was";
+                SuperChecksum, "Super Checksum", "",
+                    "the journal's superblock is damaged, by its checksum: run e2fsck, which makes the journal anew, \
+                     and what it held is lost; it is as it was";
                 FileSystemBlockSize, "FileSystem BlockSize ", "#",
                     "the file system has blocks of so many bytes, and the journal others: it is not its own; it is as \
                      it was";
@@ -138,6 +149,9 @@ macro_rules! diagnostics {
                     "the journal says more blocks than its file has: e2fsck makes it anew, and what it held is lost; \
                      it is as it was";
                 Geometry, "Geometry", "", "--journal is 9 at least and 2147483647 at most";
+                BadChecksum, "BadChecksum ", "NAME #",
+                    "this block of the journal is damaged, by its checksum; the image is as it was: e2fsck recovers \
+                     what is before it, and throws the rest away";
                 BadRevoke, "BadRevoke ", "#", "this block of the journal is damaged; the image is as it was";
                 HomeOutOfRange, "HomeOutOfRange ", "# #",
                     "the image is as it was; it is to be made whole, or its journal given by --journal, and now has so \

@@ -150,6 +150,7 @@ fn dump_of<'a>(found: &ArgMatches<'a>) -> Option<Plain<'a>>
             summary: flag_of(found, "summary")?,
             journal: word_of(found, "journal"),
             extents: word_of(found, "extents"),
+            checksums: flag_of(found, "checksums")?,
         },
     })
 }
@@ -166,6 +167,7 @@ fn cat_of<'a>(found: &ArgMatches<'a>) -> Option<Plain<'a>>
             hex: flag_of(found, "hex")?,
             journal: word_of(found, "journal"),
             extents: word_of(found, "extents"),
+            checksums: flag_of(found, "checksums")?,
         },
     })
 }
@@ -182,6 +184,7 @@ fn recover_of<'a>(found: &ArgMatches<'a>) -> Option<Plain<'a>>
             force: flag_of(found, "force")?,
             dry_run: flag_of(found, "dry-run")?,
             list: flag_of(found, "list")?,
+            checksums: flag_of(found, "checksums")?,
         },
     })
 }

@@ -1,5 +1,5 @@
 -- A journal since its desk was started: with other things known of its handles, and what a call keeps by which it is given none, as a checkpoint and a read.
-use Rattle.std.proofs.Common.{◌≡◌, ℕ, Bool, true, false, ◌+◌, ◌<◌, ◌≤◌, List, [], ◌∷◌, length, take, All, Result, Ok, Err, OnOk, refl, ap, sym, subst, ◌∙◌, arith, append-nil}
+use Rattle.std.proofs.Common.{◌≡◌, ℕ, zero, suc, Bool, true, false, ◌+◌, ◌<◌, ◌≤◌, List, [], ◌∷◌, length, take, All, Result, Ok, Err, OnOk, refl, ap, sym, subst, ◌∙◌, arith, append-nil}
 use Rattle.std.proofs.lemmas.List.Elements.{All-weaker}
 use Rattle.jb_disk.specs.Faults.{MoreFaults, CountsAny}
 use Rattle.jb_disk.specs.Image.{Image}
@@ -12,7 +12,7 @@ use Rattle.jb_handle.specs.declared.shape.Shape.{Shape}
 use Rattle.jb_handle.specs.declared.stopped.Stopped.{Stopped}
 use Rattle.jb_scan.specs.Found.{log_blocks}
 use Rattle.jb_super.specs.Journal.{SameJournal}
-use Rattle.jb_deck.specs.Checkpoints.{AnswersCheckpoint, AnswersRun, Checkpoints}
+use Rattle.jb_deck.specs.Checkpoints.{as_run, AnswersRun, Checkpoints}
 use Rattle.jb_group.specs.declared.group.Group.{Group}
 use Rattle.jb_deck.specs.Deck.{OpenDeck, on_disk}
 use Rattle.jb_deck.specs.Done.{past_after, start_of}
@@ -46,9 +46,10 @@ round_of (Ok run) = Ok (Home run)
 round_of (Err fault) = Err fault
 
 -- of no groups the first ones are none
-none-first : (gs : List Group) → take most_at_once gs ≡ [] → gs ≡ []
-none-first [] none = refl
-none-first (g ∷ gs) none = cc
+none-first : (most : ℕ) (gs : List Group) → 0 < most → take most gs ≡ [] → gs ≡ []
+none-first most [] some none = refl
+none-first zero (g ∷ gs) some none = absurd (omega (arith, some))
+none-first (suc most) (g ∷ gs) some none = cc
 
 -- a call of the disk that failed is counted, unless the count was at its top
 pub more-counted : (start before after : ℕ) → start ≤ before → MoreFaults before after → start < 18446744073709551615 → after ≡ start → ⊥
@@ -233,7 +234,7 @@ read-home G b known old new kept log marks marks_after at home bytes found r sto
 -- ---- what a round says
 
 module _ {D : Type 0} (G : Ghosts D) (b : Begun) (known : Stopped → Type 0) (plain : (h : Stopped) → known h → b.stops h.words) (old new : OpenDeck D) (kept : KeptOn G CountsAny old.disk new.disk) (is : IsSinceOf G b known old) (after : IsSinceOf G b known new) where
-  pub checkpoint-round : (r : Result Checked CheckpointFault) → AnswersCheckpoint (G.faults old.disk) (G.faults new.disk) old new r → (G.honest new.disk → OnOk r (Checkpoints G.newest old new)) → ChecksRound G b r
+  pub checkpoint-round : (r : Result Checked CheckpointFault) → AnswersRun 1 (G.faults old.disk) (G.faults new.disk) old new (as_run r) → (G.honest new.disk → OnOk r (Checkpoints G.newest old new)) → ChecksRound G b r
   checkpoint-round (Ok checked) answers checkpoints = record {
     old = old;
     new = new;
@@ -245,7 +246,7 @@ module _ {D : Type 0} (G : Ghosts D) (b : Begun) (known : Stopped → Type 0) (p
     after = plain-is G b known plain new after;
   }
   checkpoint-round (Err checkpoint.Aborted) answers checkpoints = record { deck = old; since = plain-is G b known plain old is; failed = answers.0 }
-  checkpoint-round (Err checkpoint.Nothing) answers checkpoints = record { deck = old; since = plain-is G b known plain old is; up = answers.0; none = answers.1 }
+  checkpoint-round (Err checkpoint.Nothing) answers checkpoints = record { deck = old; since = plain-is G b known plain old is; up = answers.0; none = none-first 1 old.groups (omega arith) answers.1 }
   checkpoint-round (Err checkpoint.DeviceFault) answers checkpoints = record { deck = new; since = plain-is G b known plain new after; failed = cc (answers.3) }
 
   -- the same at a level, where as many blocks were in use unless the journal had failed
@@ -264,7 +265,7 @@ module _ {D : Type 0} (G : Ghosts D) (b : Begun) (known : Stopped → Type 0) (p
   }
   round-at level high (Err checkpoint.Aborted) answers checkpoints = record { deck = old; since = plain-is G b known plain old is; failed = answers.0 }
   round-at level high (Err checkpoint.Nothing) answers checkpoints =
-      let empty = none-first old.groups answers.1 in
+      let empty = none-first most_at_once old.groups (omega arith) answers.1 in
       let none : blocks_in_use old ≡ 0 = ap (λ gs. log_blocks (transactions old.log gs)) empty in
       let some : level ≤ blocks_in_use old = high answers.0 in
       (omega (arith, none, some), record { deck = old; since = plain-is G b known plain old is; up = answers.0; none = empty })

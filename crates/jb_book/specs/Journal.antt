@@ -10,7 +10,7 @@ use Rattle.jb_disk.specs.Faults.{CountsAny}
 use Rattle.jb_disk.specs.KeptOn.{KeptOn}
 use Rattle.jb_disk.specs.declared.disk.Disk.{Ghosts}
 use Rattle.jb_scan.specs.Found.{log_blocks}
-use Rattle.jb_deck.specs.Checkpoints.{AnswersRun, Checkpoints, TakesOldest, TakesRun}
+use Rattle.jb_deck.specs.Checkpoints.{run_of_one, AnswersRun, Checkpoints, TakesRun}
 use Rattle.jb_deck.specs.CommitBatch.{CommitsBatch, CommitsOnDisk, FindsLive, RefusesBatch, SettlesSome, TakesBatch}
 use Rattle.jb_deck.specs.Deck.{OpenDeck}
 use Rattle.jb_deck.specs.GroupsOfBatch.{entries_for, groups_in}
@@ -112,7 +112,7 @@ module _ {D : Type 0} (G : Ghosts D) (b : Begun) where
     pub new : OpenDeck D
     pub same_disk : KeptOn G CountsAny old.disk new.disk
     pub up : old.aborted ≡ false
-    pub takes : TakesOldest old new checked
+    pub takes : TakesRun 1 old new (run_of_one checked)
     pub checkpoints : b.is_known → G.honest new.disk → Checkpoints G.newest old new
     pub before : IsSince G b old
     pub after : IsSince G b new

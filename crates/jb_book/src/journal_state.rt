@@ -43,7 +43,7 @@ impl<D: Disk, C: Clock, S: Origin> Model for JournalState<D, C, S> {
 
 impl<D: Disk, C: Clock, S: Origin> JournalState<D, C, S> {
     ghost use Rattle.jb_block.specs.declared.stamp.Stamp.{Stamp};
-    ghost use Rattle.jb_deck.specs.Checkpoints.{AnswersCheckpoint};
+    ghost use Rattle.jb_deck.specs.Checkpoints.{as_run, AnswersRun};
     ghost use Rattle.jb_deck.specs.CommitBatch.{AnswersBatch};
     ghost use Rattle.jb_deck.specs.ReadHome.{AnswersRead};
     ghost use Rattle.jb_deck.specs.TakeTrail.{MayTakeFirst, TakesTrail, oldest_number};
@@ -131,8 +131,8 @@ impl<D: Disk, C: Clock, S: Origin> JournalState<D, C, S> {
     ///
     /// Those of the journal's own checkpoint.
     pub fn checkpoint(&mut self) -> Result<Checked, CheckpointFault>
-        ensures answers { AnswersCheckpoint (D.faults self.old.deck.disk) (D.faults self.new.deck.disk) self.old.deck
-            self.new.deck result }
+        ensures answers { AnswersRun 1 (D.faults self.old.deck.disk) (D.faults self.new.deck.disk) self.old.deck
+            self.new.deck (as_run result) }
         ensures round { ChecksRound D.Disk S.begun result }
         ensures clock { self.new.clock ≡ self.old.clock }
     {

@@ -13,10 +13,13 @@ use Rattle.jb_disk.proofs.KeptOverCalls.{kept_as, kept_on, kept_same, reads_none
 use Rattle.jb_disk.proofs.CallSteps.{goes-none, goes-on}
 use Rattle.jb_text.specs.Puts.{PutsPart}
 use Rattle.jb_text.proofs.PartByPart.{part_after}
-use Rattle.jb_recover.specs.Peeks.{IsPeeked, Peeks, PeekFaults, peek_refusal}
-use Rattle.jb_recover.specs.declared.fault.PeekFault.{PeekFault}
-use Rattle.jb_recover.specs.declared.fault.PeekFault.TheVariants as peeking
-use Rattle.jb_commands.specs.Cat.{ArePeeked, block_text, blocks_text, CatFaults, CatsOn, LooksOn, home_at, IsUnpeeked, offset_after, offset_behind, PutsText, TellsHomes}
+use Rattle.jb_recover.specs.CheckedFaults.{CheckedPeekFaults}
+use Rattle.jb_recover.specs.declared.checked_fault.CheckedPeekFault.{CheckedPeekFault}
+use Rattle.jb_recover.specs.declared.checked_fault.CheckedPeekFault.TheVariants as peeking
+use Rattle.jb_super.specs.declared.checked.CheckedSuperFault.TheVariants as checked
+use Rattle.jb_super.specs.declared.checked.Checksums.{Checksums}
+use Rattle.jb_commands.specs.Checking.{IsPeekedBy, IsUnpeeked, unpeeked_for}
+use Rattle.jb_commands.specs.Cat.{ArePeeked, block_text, blocks_text, CatFaults, CatsOn, LooksOn, home_at, offset_after, offset_behind, PutsText, TellsHomes}
 use Rattle.jb_commands.specs.Lines.{upto}
 use Rattle.jb_commands.specs.Faults.{peek_fault}
 use Rattle.jb_commands.specs.declared.fault.CommandFault.{CommandFault}
@@ -38,28 +41,24 @@ text-more : (hex : Bool) (at : ℕ) (blocks : List (List ℕ)) (bytes : List ℕ
 text-more hex at [] bytes = append-nil (block_text hex at bytes)
 text-more hex at (b ∷ blocks) bytes = rw (text-more hex (offset_behind at b) blocks bytes, append_assoc) refl
 
-peeked-more : (size count : ℕ) (c : Image) (first : ℕ) (blocks : List (List ℕ)) (bytes : List ℕ) → ArePeeked size count c first blocks
-    → (peek_refusal size count c (home_at first (length blocks)) ≡ None) × IsPeeked size count c (home_at first (length blocks)) bytes → ArePeeked size count c first (blocks ++ bytes ∷ [])
-peeked-more size count c first blocks bytes before here k within = elim (ℕ_discrete k (length blocks)) [
+peeked-more : (sums : Checksums) (size count : ℕ) (c : Image) (first : ℕ) (blocks : List (List ℕ)) (bytes : List ℕ) → ArePeeked sums size count c first blocks
+    → (unpeeked_for sums size count c (home_at first (length blocks)) ≡ None) × IsPeekedBy sums size count c (home_at first (length blocks)) bytes → ArePeeked sums size count c first (blocks ++ bytes ∷ [])
+peeked-more sums size count c first blocks bytes before here k within = elim (ℕ_discrete k (length blocks)) [
   | yes is ↦ rw (is, get_or-append_seam blocks bytes [] []) here
   | no other ↦ (let inside : k < length blocks = omega (arith, length-append blocks (bytes ∷ []), within, other) in rw (get_or_append_left blocks (bytes ∷ []) [] k inside) (before k inside))
 ]
 
--- a peek that stopped
-pub unpeeked-by : (size count : ℕ) (c : Image) (home : ℕ) (before after : List ℕ) (stop : PeekFault) → Peeks size count c home before after (Err stop) → IsUnpeeked size count c home stop
-unpeeked-by size count c home before after peeking.DeviceFault told = tt
-unpeeked-by size count c home before after (peeking.Super fault) told = told.0
-unpeeked-by size count c home before after (peeking.BadRevoke at) told = told.0
-unpeeked-by size count c home before after (peeking.HomeOutOfRange other) told = told.0
-
 -- the count after a peek that stopped
-peek-counted : (homes : Option ℕ) (stop : PeekFault) (old mid new : ℕ) → mid ≡ old → PeekFaults {T = Unit} (Err stop) mid new → CatFaults (Err (peek_fault homes stop)) old new
+peek-counted : (homes : Option ℕ) (stop : CheckedPeekFault) (old mid new : ℕ) → mid ≡ old → CheckedPeekFaults {T = Unit} (Err stop) mid new → CatFaults (Err (peek_fault homes stop)) old new
 peek-counted homes peeking.DeviceFault old mid new before told = subst (λ n. MoreFaults n new) before told
-peek-counted homes (peeking.Super fault) old mid new before told = told ∙ before
+peek-counted homes (peeking.Super (checked.Super fault)) old mid new before told = told ∙ before
+peek-counted homes (peeking.Super (checked.ChecksumType kind)) old mid new before told = told ∙ before
+peek-counted homes (peeking.Super checked.Checksum) old mid new before told = told ∙ before
+peek-counted homes (peeking.BadChecksum what at) old mid new before told = told ∙ before
 peek-counted homes (peeking.BadRevoke at) old mid new before told = told ∙ before
 peek-counted homes (peeking.HomeOutOfRange other) old mid new before told = told ∙ before
 
-module _ {D : Type 0} (G : Disks D) (first : ℕ) (hex : Bool) where
+module _ {D : Type 0} (G : Disks D) (sums : Checksums) (first : ℕ) (hex : Bool) where
   -- so many blocks are written, and the next one has this offset
   pub record Catting (old now : D) (out_old out_now : Option (List ℕ)) (i at : ℕ) : Type 0 where
     pub blocks : List (List ℕ)
@@ -68,7 +67,7 @@ module _ {D : Type 0} (G : Disks D) (first : ℕ) (hex : Bool) where
     pub same : G.honest now → G.newest now ≡ G.newest old
     pub idle : G.honest now → Goes G.may_leave G.moment G.left_since Same old now
     pub unsynced : ReadsOn G old now
-    pub peeked : G.honest now → ArePeeked (G.size old) (G.count old) (G.newest old) first blocks
+    pub peeked : G.honest now → ArePeeked sums (G.size old) (G.count old) (G.newest old) first blocks
     pub offset : at ≡ offset_after 0 blocks
     pub text : Appends out_old out_now (blocks_text hex 0 blocks)
 
@@ -86,7 +85,7 @@ module _ {D : Type 0} (G : Disks D) (first : ℕ) (hex : Bool) where
   }
 
   -- all are written
-  pub cats-well : (homes : Option ℕ) (n : ℕ) (old now : D) (out_old out_now : Option (List ℕ)) (i at : ℕ) → Catting old now out_old out_now i at → i ≡ n → CatsOn G homes first n hex old now out_old out_now (Ok 0)
+  pub cats-well : (homes : Option ℕ) (n : ℕ) (old now : D) (out_old out_now : Option (List ℕ)) (i at : ℕ) → Catting old now out_old out_now i at → i ≡ n → CatsOn sums G homes first n hex old now out_old out_now (Ok 0)
   cats-well homes n old now out_old out_now i at state whole = record {
     blocks = state.blocks;
     kept = kept_as state.kept state.kept.counted;
@@ -111,7 +110,7 @@ module _ {D : Type 0} (G : Disks D) (first : ℕ) (hex : Bool) where
         let was = kept.was_honest held in
         goes-on G.may_leave G.moment G.left_since Same old now next (λ t c earlier left. counts_now t c (state.kept.was_honest was) earlier left) (state.idle was) (idle held)
 
-    peeked-still : G.honest next → ArePeeked (G.size old) (G.count old) (G.newest old) first state.blocks
+    peeked-still : G.honest next → ArePeeked sums (G.size old) (G.count old) (G.newest old) first state.blocks
     peeked-still held = state.peeked (kept.was_honest held)
 
     -- what is known of a peek on the disk as it is now is known of it as it was
@@ -121,29 +120,29 @@ module _ {D : Type 0} (G : Disks D) (first : ℕ) (hex : Bool) where
 
     -- it stopped after these blocks
     stopped : (homes : Option ℕ) (n : ℕ) (out_next : Option (List ℕ)) (end : Result ℕ CommandFault) (blocks : List (List ℕ)) → CatFaults end (G.faults old) (G.faults next)
-        → (G.honest next → ArePeeked (G.size old) (G.count old) (G.newest old) first blocks)
-        → TellsHomes (λ stop. G.honest next → IsUnpeeked (G.size old) (G.count old) (G.newest old) (home_at first (length blocks)) stop) homes hex n
+        → (G.honest next → ArePeeked sums (G.size old) (G.count old) (G.newest old) first blocks)
+        → TellsHomes (λ stop. G.honest next → IsUnpeeked sums (G.size old) (G.count old) (G.newest old) (home_at first (length blocks)) stop) homes hex n
         (length blocks) (blocks_text hex 0 blocks) out_old out_next end
-        → CatsOn G homes first n hex old next out_old out_next end
+        → CatsOn sums G homes first n hex old next out_old out_next end
     stopped homes n out_next end blocks counted peeked told =
         record { blocks = blocks; kept = kept-next (CatFaults end) counted; same = same-next; idle = idle-next; unsynced = reads_on state.unsynced reads; peeked = peeked; told = told }
 
     -- there was no memory for the rows of the block
-    cats-starved : G.faults next ≡ G.faults now → (homes : Option ℕ) (n : ℕ) → hex ≡ true → i < n → CatsOn G homes first n hex old next out_old out_now (Err Memory)
+    cats-starved : G.faults next ≡ G.faults now → (homes : Option ℕ) (n : ℕ) → hex ≡ true → i < n → CatsOn sums G homes first n hex old next out_old out_now (Err Memory)
     cats-starved none homes n rows more =
         stopped homes n out_now (Err Memory) state.blocks (none ∙ state.kept.counted) peeked-still (inr (inl (refl, rows, let done = state.done in omega (arith, more, done), state.text)))
 
-    module _ (none : G.faults next ≡ G.faults now) (bytes : List ℕ) (told : G.honest next → (peek_refusal (G.size now) (G.count now) (G.newest now) (home_at first i) ≡ None) × IsPeeked (G.size now) (G.count now) (G.newest now) (home_at first i) bytes) where
+    module _ (none : G.faults next ≡ G.faults now) (bytes : List ℕ) (told : G.honest next → (unpeeked_for sums (G.size now) (G.count now) (G.newest now) (home_at first i) ≡ None) × IsPeekedBy sums (G.size now) (G.count now) (G.newest now) (home_at first i) bytes) where
       abbrev more : List (List ℕ)
       more = state.blocks ++ bytes ∷ []
 
       one_more : length more ≡ i + 1
       one_more = omega (arith, length-append state.blocks (bytes ∷ []), state.done)
 
-      peeked-next : G.honest next → ArePeeked (G.size old) (G.count old) (G.newest old) first more
+      peeked-next : G.honest next → ArePeeked sums (G.size old) (G.count old) (G.newest old) first more
       peeked-next held =
-          peeked-more (G.size old) (G.count old) (G.newest old) first state.blocks bytes (peeked-still held)
-          (rw state.done (as-before (λ s n c. (peek_refusal s n c (home_at first i) ≡ None) × IsPeeked s n c (home_at first i) bytes) told held))
+          peeked-more sums (G.size old) (G.count old) (G.newest old) first state.blocks bytes (peeked-still held)
+          (rw state.done (as-before (λ s n c. (unpeeked_for sums s n c (home_at first i) ≡ None) × IsPeekedBy sums s n c (home_at first i) bytes) told held))
 
       text-next : blocks_text hex 0 more ≡ blocks_text hex 0 state.blocks ++ block_text hex at bytes
       text-next = rw state.offset (text-more hex 0 state.blocks bytes)
@@ -162,34 +161,34 @@ module _ {D : Type 0} (G : Disks D) (first : ℕ) (hex : Bool) where
       }
 
       -- the block was written in part
-      pub cats-cut : (homes : Option ℕ) (n : ℕ) (out_next : Option (List ℕ)) → PutsPart out_now out_next (block_text hex at bytes) → CatsOn G homes first n hex old next out_old out_next (Err WriteFault)
+      pub cats-cut : (homes : Option ℕ) (n : ℕ) (out_next : Option (List ℕ)) → PutsPart out_now out_next (block_text hex at bytes) → CatsOn sums G homes first n hex old next out_old out_next (Err WriteFault)
       cats-cut homes n out_next part =
           stopped homes n out_next (Err WriteFault) more (none ∙ state.kept.counted) peeked-next
           (inl (refl, subst (PutsPart out_old out_next) (sym text-next) (part_after out_old out_now out_next (blocks_text hex 0 state.blocks) (block_text hex at bytes) state.text part)))
 
       -- the block was not written whole
-      pub cats-stopped : (homes : Option ℕ) (n : ℕ) (out_next : Option (List ℕ)) (fault : CommandFault) (end : Result ℕ CommandFault) → end ≡ Err fault → (fault ≡ Memory → hex ≡ true) → i < n → PutsText (block_text hex at bytes) out_now out_next (Err fault) → CatsOn G homes first n hex old next out_old out_next end
-      cats-stopped homes n out_next WriteFault end is rows inside puts = subst (CatsOn G homes first n hex old next out_old out_next) (sym is) (cats-cut homes n out_next puts)
+      pub cats-stopped : (homes : Option ℕ) (n : ℕ) (out_next : Option (List ℕ)) (fault : CommandFault) (end : Result ℕ CommandFault) → end ≡ Err fault → (fault ≡ Memory → hex ≡ true) → i < n → PutsText (block_text hex at bytes) out_now out_next (Err fault) → CatsOn sums G homes first n hex old next out_old out_next end
+      cats-stopped homes n out_next WriteFault end is rows inside puts = subst (CatsOn sums G homes first n hex old next out_old out_next) (sym is) (cats-cut homes n out_next puts)
       cats-stopped homes n out_next Memory end is rows inside puts =
-          subst (CatsOn G homes first n hex old next out_old out_next) (sym is)
-          (subst (λ o. CatsOn G homes first n hex old next out_old o (Err Memory)) (sym puts) (cats-starved none homes n (rows refl) inside))
+          subst (CatsOn sums G homes first n hex old next out_old out_next) (sym is)
+          (subst (λ o. CatsOn sums G homes first n hex old next out_old o (Err Memory)) (sym puts) (cats-starved none homes n (rows refl) inside))
       cats-stopped homes n out_next _ end is rows inside puts = absurd puts
 
     -- the peek was refused
-    pub cats-refused : (homes : Option ℕ) (n : ℕ) (stop : PeekFault) → PeekFaults {T = Unit} (Err stop) (G.faults now) (G.faults next) → i < n → (G.honest next → IsUnpeeked (G.size now) (G.count now) (G.newest now) (home_at first i) stop) → CatsOn G homes first n hex old next out_old out_now (Err (peek_fault homes stop))
+    pub cats-refused : (homes : Option ℕ) (n : ℕ) (stop : CheckedPeekFault) → CheckedPeekFaults {T = Unit} (Err stop) (G.faults now) (G.faults next) → i < n → (G.honest next → IsUnpeeked sums (G.size now) (G.count now) (G.newest now) (home_at first i) stop) → CatsOn sums G homes first n hex old next out_old out_now (Err (peek_fault homes stop))
     cats-refused homes n stop counted more told =
         let faults = peek-counted homes stop (G.faults old) (G.faults now) (G.faults next) state.kept.counted counted in
         let unpeeked = λ (held : G.honest next).
-        subst (λ k. IsUnpeeked (G.size old) (G.count old) (G.newest old) (home_at first k) stop) (sym state.done) (as-before (λ s c b. IsUnpeeked s c b (home_at first i) stop) told held) in
+        subst (λ k. IsUnpeeked sums (G.size old) (G.count old) (G.newest old) (home_at first k) stop) (sym state.done) (as-before (λ s c b. IsUnpeeked sums s c b (home_at first i) stop) told held) in
         stopped homes n out_now (Err (peek_fault homes stop)) state.blocks faults peeked-still (inr (inr (stop, refl, let done = state.done in omega (arith, more, done), unpeeked, state.text)))
 
 -- ---- no block is asked for
 
-module _ {D : Type 0} (G : Disks D) (homes : Option ℕ) (home : ℕ) (old new : D)
+module _ {D : Type 0} (G : Disks D) (sums : Checksums) (homes : Option ℕ) (home : ℕ) (old new : D)
     (same : G.honest new → G.newest new ≡ G.newest old) (idle : G.honest new → Goes G.may_leave G.moment G.left_since Same old new)
     (reads : ReadsOn G old new) where
   -- the peek was not refused
-  pub looks-well : KeptOn G CountsNone old new → (G.honest new → peek_refusal (G.size old) (G.count old) (G.newest old) home ≡ None) → LooksOn G homes home old new (Ok 0)
+  pub looks-well : KeptOn G CountsNone old new → (G.honest new → unpeeked_for sums (G.size old) (G.count old) (G.newest old) home ≡ None) → LooksOn sums G homes home old new (Ok 0)
   looks-well kept told = record {
     kept = kept_as kept kept.counted;
     same = same;
@@ -199,7 +198,7 @@ module _ {D : Type 0} (G : Disks D) (homes : Option ℕ) (home : ℕ) (old new :
   }
 
   -- the peek was refused
-  pub looks-refused : (stop : PeekFault) → KeptOn G (PeekFaults {T = Unit} (Err stop)) old new → (G.honest new → IsUnpeeked (G.size old) (G.count old) (G.newest old) home stop) → LooksOn G homes home old new (Err (peek_fault homes stop))
+  pub looks-refused : (stop : CheckedPeekFault) → KeptOn G (CheckedPeekFaults {T = Unit} (Err stop)) old new → (G.honest new → IsUnpeeked sums (G.size old) (G.count old) (G.newest old) home stop) → LooksOn sums G homes home old new (Err (peek_fault homes stop))
   looks-refused stop kept told = record {
     kept = kept_as kept (peek-counted homes stop (G.faults old) (G.faults old) (G.faults new) refl kept.counted);
     same = same;

@@ -16,19 +16,20 @@ use Rattle.jb_image.specs.declared.image.ImageDisk.{ImageDisk}
 use Rattle.jb_image.specs.declared.image.ImageDisk.TheVariants.{One, Two, Within}
 use Rattle.jb_super.proofs.Soundness.{super_in-sound}
 use Rattle.jb_super.specs.Superblock.{Superblock}
+use Rattle.jb_super.specs.declared.checked.Checksums.{Checksums}
 use Rattle.jb_commands.specs.JournalPlace.{IsOpenedListed}
 use Rattle.jb_commands.specs.OwnPlace.{Agrees, AreFew, Disagrees, IsComparedTo, IsOtherThan, IsOwnOpened}
 use Rattle.jb_commands.specs.declared.fault.CommandFault.{CommandFault}
 
-module _ {S : Type 0} {start : Starts S} where
+module _ {S : Type 0} {start : Starts S} (sums : Checksums) where
   -- the extents agree with what was found in the image
   pub compared-is : (old new : ExtentsDisk (FileDisk S start)) (disk then : FileDisk S start) (es : Extents) (journal : ℕ) (answer : Result FoundJournal FindFault)
       → disk ≡ whole_disk old → es ≡ extents_of old → journal ≡ journal_blocks old
       → whole_disk new ≡ then → extents_of new ≡ es → journal_blocks new ≡ journal
-      → FindsJournal as_file answer disk then → Agrees (list_of es) answer → IsComparedTo old new
+      → FindsJournal as_file sums answer disk then → Agrees (list_of es) answer → IsComparedTo sums old new
   compared-is old new disk then es journal answer was had counted is has counts finds agrees = record {
     answer = answer;
-    finds = subst (λ d. FindsJournal as_file answer (whole_disk old) d) (sym is) (subst (λ d. FindsJournal as_file answer d then) was finds);
+    finds = subst (λ d. FindsJournal as_file sums answer (whole_disk old) d) (sym is) (subst (λ d. FindsJournal as_file sums answer d then) was finds);
     agrees = subst (λ e. Agrees (list_of e) answer) had agrees;
     extents = has ∙ had;
     journal = counts ∙ counted;
@@ -36,11 +37,11 @@ module _ {S : Type 0} {start : Starts S} where
 
   -- they do not
   pub other-is : (old : ExtentsDisk (FileDisk S start)) (disk then : FileDisk S start) (es : Extents) (answer : Result FoundJournal FindFault) (fault : CommandFault)
-      → disk ≡ whole_disk old → es ≡ extents_of old → FindsJournal as_file answer disk then → Disagrees (list_of es) answer fault → IsOtherThan old fault
+      → disk ≡ whole_disk old → es ≡ extents_of old → FindsJournal as_file sums answer disk then → Disagrees (list_of es) answer fault → IsOtherThan sums old fault
   other-is old disk then es answer fault was had finds disagrees = record {
     answer = answer;
     new = then;
-    finds = subst (λ d. FindsJournal as_file answer d then) was finds;
+    finds = subst (λ d. FindsJournal as_file sums answer d then) was finds;
     disagrees = subst (λ e. Disagrees (list_of e) answer fault) had disagrees;
   }
 
@@ -55,9 +56,9 @@ module _ {S T : Type 0} {start : Starts S} {other : Starts T} where
       omega (arith, count, few)
 
 -- an image was made of a file and of the journal that was found in it
-pub own-opened : {S : Type 0} {start : Starts S} (T : Type 0) (other : Starts T) (own : FoundJournal) (old then : FileDisk S start) (whole made : ExtentsDisk (FileDisk S start)) (homes : ℕ) → IsMeasured old → FindsJournal as_file (Ok own) old then → whole ≡ made
+pub own-opened : {S : Type 0} {start : Starts S} (sums : Checksums) (T : Type 0) (other : Starts T) (own : FoundJournal) (old then : FileDisk S start) (whole made : ExtentsDisk (FileDisk S start)) (homes : ℕ) → IsMeasured old → FindsJournal as_file sums (Ok own) old then → whole ≡ made
     → whole_disk made ≡ then → list_of (extents_of made) ≡ own.0 → journal_blocks made ≡ own.2.maxlen
-    → homes ≡ homes_in own.2 (spread_count (journal_blocks made) (count_of (whole_disk made))) → IsOwnOpened {T = T} {other = other} (Within whole) homes (Some own.1)
-own-opened T other own old then whole made homes measured finds is disk list journal counted =
-    subst (λ w. IsOwnOpened {T = T} {other = other} (Within w) homes (Some own.1)) (sym is)
-    (own, (old, measured, subst (λ d. FindsJournal as_file (Ok own) old d) (sym disk) finds), list, journal, counted, refl)
+    → homes ≡ homes_in own.2 (spread_count (journal_blocks made) (count_of (whole_disk made))) → IsOwnOpened {T = T} {other = other} sums (Within whole) homes (Some own.1)
+own-opened sums T other own old then whole made homes measured finds is disk list journal counted =
+    subst (λ w. IsOwnOpened {T = T} {other = other} sums (Within w) homes (Some own.1)) (sym is)
+    (own, (old, measured, subst (λ d. FindsJournal as_file sums (Ok own) old d) (sym disk) finds), list, journal, counted, refl)

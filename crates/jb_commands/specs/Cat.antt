@@ -8,9 +8,9 @@ use Rattle.jb_disk.specs.Image.{Image, Same}
 use Rattle.jb_disk.specs.KeptOn.{KeptOn, ReadsOn}
 use Rattle.jb_disk.specs.Time.{Goes}
 use Rattle.jb_text.specs.Puts.{PutsPart}
-use Rattle.jb_recover.specs.Peeks.{IsPeeked, peek_refusal}
-use Rattle.jb_recover.specs.declared.fault.PeekFault.{PeekFault}
-use Rattle.jb_recover.specs.declared.fault.PeekFault.TheVariants as peeking
+use Rattle.jb_recover.specs.declared.checked_fault.CheckedPeekFault.{CheckedPeekFault}
+use Rattle.jb_super.specs.declared.checked.Checksums.{Checksums}
+use Rattle.jb_commands.specs.Checking.{IsPeekedBy, IsUnpeeked, unpeeked_for}
 use Rattle.jb_commands.specs.Faults.{peek_fault}
 use Rattle.jb_commands.specs.Lines.{upto}
 use Rattle.jb_commands.specs.declared.fault.CommandFault.{CommandFault}
@@ -61,15 +61,8 @@ abbrev pub home_at : ℕ → ℕ → ℕ
 home_at first k = min (first + k) (2 ^ 64 - 1)
 
 -- the blocks are what peeks at the homes from the first one on give
-abbrev pub ArePeeked : ℕ → ℕ → Image → ℕ → List (List ℕ) → Type 0
-ArePeeked size count c first blocks = (k : ℕ) → k < length blocks → (peek_refusal size count c (home_at first k) ≡ None) × IsPeeked size count c (home_at first k) (get_or blocks k [])
-
--- a peek at the home is refused for this
-abbrev pub IsUnpeeked : ℕ → ℕ → Image → ℕ → PeekFault → Type 0
-IsUnpeeked size count c home peeking.DeviceFault = ⊤
-IsUnpeeked size count c home (peeking.Super fault) = peek_refusal size count c home ≡ Some (peeking.Super fault)
-IsUnpeeked size count c home (peeking.BadRevoke at) = peek_refusal size count c home ≡ Some (peeking.BadRevoke at)
-IsUnpeeked size count c home (peeking.HomeOutOfRange other) = peek_refusal size count c home ≡ Some (peeking.HomeOutOfRange other)
+abbrev pub ArePeeked : Checksums → ℕ → ℕ → Image → ℕ → List (List ℕ) → Type 0
+ArePeeked sums size count c first blocks = (k : ℕ) → k < length blocks → (unpeeked_for sums size count c (home_at first k) ≡ None) × IsPeekedBy sums size count c (home_at first k) (get_or blocks k [])
 
 -- how writing one text ends: it is written, or its beginning, or nothing for want of memory
 abbrev pub PutsText : List ℕ → Option (List ℕ) → Option (List ℕ) → Result Unit CommandFault → Type 0
@@ -80,12 +73,12 @@ PutsText text old new (Err _) = ⊥
 
 -- so many blocks were asked for, and all of them are written; or their beginning; or all before one that was not peeked at, or had no
 -- memory for its rows
-abbrev pub TellsHomes : (PeekFault → Type 0) → Option ℕ → Bool → ℕ → ℕ → List ℕ → Option (List ℕ) → Option (List ℕ) → Result ℕ CommandFault → Type 0
+abbrev pub TellsHomes : (CheckedPeekFault → Type 0) → Option ℕ → Bool → ℕ → ℕ → List ℕ → Option (List ℕ) → Option (List ℕ) → Result ℕ CommandFault → Type 0
 TellsHomes IsRefused homes hex n done text out_old out_new (Ok status) = (status ≡ 0) × (done ≡ n) × Appends out_old out_new text
 TellsHomes IsRefused homes hex n done text out_old out_new (Err fault) =
     ((fault ≡ WriteFault) × PutsPart out_old out_new text)
     ⊎ (((fault ≡ Memory) × (hex ≡ true) × (done < n) × Appends out_old out_new text)
-    ⊎ ((stop : PeekFault) × (fault ≡ peek_fault homes stop) × (done < n) × IsRefused stop × Appends out_old out_new text))
+    ⊎ ((stop : CheckedPeekFault) × (fault ≡ peek_fault homes stop) × (done < n) × IsRefused stop × Appends out_old out_new text))
 
 -- how the count of failed calls changes: it rises where one is why the command ended, and else stays
 abbrev pub CatFaults : Result ℕ CommandFault → ℕ → ℕ → Type 0
@@ -95,38 +88,38 @@ CatFaults (Err _) old new = new ≡ old
 
 -- the homes of a disk from the first one on were peeked at and written, as many as were asked for, or up to a fault; the disk's content
 -- stays, and a crash leaves what it could leave before, no less and no more
-pub record CatsOn {D : Type 0} (G : Disks D) (homes : Option ℕ) (first n : ℕ) (hex : Bool) (old new : D)
+pub record CatsOn {D : Type 0} (sums : Checksums) (G : Disks D) (homes : Option ℕ) (first n : ℕ) (hex : Bool) (old new : D)
     (out_old out_new : Option (List ℕ)) (end : Result ℕ CommandFault) : Type 0 where
   pub blocks : List (List ℕ)
   pub kept : KeptOn G (CatFaults end) old new
   pub same : G.honest new → G.newest new ≡ G.newest old
   pub idle : G.honest new → Goes G.may_leave G.moment G.left_since Same old new
   pub unsynced : ReadsOn G old new
-  pub peeked : G.honest new → ArePeeked (G.size old) (G.count old) (G.newest old) first blocks
-  pub told : TellsHomes (λ stop. G.honest new → IsUnpeeked (G.size old) (G.count old) (G.newest old) (home_at first (length blocks)) stop) homes hex n (length blocks)
+  pub peeked : G.honest new → ArePeeked sums (G.size old) (G.count old) (G.newest old) first blocks
+  pub told : TellsHomes (λ stop. G.honest new → IsUnpeeked sums (G.size old) (G.count old) (G.newest old) (home_at first (length blocks)) stop) homes hex n (length blocks)
       (blocks_text hex 0 blocks) out_old out_new end
 
 -- ---- no block is asked for
 
 -- a home was peeked at, and that is not refused, or is refused for this
-abbrev pub LooksAs : (PeekFault → Type 0) → Type 0 → Option ℕ → Result ℕ CommandFault → Type 0
+abbrev pub LooksAs : (CheckedPeekFault → Type 0) → Type 0 → Option ℕ → Result ℕ CommandFault → Type 0
 LooksAs IsRefused IsPassed homes (Ok status) = (status ≡ 0) × IsPassed
-LooksAs IsRefused IsPassed homes (Err fault) = (stop : PeekFault) × (fault ≡ peek_fault homes stop) × IsRefused stop
+LooksAs IsRefused IsPassed homes (Err fault) = (stop : CheckedPeekFault) × (fault ≡ peek_fault homes stop) × IsRefused stop
 
 -- a home of a disk was peeked at, and nothing more: it ends well where that is not refused; the disk's content stays, and a crash leaves
 -- what it could leave before, no less and no more
-pub record LooksOn {D : Type 0} (G : Disks D) (homes : Option ℕ) (home : ℕ) (old new : D) (end : Result ℕ CommandFault) : Type 0 where
+pub record LooksOn {D : Type 0} (sums : Checksums) (G : Disks D) (homes : Option ℕ) (home : ℕ) (old new : D) (end : Result ℕ CommandFault) : Type 0 where
   pub kept : KeptOn G (CatFaults end) old new
   pub same : G.honest new → G.newest new ≡ G.newest old
   pub idle : G.honest new → Goes G.may_leave G.moment G.left_since Same old new
   pub unsynced : ReadsOn G old new
-  pub looked : LooksAs (λ stop. G.honest new → IsUnpeeked (G.size old) (G.count old) (G.newest old) home stop)
-      (G.honest new → peek_refusal (G.size old) (G.count old) (G.newest old) home ≡ None) homes end
+  pub looked : LooksAs (λ stop. G.honest new → IsUnpeeked sums (G.size old) (G.count old) (G.newest old) home stop)
+      (G.honest new → unpeeked_for sums (G.size old) (G.count old) (G.newest old) home ≡ None) homes end
 
 -- the homes of a disk from the first one on were shown, as many as were asked for; where none was, the first was peeked at, and nothing
 -- written
-pub record ShowsOn {D : Type 0} (G : Disks D) (homes : Option ℕ) (first n : ℕ) (hex : Bool) (old new : D)
+pub record ShowsOn {D : Type 0} (sums : Checksums) (G : Disks D) (homes : Option ℕ) (first n : ℕ) (hex : Bool) (old new : D)
     (out_old out_new : Option (List ℕ)) (end : Result ℕ CommandFault) : Type 0 where
-  pub cats : 0 < n → CatsOn G homes first n hex old new out_old out_new end
-  pub looks : n ≡ 0 → LooksOn G homes first old new end
+  pub cats : 0 < n → CatsOn sums G homes first n hex old new out_old out_new end
+  pub looks : n ≡ 0 → LooksOn sums G homes first old new end
   pub silent : n ≡ 0 → out_new ≡ out_old

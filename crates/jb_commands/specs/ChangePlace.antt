@@ -10,6 +10,7 @@ use Rattle.jb_image.specs.Files.{as_files}
 use Rattle.jb_image.specs.Images.{is_within}
 use Rattle.jb_image.specs.declared.image.ImageDisk.{ImageDisk}
 use Rattle.jb_image.specs.declared.judging.JournalUse.TheVariants.{RecoverInPlace}
+use Rattle.jb_super.specs.declared.checked.Checksums.TheVariants.{Refused}
 use Rattle.jb_commands.specs.Change.{ChangesOn}
 use Rattle.jb_commands.specs.JournalPlace.{IsOpenedAt, IsShutAt, JudgesBeside}
 use Rattle.jb_commands.specs.declared.fault.CommandFault.{CommandFault}
@@ -27,14 +28,14 @@ module _ {D E R : Type 0} (G : Disks (ImageDisk D E)) where
   abbrev pub ChangesOpened : (ℕ → ℕ → Image → Image → Result R ChangeFault → Type 0) → (ℕ → ℕ → Image → Image → Type 0) → (ℕ → ℕ → Image → Image → Type 0) → (R → Report)
       → ImageDisk D E → ImageDisk D E → Result Report CommandFault → Type 0
   ChangesOpened Does IsMidst EndsAlike report old new end =
-      (mid : ImageDisk D E) × (judged : Result Unit CommandFault) × JudgesBeside G (is_within old) RecoverInPlace false old mid judged × ChangesJudged Does IsMidst EndsAlike report judged mid new end
+      (mid : ImageDisk D E) × (judged : Result Unit CommandFault) × JudgesBeside Refused G (is_within old) RecoverInPlace false old mid judged × ChangesJudged Does IsMidst EndsAlike report judged mid new end
 
 module _ {S T : Type 0} {start : Starts S} {other : Starts T} where
   -- the image was not opened, and nothing was done; or its clean journal was changed since it was opened, by its first bytes or by a list of
   -- extents, and what the change answered is the end. If the file is honest, all that the change says of contents holds of it
   abbrev pub EndsOfChange : {R : Type 0} → (ℕ → ℕ → Image → Image → Result R ChangeFault → Type 0) → (ℕ → ℕ → Image → Image → Type 0) → (ℕ → ℕ → Image → Image → Type 0) → (R → Report)
       → List ℕ → Option (List ℕ) → Option (List ℕ) → Option (ImageDisk (FileDisk S start) (FileDisk T other)) → Result Report CommandFault → Type 0
-  EndsOfChange Does IsMidst EndsAlike report name extents input None end = (fault : CommandFault) × (end ≡ Err fault) × IsShutAt start other name input None extents fault
+  EndsOfChange Does IsMidst EndsAlike report name extents input None end = (fault : CommandFault) × (end ≡ Err fault) × IsShutAt Refused start other name input None extents fault
   EndsOfChange Does IsMidst EndsAlike report name extents input (Some new) end =
-      (old : ImageDisk (FileDisk S start) (FileDisk T other)) × (homes : ℕ) × (found : Option MapSource) × IsOpenedAt input None extents old homes found
+      (old : ImageDisk (FileDisk S start) (FileDisk T other)) × (homes : ℕ) × (found : Option MapSource) × IsOpenedAt Refused input None extents old homes found
       × ChangesOpened as_files Does IsMidst EndsAlike report old new end

@@ -1,5 +1,5 @@
 -- The status, the line and the hint of each way in which a command ends without an answer, and which faults end it so.
-use Rattle.std.specs.Prelude.{ℕ, List, [], ◌∷◌, Option, None, Some, codes, decimal}
+use Rattle.std.specs.Prelude.{ℕ, ◌==◌, ◌&&◌, ◌||◌, if◌then◌else◌, List, [], ◌∷◌, Option, None, Some, codes, decimal}
 use Rattle.jb_args.specs.declared.hint.Hint.{Hint}
 use Rattle.jb_args.specs.declared.hint.Hint.TheVariants as hint
 use Rattle.jb_dump.specs.declared.fault.DumpFault.{DumpFault}
@@ -14,17 +14,20 @@ use Rattle.jb_format.specs.declared.change.ChangeFault.{ChangeFault}
 use Rattle.jb_format.specs.declared.change.ChangeFault.TheVariants as changing
 use Rattle.jb_format.specs.declared.fault.FormatFault.{FormatFault}
 use Rattle.jb_format.specs.declared.fault.FormatFault.TheVariants as formatting
-use Rattle.jb_recover.specs.declared.fault.PeekFault.{PeekFault}
-use Rattle.jb_recover.specs.declared.fault.PeekFault.TheVariants as peeking
-use Rattle.jb_recover.specs.declared.fault.RecoverFault.{RecoverFault}
-use Rattle.jb_recover.specs.declared.fault.RecoverFault.TheVariants as recovering
+use Rattle.jb_recover.specs.declared.checked_fault.CheckedPeekFault.{CheckedPeekFault}
+use Rattle.jb_recover.specs.declared.checked_fault.CheckedPeekFault.TheVariants as peeking
+use Rattle.jb_recover.specs.declared.checked_fault.CheckedFault.{CheckedFault}
+use Rattle.jb_recover.specs.declared.checked_fault.CheckedFault.TheVariants as recovering
+use Rattle.jb_scan.specs.declared.wrong.Summed.{Summed}
+use Rattle.jb_scan.specs.declared.wrong.Summed.TheVariants as summed
+use Rattle.jb_super.specs.declared.checked.CheckedSuperFault.{CheckedSuperFault}
+use Rattle.jb_super.specs.declared.checked.CheckedSuperFault.TheVariants as checked
 use Rattle.jb_super.specs.declared.fault.SuperFault.{SuperFault}
 use Rattle.jb_super.specs.declared.fault.SuperFault.TheVariants as super
 use Rattle.jb_commands.specs.Lines.{Names, image_named, journal_named, line_naming}
 use Rattle.jb_commands.specs.OwnLines.{own_fault_line}
 use Rattle.jb_commands.specs.declared.fault.CommandFault.{CommandFault}
-use Rattle.jb_commands.specs.declared.fault.CommandFault.TheVariants.{CannotRead, InUse, MountsUnknown, NoLinks, SameFile, CannotMake, BadOption, TooLong, ReadFault, Super, JournalLength, FileSystem, Extents, BadRevoke, HomeOutOfRange, NoHome, NeedsRecovery, NumbersSpent, BlockSize, Accounts, Geometry, DeviceFault, Memory, WriteFault}
-use Rattle.jb_commands.specs.declared.fault.CommandFault.TheVariants.{CannotRead, InUse, SameFile, CannotMake, BadOption, TooLong, ReadFault, Super, JournalLength, FileSystem, Extents, Own, BadRevoke, HomeOutOfRange, NoHome, NeedsRecovery, NumbersSpent, BlockSize, Accounts, Geometry, DeviceFault, Memory, WriteFault}
+use Rattle.jb_commands.specs.declared.fault.CommandFault.TheVariants.{CannotRead, InUse, MountsUnknown, NoLinks, SameFile, CannotMake, BadOption, TooLong, ReadFault, Super, JournalLength, FileSystem, Extents, BadRevoke, HomeOutOfRange, NoHome, NeedsRecovery, NumbersSpent, BlockSize, Accounts, Geometry, DeviceFault, Memory, WriteFault, Own, ChecksumType, SuperChecksum, BadChecksum}
 
 -- the exit status
 abbrev pub status_of : CommandFault → ℕ
@@ -42,6 +45,9 @@ status_of (JournalLength blocks maxlen) = 1
 status_of (FileSystem fault) = 1
 status_of (Extents fault) = 1
 status_of (Own fault) = 1
+status_of (ChecksumType kind) = 1
+status_of SuperChecksum = 1
+status_of (BadChecksum what place) = 1
 status_of (BadRevoke place) = 1
 status_of (HomeOutOfRange home number homes) = 1
 status_of (NoHome home homes) = 1
@@ -53,6 +59,13 @@ status_of Geometry = 1
 status_of DeviceFault = 1
 status_of Memory = 1
 status_of WriteFault = 1
+
+-- what a block with a wrong checksum is called
+abbrev pub sum_words : Summed → List ℕ
+sum_words summed.Descriptor = codes "jb: BadChecksum descriptor "
+sum_words summed.Revoke = codes "jb: BadChecksum revoke "
+sum_words summed.Commit = codes "jb: BadChecksum commit "
+sum_words summed.Data = codes "jb: BadChecksum data "
 
 -- the line of a superblock that is refused, after the name of a file: the fault's name and its numbers; of a feature word, 1, 2 or 3,
 -- those of its bits that are not taken
@@ -103,6 +116,9 @@ line_of names (JournalLength blocks maxlen) =
 line_of names (FileSystem fault) = system_line (image_named names) fault
 line_of names (Extents fault) = extents_line fault
 line_of names (Own fault) = own_fault_line fault
+line_of names (ChecksumType kind) = line_naming (codes "jb: Super ChecksumType " ∷ decimal kind ∷ []) (journal_named names)
+line_of names SuperChecksum = line_naming (codes "jb: Super Checksum" ∷ []) (journal_named names)
+line_of names (BadChecksum what place) = line_naming (sum_words what ∷ decimal place ∷ []) (journal_named names)
 line_of names (BadRevoke place) = line_naming (codes "jb: BadRevoke " ∷ decimal place ∷ []) (journal_named names)
 line_of names (HomeOutOfRange home number homes) =
     line_naming (codes "jb: HomeOutOfRange " ∷ decimal home ∷ codes " " ∷ decimal number ∷ []) (image_named names)
@@ -123,7 +139,7 @@ super_hint super.NoMagic = hint.SuperNoMagic
 super_hint (super.NotVersion2 kind) = hint.SuperNotVersion2
 super_hint (super.BlockSize size) = hint.SuperBlockSize
 super_hint super.Geometry = hint.SuperGeometry
-super_hint (super.Feature word bits) = hint.SuperFeature
+super_hint (super.Feature word bits) = if word == 2 && (bits == 8 || bits == 16) then hint.SuperSummed else hint.SuperFeature
 
 -- the same of a journal that is not recovered into a file system
 abbrev pub system_hint : FileSystemFault → Hint
@@ -179,6 +195,9 @@ hint_of (JournalLength blocks maxlen) = hint.JournalLength
 hint_of (FileSystem fault) = system_hint fault
 hint_of (Extents fault) = extents_hint fault
 hint_of (Own fault) = own_hint fault
+hint_of (ChecksumType kind) = hint.SuperChecksumType
+hint_of SuperChecksum = hint.SuperChecksum
+hint_of (BadChecksum what place) = hint.BadChecksum
 hint_of (BadRevoke place) = hint.BadRevoke
 hint_of (HomeOutOfRange home number homes) = hint.HomeOutOfRange homes
 hint_of (NoHome home homes) = hint.NoHome homes
@@ -195,11 +214,18 @@ hint_of WriteFault = hint.WriteFault
 abbrev pub not_utf8 : List ℕ
 not_utf8 = line_naming (codes "error: invalid UTF-8 was detected in one or more arguments" ∷ []) None
 
+-- what is reported of a superblock that is refused, where a journal may have checksums
+abbrev pub super_fault : CheckedSuperFault → CommandFault
+super_fault (checked.Super fault) = Super fault
+super_fault (checked.ChecksumType kind) = ChecksumType kind
+super_fault checked.Checksum = SuperChecksum
+
 -- what a fault of a dump is reported as
 abbrev pub dump_fault : DumpFault → CommandFault
 dump_fault dumping.ReadFault = ReadFault
 dump_fault dumping.WriteFault = WriteFault
-dump_fault (dumping.Super fault) = Super fault
+dump_fault (dumping.Super fault) = super_fault fault
+dump_fault (dumping.BadChecksum what place) = BadChecksum what place
 dump_fault (dumping.BadRevoke place) = BadRevoke place
 dump_fault dumping.Memory = Memory
 
@@ -209,17 +235,19 @@ format_fault formatting.DeviceFault = DeviceFault
 format_fault formatting.Geometry = Geometry
 
 -- what a fault of a recovery is reported as, of an image with so many home blocks, where that is known
-abbrev pub recover_fault : Option ℕ → RecoverFault → CommandFault
+abbrev pub recover_fault : Option ℕ → CheckedFault → CommandFault
 recover_fault homes recovering.DeviceFault = DeviceFault
-recover_fault homes (recovering.Super fault) = Super fault
+recover_fault homes (recovering.Super fault) = super_fault fault
+recover_fault homes (recovering.BadChecksum what place) = BadChecksum what place
 recover_fault homes (recovering.BadRevoke place) = BadRevoke place
 recover_fault homes (recovering.HomeOutOfRange home number) = HomeOutOfRange home number homes
 recover_fault homes recovering.Memory = Memory
 
 -- what a fault of a peek is reported as, into an image with so many home blocks, where that is known
-abbrev pub peek_fault : Option ℕ → PeekFault → CommandFault
+abbrev pub peek_fault : Option ℕ → CheckedPeekFault → CommandFault
 peek_fault homes peeking.DeviceFault = DeviceFault
-peek_fault homes (peeking.Super fault) = Super fault
+peek_fault homes (peeking.Super fault) = super_fault fault
+peek_fault homes (peeking.BadChecksum what place) = BadChecksum what place
 peek_fault homes (peeking.BadRevoke place) = BadRevoke place
 peek_fault homes (peeking.HomeOutOfRange home) = NoHome home homes
 

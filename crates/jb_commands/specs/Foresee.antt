@@ -5,9 +5,7 @@ use Rattle.jb_image.specs.declared.extents_fault.ExtentsFault.TheVariants.{Home}
 use Rattle.jb_text.specs.TextParts.{spelled}
 use Rattle.jb_image.specs.Images.{own_home}
 use Rattle.jb_image.specs.declared.image.ImageDisk.{ImageDisk}
-use Rattle.jb_recover.specs.Foresees.{Foresees}
-use Rattle.jb_recover.specs.Passes.{Passed}
-use Rattle.jb_recover.specs.declared.fault.RecoverFault.{RecoverFault}
+use Rattle.jb_recover.specs.declared.checked_fault.CheckedFault.{CheckedFault}
 use Rattle.jb_recover.specs.declared.recovered.Foreseen.{Foreseen}
 use Rattle.jb_commands.specs.Faults.{recover_fault}
 use Rattle.jb_commands.specs.Recover.{recovered_line}
@@ -15,7 +13,6 @@ use Rattle.jb_commands.specs.declared.fault.CommandFault.{CommandFault}
 use Rattle.jb_commands.specs.declared.fault.CommandFault.TheVariants.{Extents as InExtents}
 use Rattle.jb_commands.specs.declared.report.Report.{Report}
 use Rattle.jb_commands.specs.declared.report.Report.TheVariants.{Foreseen as ReportsForeseen}
-use Rattle.jb_disk.specs.declared.disk.Disk.{Ghosts as Disks}
 
 -- the line of a home block that would be written
 abbrev pub home_line : ℕ → List ℕ
@@ -29,12 +26,6 @@ homes_lines homes = spelled (map home_line homes)
 abbrev pub foreseen_text : Bool → Option MapSource → Foreseen → List ℕ
 foreseen_text list found told = recovered_line found told.counts ++ (if list then homes_lines told.homes.items else [])
 
--- it was foreseen what a recovery of the disk answers, with these clauses; the disk's content stays, and a crash leaves what it
--- could leave before, no less and no more (`unsynced` of `passed`)
-pub record Foretells {D : Type 0} (G : Disks D) (old new : D) (answer : Result Foreseen RecoverFault) : Type 0 where
-  pub passed : Passed G answer old new
-  pub foresees : G.honest new → Foresees (G.size old) (G.count old) (G.newest old) answer
-
 -- what was foreseen of an image, by the first home block that would be written and is the journal's own, if there is one
 abbrev pub apart_end : Option ℕ → Option MapSource → Bool → Foreseen → Result Report CommandFault
 apart_end None found list told = Ok (ReportsForeseen told list found)
@@ -42,7 +33,7 @@ apart_end (Some home) found list told = Err (InExtents (Home home))
 
 -- what was foreseen of an image, as the command's end: its text, with what said where the journal stands; or its fault with the number of home blocks; or that a home block
 -- that would be written is one of the journal's own
-abbrev pub foreseen_end : {D E : Type 0} → ImageDisk D E → ℕ → Option MapSource → Bool → Result Foreseen RecoverFault → Result Report CommandFault
+abbrev pub foreseen_end : {D E : Type 0} → ImageDisk D E → ℕ → Option MapSource → Bool → Result Foreseen CheckedFault → Result Report CommandFault
 foreseen_end disk homes found list (Ok told) = apart_end (own_home disk told.homes.items) found list told
 foreseen_end disk homes found list (Err fault) = Err (recover_fault (Some homes) fault)
 
@@ -52,6 +43,6 @@ apart_checked None = Ok tt
 apart_checked (Some home) = Err (InExtents (Home home))
 
 -- whether a recovery of an image may write, by what was foreseen
-abbrev pub own_checked : {D E : Type 0} → ImageDisk D E → ℕ → Result Foreseen RecoverFault → Result Unit CommandFault
+abbrev pub own_checked : {D E : Type 0} → ImageDisk D E → ℕ → Result Foreseen CheckedFault → Result Unit CommandFault
 own_checked disk homes (Ok told) = apart_checked (own_home disk told.homes.items)
 own_checked disk homes (Err fault) = Err (recover_fault (Some homes) fault)

@@ -22,12 +22,15 @@ use Rattle.jb_image.specs.declared.image.ImageDisk.{ImageDisk}
 use Rattle.jb_image.specs.declared.judging.JournalUse.{JournalUse}
 use Rattle.jb_image.specs.declared.judging.JournalUse.TheVariants.{RecoverCopy, RecoverInPlace}
 use Rattle.jb_image.specs.declared.image.ImageDisk.TheVariants.{One, Two, Within}
-use Rattle.jb_recover.specs.declared.fault.RecoverFault.{RecoverFault}
+use Rattle.jb_recover.specs.declared.checked_fault.CheckedFault.{CheckedFault}
 use Rattle.jb_recover.specs.declared.recovered.Foreseen.{Foreseen}
+use Rattle.jb_super.specs.declared.checked.Checksums.{Checksums}
+use Rattle.jb_super.specs.declared.checked.Checksums.TheVariants.{Allowed, Refused}
 use Rattle.jb_commands.specs.Cat.{ShowsOn}
 use Rattle.jb_commands.specs.Files.{IsImageOpened, IsShut, IsUnread, SaysSuper}
 use Rattle.jb_commands.specs.FoundWithin.{IsTried, IsFoundWithin, IsOtherSize}
-use Rattle.jb_commands.specs.Foresee.{Foretells, foreseen_end, own_checked}
+use Rattle.jb_commands.specs.Checking.{ForetellsBy}
+use Rattle.jb_commands.specs.Foresee.{foreseen_end, own_checked}
 use Rattle.jb_commands.specs.Judge.{JudgesOn}
 use Rattle.jb_commands.specs.ListText.{HasNoList, IsListOf}
 use Rattle.jb_commands.specs.OwnPlace.{IsComparedImage, IsFrontShut, IsOpenedByFront, IsOtherImage}
@@ -42,6 +45,11 @@ use Rattle.jb_commands.specs.declared.report.Report.{Report}
 abbrev pub IsBadOption : OptionName → CommandFault → Type 0
 IsBadOption option (BadOption told) = told ≡ option
 IsBadOption option _ = ⊥
+
+-- whether checksums are allowed, by the option
+abbrev pub sums_of : Bool → Checksums
+sums_of false = Refused
+sums_of true = Allowed
 
 -- ---- a journal within its image
 
@@ -104,36 +112,36 @@ module _ {S T : Type 0} {start : Starts S} {other : Starts T} where
   IsOpenedListed input word disk homes = (list : List ℕ) × IsListOf input word list × IsOpenedWithin list disk homes
 
   -- the same, and the list agrees with the file system's own journal, where there is a file system
-  abbrev pub IsOpenedCompared : Option (List ℕ) → List ℕ → ImageDisk (FileDisk S start) (FileDisk T other) → ℕ → Type 0
-  IsOpenedCompared input word disk homes =
-      (old : ImageDisk (FileDisk S start) (FileDisk T other)) × IsOpenedListed input word old homes × IsComparedImage old disk
+  abbrev pub IsOpenedCompared : Checksums → Option (List ℕ) → List ℕ → ImageDisk (FileDisk S start) (FileDisk T other) → ℕ → Type 0
+  IsOpenedCompared sums input word disk homes =
+      (old : ImageDisk (FileDisk S start) (FileDisk T other)) × IsOpenedListed input word old homes × IsComparedImage sums old disk
 
   -- it is open, wherever its journal is, and this says where that stands, where it was looked for
-  abbrev pub IsOpenedAt : Option (List ℕ) → Option (List ℕ) → Option (List ℕ) → ImageDisk (FileDisk S start) (FileDisk T other) → ℕ → Option MapSource → Type 0
-  IsOpenedAt input None None disk homes found = IsOpenedByFront disk homes found
-  IsOpenedAt input (Some journal) None disk homes found = IsImageOpened (Some journal) disk homes × (found ≡ None)
-  IsOpenedAt input None (Some word) disk homes found = IsOpenedCompared input word disk homes × (found ≡ None)
-  IsOpenedAt input (Some journal) (Some word) disk homes found = ⊥
+  abbrev pub IsOpenedAt : Checksums → Option (List ℕ) → Option (List ℕ) → Option (List ℕ) → ImageDisk (FileDisk S start) (FileDisk T other) → ℕ → Option MapSource → Type 0
+  IsOpenedAt sums input None None disk homes found = IsOpenedByFront sums disk homes found
+  IsOpenedAt sums input (Some journal) None disk homes found = IsImageOpened (Some journal) disk homes × (found ≡ None)
+  IsOpenedAt sums input None (Some word) disk homes found = IsOpenedCompared sums input word disk homes × (found ≡ None)
+  IsOpenedAt sums input (Some journal) (Some word) disk homes found = ⊥
 
 -- the list that a word says was not read, or the image was not opened with it; or it was, and the file system's own journal stands
 -- elsewhere, or is not found
-abbrev pub IsShutCompared : {S T : Type 0} → Starts S → Starts T → List ℕ → Option (List ℕ) → List ℕ → CommandFault → Type 0
-IsShutCompared {S} {T} start other name input word fault =
+abbrev pub IsShutCompared : {S T : Type 0} → Checksums → Starts S → Starts T → List ℕ → Option (List ℕ) → List ℕ → CommandFault → Type 0
+IsShutCompared {S} {T} sums start other name input word fault =
     IsShutListed name input word fault
-    ⊎ ((old : ImageDisk (FileDisk S start) (FileDisk T other)) × (homes : ℕ) × IsOpenedListed input word old homes × IsOtherImage old fault)
+    ⊎ ((old : ImageDisk (FileDisk S start) (FileDisk T other)) × (homes : ℕ) × IsOpenedListed input word old homes × IsOtherImage sums old fault)
 
 -- it was not opened: both places were named, or see those of the one
-abbrev pub IsShutAt : {S T : Type 0} → Starts S → Starts T → List ℕ → Option (List ℕ) → Option (List ℕ) → Option (List ℕ) → CommandFault → Type 0
-IsShutAt start other name input None None fault = IsFrontShut start name fault
-IsShutAt start other name input (Some journal) None fault = IsShut name (Some journal) fault
-IsShutAt start other name input None (Some word) fault = IsShutCompared start other name input word fault
-IsShutAt start other name input (Some journal) (Some word) fault = IsBadOption option.Extents fault
+abbrev pub IsShutAt : {S T : Type 0} → Checksums → Starts S → Starts T → List ℕ → Option (List ℕ) → Option (List ℕ) → Option (List ℕ) → CommandFault → Type 0
+IsShutAt sums start other name input None None fault = IsFrontShut sums start name fault
+IsShutAt sums start other name input (Some journal) None fault = IsShut name (Some journal) fault
+IsShutAt sums start other name input None (Some word) fault = IsShutCompared sums start other name input word fault
+IsShutAt sums start other name input (Some journal) (Some word) fault = IsBadOption option.Extents fault
 
 module _ {D E : Type 0} (G : Disks (ImageDisk D E)) where
   -- home blocks were written as their peeks gave them, unless this one that was asked for is the journal's own: then nothing was done
   abbrev pub ShowsUnless : Option ℕ → ℕ → CatWords → ImageDisk D E → ImageDisk D E → Option (List ℕ) → Option (List ℕ) → Result Report CommandFault → Type 0
   ShowsUnless None homes words old new out_old out_new end =
-      (told : Result ℕ CommandFault) × ShowsOn G (Some homes) words.home words.count words.hex old new out_old out_new told × (end ≡ status_end told)
+      (told : Result ℕ CommandFault) × ShowsOn (sums_of words.checksums) G (Some homes) words.home words.count words.hex old new out_old out_new told × (end ≡ status_end told)
   ShowsUnless (Some home) homes words old new out_old out_new end = (new ≡ old) × (out_new ≡ out_old) × (end ≡ Err (InExtents (Home home)))
 
   -- the same, where one that is asked for may be the journal's own
@@ -144,9 +152,9 @@ module _ {S T : Type 0} {start : Starts S} {other : Starts T} where
   -- the image was not opened, and nothing was done; or home blocks of it were written as their peeks gave them, in blocks of the size that
   -- its first bytes say, as many as asked for from one on, since it was opened; the first is peeked at where none is asked for
   abbrev pub EndsOfCat : List ℕ → CatWords → Option (List ℕ) → Option (List ℕ) → Option (List ℕ) → Option (ImageDisk (FileDisk S start) (FileDisk T other)) → Result Report CommandFault → Type 0
-  EndsOfCat name words input out_old out_new None end = (fault : CommandFault) × (end ≡ Err fault) × IsShutAt start other name input words.journal words.extents fault × (out_new ≡ out_old)
+  EndsOfCat name words input out_old out_new None end = (fault : CommandFault) × (end ≡ Err fault) × IsShutAt (sums_of words.checksums) start other name input words.journal words.extents fault × (out_new ≡ out_old)
   EndsOfCat name words input out_old out_new (Some new) end =
-      (old : ImageDisk (FileDisk S start) (FileDisk T other)) × (homes : ℕ) × (found : Option MapSource) × IsOpenedAt input words.journal words.extents old homes found
+      (old : ImageDisk (FileDisk S start) (FileDisk T other)) × (homes : ℕ) × (found : Option MapSource) × IsOpenedAt (sums_of words.checksums) input words.journal words.extents old homes found
       × ShowsAsked as_files homes words old new out_old out_new end
 
 -- ---- a recovery
@@ -162,50 +170,50 @@ use_of None = RecoverInPlace
 use_of (Some journal) = RecoverCopy
 
 -- a journal that is beside its home blocks was judged by them, by what it is to them
-abbrev pub JudgesBeside : {D : Type 0} → Disks D → Bool → JournalUse → Bool → D → D → Result Unit CommandFault → Type 0
-JudgesBeside G true used force old new judged = JudgesOn G used force old new judged
-JudgesBeside G false used force old new judged = (new ≡ old) × (judged ≡ Ok tt)
+abbrev pub JudgesBeside : {D : Type 0} → Checksums → Disks D → Bool → JournalUse → Bool → D → D → Result Unit CommandFault → Type 0
+JudgesBeside sums G true used force old new judged = JudgesOn sums G used force old new judged
+JudgesBeside sums G false used force old new judged = (new ≡ old) × (judged ≡ Ok tt)
 
 module _ {D E : Type 0} (G : Disks (ImageDisk D E)) where
   -- it was foreseen what a recovery of an image would do, and that is the end, unless a copy is for a home block that is the journal's own
-  abbrev pub ForeseesImage : ℕ → Option MapSource → Bool → ImageDisk D E → ImageDisk D E → Result Report CommandFault → Type 0
-  ForeseesImage homes found list old new end = (answer : Result Foreseen RecoverFault) × Foretells G old new answer × (end ≡ foreseen_end new homes found list answer)
+  abbrev pub ForeseesImage : Checksums → ℕ → Option MapSource → Bool → ImageDisk D E → ImageDisk D E → Result Report CommandFault → Type 0
+  ForeseesImage sums homes found list old new end = (answer : Result Foreseen CheckedFault) × ForetellsBy sums G old new answer × (end ≡ foreseen_end new homes found list answer)
 
   -- of a journal within its home blocks it was foreseen whether a copy is for one of its own
-  abbrev pub ChecksOwn : ℕ → ImageDisk D E → ImageDisk D E → Result Unit CommandFault → Type 0
-  ChecksOwn homes old new checked =
+  abbrev pub ChecksOwn : Checksums → ℕ → ImageDisk D E → ImageDisk D E → Result Unit CommandFault → Type 0
+  ChecksOwn sums homes old new checked =
       ((is_within old ≡ false) × (new ≡ old) × (checked ≡ Ok tt))
-      ⊎ ((is_within old ≡ true) × ((answer : Result Foreseen RecoverFault) × Foretells G old new answer × (checked ≡ own_checked new homes answer)))
+      ⊎ ((is_within old ≡ true) × ((answer : Result Foreseen CheckedFault) × ForetellsBy sums G old new answer × (checked ≡ own_checked new homes answer)))
 
   -- the image was recovered, or that is why not
-  abbrev pub RecoversChecked : ℕ → Option MapSource → Result Unit CommandFault → ImageDisk D E → ImageDisk D E → Result Report CommandFault → Type 0
-  RecoversChecked homes found (Ok done) old new end = RecoversOn G (Some homes) found old new end
-  RecoversChecked homes found (Err fault) old new end = (new ≡ old) × (end ≡ Err fault)
+  abbrev pub RecoversChecked : Checksums → ℕ → Option MapSource → Result Unit CommandFault → ImageDisk D E → ImageDisk D E → Result Report CommandFault → Type 0
+  RecoversChecked sums homes found (Ok done) old new end = RecoversOn sums G (Some homes) found old new end
+  RecoversChecked sums homes found (Err fault) old new end = (new ≡ old) × (end ≡ Err fault)
 
   -- the image was recovered, unless a copy is for a home block that is the journal's own
-  abbrev pub RecoversImage : ℕ → Option MapSource → ImageDisk D E → ImageDisk D E → Result Report CommandFault → Type 0
-  RecoversImage homes found old new end = (mid : ImageDisk D E) × (checked : Result Unit CommandFault) × ChecksOwn homes old mid checked × RecoversChecked homes found checked mid new end
+  abbrev pub RecoversImage : Checksums → ℕ → Option MapSource → ImageDisk D E → ImageDisk D E → Result Report CommandFault → Type 0
+  RecoversImage sums homes found old new end = (mid : ImageDisk D E) × (checked : Result Unit CommandFault) × ChecksOwn sums homes old mid checked × RecoversChecked sums homes found checked mid new end
 
   -- it was said what a recovery would do, or the image was recovered
-  abbrev pub DoesRecover : Bool → Bool → ℕ → Option MapSource → ImageDisk D E → ImageDisk D E → Result Report CommandFault → Type 0
-  DoesRecover true list homes found = ForeseesImage homes found list
-  DoesRecover false list homes found = RecoversImage homes found
+  abbrev pub DoesRecover : Checksums → Bool → Bool → ℕ → Option MapSource → ImageDisk D E → ImageDisk D E → Result Report CommandFault → Type 0
+  DoesRecover sums true list homes found = ForeseesImage sums homes found list
+  DoesRecover sums false list homes found = RecoversImage sums homes found
 
   -- what was asked for was done, or that is why not
   abbrev pub RecoversJudged : RecoverWords → ℕ → Option MapSource → Result Unit CommandFault → ImageDisk D E → ImageDisk D E → Result Report CommandFault → Type 0
-  RecoversJudged words homes found (Ok done) old new end = DoesRecover words.dry_run words.list homes found old new end
+  RecoversJudged words homes found (Ok done) old new end = DoesRecover (sums_of words.checksums) words.dry_run words.list homes found old new end
   RecoversJudged words homes found (Err fault) old new end = (new ≡ old) × (end ≡ Err fault)
 
   -- an image with so many home blocks was judged, where its journal is beside them, and then what was asked for was done; what says where
   -- its journal stands is reported
   abbrev pub RecoversOpened : RecoverWords → ℕ → Option MapSource → ImageDisk D E → ImageDisk D E → Result Report CommandFault → Type 0
   RecoversOpened words homes found old new end =
-      (mid : ImageDisk D E) × (judged : Result Unit CommandFault) × JudgesBeside G (is_beside words.journal (is_within old)) (use_of words.journal) words.force old mid judged × RecoversJudged words homes found judged mid new end
+      (mid : ImageDisk D E) × (judged : Result Unit CommandFault) × JudgesBeside (sums_of words.checksums) G (is_beside words.journal (is_within old)) (use_of words.journal) words.force old mid judged × RecoversJudged words homes found judged mid new end
 
 -- the words do not go together, or the image was not opened
 abbrev pub IsNotOpenedToRecover : {S T : Type 0} → Starts S → Starts T → List ℕ → RecoverWords → Option (List ℕ) → CommandFault → Type 0
 IsNotOpenedToRecover start other name words input fault =
-    (IsBadOption option.List fault × (words.list ≡ true) × (words.dry_run ≡ false)) ⊎ IsShutAt start other name input words.journal words.extents fault
+    (IsBadOption option.List fault × (words.list ≡ true) × (words.dry_run ≡ false)) ⊎ IsShutAt (sums_of words.checksums) start other name input words.journal words.extents fault
 
 module _ {S T : Type 0} {start : Starts S} {other : Starts T} where
   -- the image was not opened, and nothing was done; or what was asked for was done since it was opened. If its files are honest, all that
@@ -213,5 +221,5 @@ module _ {S T : Type 0} {start : Starts S} {other : Starts T} where
   abbrev pub EndsOfRecover : List ℕ → RecoverWords → Option (List ℕ) → Option (ImageDisk (FileDisk S start) (FileDisk T other)) → Result Report CommandFault → Type 0
   EndsOfRecover name words input None end = (fault : CommandFault) × (end ≡ Err fault) × IsNotOpenedToRecover start other name words input fault
   EndsOfRecover name words input (Some new) end =
-      (old : ImageDisk (FileDisk S start) (FileDisk T other)) × (homes : ℕ) × (found : Option MapSource) × IsOpenedAt input words.journal words.extents old homes found
+      (old : ImageDisk (FileDisk S start) (FileDisk T other)) × (homes : ℕ) × (found : Option MapSource) × IsOpenedAt (sums_of words.checksums) input words.journal words.extents old homes found
       × RecoversOpened as_files words homes found old new end

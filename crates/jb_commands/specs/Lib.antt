@@ -3,6 +3,7 @@ pub mod Cat
 pub mod Change
 pub mod ChangePlace
 pub mod Check
+pub mod Checking
 pub mod Cost
 pub mod Dump
 pub mod DumpPlace

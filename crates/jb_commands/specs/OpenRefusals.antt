@@ -15,6 +15,7 @@ use Rattle.jb_image.specs.declared.opening.Opening.{Opening}
 use Rattle.jb_image.specs.declared.opening.Opening.TheVariants.{Change, Forced, Read}
 use Rattle.jb_super.specs.Faults.{super_in}
 use Rattle.jb_super.specs.Superblock.{Superblock}
+use Rattle.jb_super.specs.declared.checked.Checksums.{Checksums}
 use Rattle.jb_commands.specs.Files.{SaysSuper}
 use Rattle.jb_commands.specs.FoundWithin.{IsFoundWithin, IsOfSizes, IsOtherSize, IsTried}
 use Rattle.jb_commands.specs.JournalPlace.{IsHeldWithin, IsJournalWithin, IsNoPlace}
@@ -38,9 +39,9 @@ IsFileShut (Super fault) = (front : List ℕ) × (super_in front ≡ Err fault)
 IsFileShut _ = ⊤
 
 -- an image was not opened: its file was not, or its file system's own journal was not found
-abbrev pub IsOwnShut : {S : Type 0} → Starts S → OwnShut → Type 0
-IsOwnShut start (own.File fault) = IsFileShut fault
-IsOwnShut start (own.Find fault) = IsOwnUnfound start fault
+abbrev pub IsOwnShut : {S : Type 0} → Checksums → Starts S → OwnShut → Type 0
+IsOwnShut sums start (own.File fault) = IsFileShut fault
+IsOwnShut sums start (own.Find fault) = IsOwnUnfound sums start fault
 
 -- the two files are one, or one of them was not opened, or the journal's has fewer blocks than its superblock says, or more
 abbrev pub IsPairShut : PairFault → Type 0

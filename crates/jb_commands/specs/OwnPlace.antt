@@ -27,6 +27,8 @@ use Rattle.jb_super.specs.Faults.{super_in}
 use Rattle.jb_super.specs.Superblock.{Superblock}
 use Rattle.jb_super.specs.declared.fault.SuperFault.{SuperFault}
 use Rattle.jb_super.specs.declared.fault.SuperFault.TheVariants.{ShortBlock, NoMagic, NotVersion2, BlockSize as OtherSize, Geometry, Feature}
+use Rattle.jb_super.specs.Checked.{read_as}
+use Rattle.jb_super.specs.declared.checked.Checksums.{Checksums}
 use Rattle.jb_commands.specs.Files.{IsImageOpened, IsUnread, SaysSuper}
 use Rattle.jb_commands.specs.declared.fault.CommandFault.{CommandFault}
 use Rattle.jb_commands.specs.declared.fault.CommandFault.TheVariants.{DeviceFault, Extents, Memory, Own, Super}
@@ -69,14 +71,15 @@ abbrev pub front_by : Option BlockSize → Result Superblock SuperFault → Resu
 front_by size (Ok sb) = Ok (Journal sb)
 front_by size (Err fault) = refused_front size fault
 
--- what an image is by its first bytes: a journal with home blocks; or a file system, where no journal begins there
-abbrev pub front_of_image : List ℕ → Result ImageFront FileFault
-front_of_image front = front_by (system_size front) (super_in front)
+-- what an image is by its first bytes: a journal with home blocks, which has checksums only where these are allowed; or a file system, where no
+-- journal begins there
+abbrev pub front_of_image : Checksums → List ℕ → Result ImageFront FileFault
+front_of_image sums front = front_by (system_size front) (super_in (read_as sums front))
 
 -- some first bytes say so
-abbrev pub SaysFront : ImageFront → Type 0
-SaysFront (Journal sb) = SaysSuper sb
-SaysFront (System size) = (front : List ℕ) × (super_in front ≡ Err NoMagic) × (system_size front ≡ Some size)
+abbrev pub SaysFront : Checksums → ImageFront → Type 0
+SaysFront sums (Journal sb) = SaysSuper sb
+SaysFront sums (System size) = (front : List ℕ) × (super_in (read_as sums front) ≡ Err NoMagic) × (system_size front ≡ Some size)
 
 -- ---- a file system's own journal
 
@@ -88,30 +91,30 @@ of_find find.DeviceFault = DeviceFault
 of_find find.Memory = Memory
 
 -- the journal of the file system in a file was looked for since its length was asked, and nothing else was asked of it; that is the answer
-abbrev pub LooksFor : {S : Type 0} {start : Starts S} → Result FoundJournal FindFault → FileDisk S start → Type 0
-LooksFor {S} {start} answer new = (old : FileDisk S start) × IsMeasured old × FindsJournal as_file answer old new
+abbrev pub LooksFor : {S : Type 0} {start : Starts S} → Checksums → Result FoundJournal FindFault → FileDisk S start → Type 0
+LooksFor {S} {start} sums answer new = (old : FileDisk S start) × IsMeasured old × FindsJournal as_file sums answer old new
 
 -- it was not found, for this
-abbrev pub IsOwnUnfound : {S : Type 0} → Starts S → FindFault → Type 0
-IsOwnUnfound {S} start fault = (new : FileDisk S start) × LooksFor (Err fault) new
+abbrev pub IsOwnUnfound : {S : Type 0} → Checksums → Starts S → FindFault → Type 0
+IsOwnUnfound {S} sums start fault = (new : FileDisk S start) × LooksFor sums (Err fault) new
 
 -- the image of this name was not opened: its file was not, or its file system's own journal was not found
-abbrev pub IsFrontShut : {S : Type 0} → Starts S → List ℕ → CommandFault → Type 0
-IsFrontShut start name fault = IsUnread name fault ⊎ ((found : FindFault) × (fault ≡ of_find found) × IsOwnUnfound start found)
+abbrev pub IsFrontShut : {S : Type 0} → Checksums → Starts S → List ℕ → CommandFault → Type 0
+IsFrontShut sums start name fault = IsUnread name fault ⊎ ((found : FindFault) × (fault ≡ of_find found) × IsOwnUnfound sums start found)
 
 module _ {S T : Type 0} {start : Starts S} {other : Starts T} where
   -- the journal of the file system in a file was found, by what this says, and the image is that file, with the journal in those blocks;
   -- so many home blocks can be named in it
-  abbrev pub IsOwnOpened : ImageDisk (FileDisk S start) (FileDisk T other) → ℕ → Option MapSource → Type 0
-  IsOwnOpened (One file) homes found = ⊥
-  IsOwnOpened (Two pair) homes found = ⊥
-  IsOwnOpened (Within disk) homes found =
-      (own : FoundJournal) × LooksFor (Ok own) (whole_disk disk) × (list_of (extents_of disk) ≡ own.0) × (journal_blocks disk ≡ own.2.maxlen)
+  abbrev pub IsOwnOpened : Checksums → ImageDisk (FileDisk S start) (FileDisk T other) → ℕ → Option MapSource → Type 0
+  IsOwnOpened sums (One file) homes found = ⊥
+  IsOwnOpened sums (Two pair) homes found = ⊥
+  IsOwnOpened sums (Within disk) homes found =
+      (own : FoundJournal) × LooksFor sums (Ok own) (whole_disk disk) × (list_of (extents_of disk) ≡ own.0) × (journal_blocks disk ≡ own.2.maxlen)
       × (homes ≡ homes_in own.2 (spread_count (journal_blocks disk) (count_of (whole_disk disk)))) × (found ≡ Some own.1)
 
   -- the image is open, by its first bytes: with the journal at its front, or with its file system's own, and what says where that stands
-  abbrev pub IsOpenedByFront : ImageDisk (FileDisk S start) (FileDisk T other) → ℕ → Option MapSource → Type 0
-  IsOpenedByFront disk homes found = (IsImageOpened None disk homes × (found ≡ None)) ⊎ IsOwnOpened disk homes found
+  abbrev pub IsOpenedByFront : Checksums → ImageDisk (FileDisk S start) (FileDisk T other) → ℕ → Option MapSource → Type 0
+  IsOpenedByFront sums disk homes found = (IsImageOpened None disk homes × (found ≡ None)) ⊎ IsOwnOpened sums disk homes found
 
 -- ---- a list of extents beside it
 
@@ -139,19 +142,19 @@ Disagrees es (Err found) fault = (told : FindFault) × (find_told found ≡ Some
 
 module _ {S : Type 0} {start : Starts S} where
   -- the journal of the file system in an image was looked for, and the extents agree with it
-  pub record IsComparedTo (old new : ExtentsDisk (FileDisk S start)) : Type 0 where
+  pub record IsComparedTo (sums : Checksums) (old new : ExtentsDisk (FileDisk S start)) : Type 0 where
     pub answer : Result FoundJournal FindFault
-    pub finds : FindsJournal as_file answer (whole_disk old) (whole_disk new)
+    pub finds : FindsJournal as_file sums answer (whole_disk old) (whole_disk new)
     pub agrees : Agrees (list_of (extents_of old)) answer
     pub extents : extents_of new ≡ extents_of old
     pub journal : journal_blocks new ≡ journal_blocks old
 
 module _ {S : Type 0} {start : Starts S} where
   -- it was looked for, and the extents do not
-  pub record IsOtherThan (old : ExtentsDisk (FileDisk S start)) (fault : CommandFault) : Type 0 where
+  pub record IsOtherThan (sums : Checksums) (old : ExtentsDisk (FileDisk S start)) (fault : CommandFault) : Type 0 where
     pub answer : Result FoundJournal FindFault
     pub new : FileDisk S start
-    pub finds : FindsJournal as_file answer (whole_disk old) new
+    pub finds : FindsJournal as_file sums answer (whole_disk old) new
     pub disagrees : Disagrees (list_of (extents_of old)) answer fault
 
 module _ {S T : Type 0} {start : Starts S} {other : Starts T} where
@@ -162,12 +165,12 @@ module _ {S T : Type 0} {start : Starts S} {other : Starts T} where
   AreFew (Within disk) = extents_count (list_of (extents_of disk)) < 2 ^ 64 - 1
 
   -- an image whose journal stands within it was compared with its file system's own
-  abbrev pub IsComparedImage : ImageDisk (FileDisk S start) (FileDisk T other) → ImageDisk (FileDisk S start) (FileDisk T other) → Type 0
-  IsComparedImage (Within old) (Within new) = IsComparedTo old new
-  IsComparedImage old new = new ≡ old
+  abbrev pub IsComparedImage : Checksums → ImageDisk (FileDisk S start) (FileDisk T other) → ImageDisk (FileDisk S start) (FileDisk T other) → Type 0
+  IsComparedImage sums (Within old) (Within new) = IsComparedTo sums old new
+  IsComparedImage sums old new = new ≡ old
 
   -- its journal is another one
-  abbrev pub IsOtherImage : ImageDisk (FileDisk S start) (FileDisk T other) → CommandFault → Type 0
-  IsOtherImage (One file) fault = ⊥
-  IsOtherImage (Two pair) fault = ⊥
-  IsOtherImage (Within disk) fault = IsOtherThan disk fault
+  abbrev pub IsOtherImage : Checksums → ImageDisk (FileDisk S start) (FileDisk T other) → CommandFault → Type 0
+  IsOtherImage sums (One file) fault = ⊥
+  IsOtherImage sums (Two pair) fault = ⊥
+  IsOtherImage sums (Within disk) fault = IsOtherThan sums disk fault

@@ -1,16 +1,12 @@
 -- How a recovery of a disk ends, and its line.
-use Rattle.std.specs.Prelude.{◌≡◌, ◌⊎◌, ℕ, List, [], ◌∷◌, Option, Some, Result, Ok, Err, OnOk, codes, decimal}
-use Rattle.jb_disk.specs.Image.{Only}
-use Rattle.jb_disk.specs.KeptOn.{KeptOn}
-use Rattle.jb_disk.specs.Time.{LeavesOnly}
+use Rattle.std.specs.Prelude.{◌≡◌, ℕ, List, [], ◌∷◌, Option, Some, Result, Ok, Err, codes, decimal}
 use Rattle.jb_ext.specs.declared.choosing.MapSource.{MapSource}
 use Rattle.jb_ext.specs.declared.choosing.MapSource.TheVariants.{Backup}
 use Rattle.jb_text.specs.TextParts.{spelled}
-use Rattle.jb_recover.specs.Outcomes.{RecoversAs}
-use Rattle.jb_recover.specs.Passes.{PassFaults}
-use Rattle.jb_recover.specs.Recovers.{Recovers}
-use Rattle.jb_recover.specs.declared.fault.RecoverFault.{RecoverFault}
+use Rattle.jb_recover.specs.declared.checked_fault.CheckedFault.{CheckedFault}
 use Rattle.jb_recover.specs.declared.recovered.Recovered.{Recovered}
+use Rattle.jb_super.specs.declared.checked.Checksums.{Checksums}
+use Rattle.jb_commands.specs.Checking.{RecoversBy}
 use Rattle.jb_commands.specs.Faults.{recover_fault}
 use Rattle.jb_commands.specs.declared.fault.CommandFault.{CommandFault}
 use Rattle.jb_commands.specs.declared.report.Report.{Report}
@@ -30,17 +26,12 @@ recovered_line found r = spelled (
 
 -- what a recovery answered, as the command's end: its counts, and what said where the journal stands; or its fault with the number of
 -- home blocks
-abbrev pub recovery_end : Option ℕ → Option MapSource → Result Recovered RecoverFault → Result Report CommandFault
+abbrev pub recovery_end : Option ℕ → Option MapSource → Result Recovered CheckedFault → Result Report CommandFault
 recovery_end homes found (Ok done) = Ok (ReportsRecovered done found)
 recovery_end homes found (Err fault) = Err (recover_fault homes fault)
 
--- the disk was recovered, as the clauses of the recovery say of its answer, and that answer is reported. A crash in its midst, or what
--- it leaves after a fault, recovers to the image that the disk's content recovers to
-pub record RecoversOn {D : Type 0} (G : Disks D) (homes : Option ℕ) (found : Option MapSource) (old new : D) (end : Result Report CommandFault) : Type 0 where
-  pub answer : Result Recovered RecoverFault
-  pub kept : KeptOn G (PassFaults answer) old new
-  pub recovers : G.honest new → Recovers (G.size old) (G.count old) (G.newest old) (G.newest new) answer
-  pub crash : G.honest new → LeavesOnly G.moment G.left_since old new (λ c. G.may_leave old c ⊎ RecoversAs (G.size old) (G.count old) (G.newest old) c)
-  pub again : G.honest new → RecoversAs (G.size old) (G.count old) (G.newest old) (G.newest new)
-  pub durable : G.honest new → OnOk answer (Only (G.newest new) (G.may_leave new))
+-- the disk was recovered, where checksums are allowed or not, and that answer is reported
+pub record RecoversOn {D : Type 0} (sums : Checksums) (G : Disks D) (homes : Option ℕ) (found : Option MapSource) (old new : D) (end : Result Report CommandFault) : Type 0 where
+  pub answer : Result Recovered CheckedFault
+  pub recovers : RecoversBy sums G old new answer
   pub told : end ≡ recovery_end homes found answer

@@ -1,15 +1,14 @@
 ghost use Rattle.std.specs.Prelude.{◌≡◌};
-ghost use Rattle.jb_commands.specs.Faults.{extents_hint as extents_hint_of, own_hint as own_hint_of};
-ghost use Rattle.jb_commands.specs.Faults.{super_hint as super_hint_of};
-ghost use Rattle.jb_commands.specs.Faults.{system_hint as system_hint_of};
 
+use crate::fault_hints::{extents_hint, own_hint, super_hint, system_hint};
 use jb_args::{Hint, OptionName};
 use jb_dump::DumpFault;
 use jb_ext::OwnFault;
 use jb_format::{ChangeFault, FormatFault};
 use jb_image::{ExtentsFault, FileSystemFault};
-use jb_recover::{PeekFault, RecoverFault};
-use jb_super::SuperFault;
+use jb_recover::{CheckedFault, CheckedPeekFault};
+use jb_scan::Summed;
+use jb_super::{CheckedSuperFault, SuperFault};
 use jb_text::WriteFault;
 use std::alloc::AllocError;
 
@@ -38,6 +37,10 @@ pub enum CommandFault<'a> {
     ReadFault,
     /// Journal block 0 is refused for this; `Geometry` also where there are fewer blocks than `s_maxlen`.
     Super(SuperFault),
+    /// The journal's `s_checksum_type` is this, and not 4, CRC-32C.
+    ChecksumType(u8),
+    /// The journal's `s_checksum` is not the checksum of its superblock.
+    SuperChecksum,
     /// The journal's own file has so many blocks, more than its superblock says (`s_maxlen`), which is the second
     /// number.
     JournalLength(u64, u32),
@@ -47,6 +50,8 @@ pub enum CommandFault<'a> {
     Extents(ExtentsFault),
     /// The file system's own journal is not found.
     Own(OwnFault),
+    /// The block at this place of the journal, of a committed transaction, has a wrong checksum.
+    BadChecksum(Summed, u64),
     /// The block at this place of the journal, of a committed transaction, is a revoke block whose `r_count` is above
     /// the block size.
     BadRevoke(u64),
@@ -105,7 +110,8 @@ impl<'a> From<DumpFault> for CommandFault<'a> {
         match fault {
             DumpFault::ReadFault => CommandFault::ReadFault,
             DumpFault::WriteFault => CommandFault::WriteFault,
-            DumpFault::Super(fault) => CommandFault::Super(fault),
+            DumpFault::Super(fault) => CommandFault::of_super(fault),
+            DumpFault::BadChecksum(what, place) => CommandFault::BadChecksum(what, place),
             DumpFault::BadRevoke(place) => CommandFault::BadRevoke(place),
             DumpFault::Memory => CommandFault::Memory,
         }
@@ -142,7 +148,7 @@ impl<'a> From<ChangeFault> for CommandFault<'a> {
 }
 
 impl<'a> CommandFault<'a> {
-    ghost use Rattle.jb_commands.specs.Faults.{hint_of, peek_fault, recover_fault, status_of};
+    ghost use Rattle.jb_commands.specs.Faults.{hint_of, peek_fault, recover_fault, status_of, super_fault};
 
     /// The program's exit status: 2 where an option or a file was the reason, else 1.
     pub fn status(self) -> u8
@@ -155,6 +161,9 @@ impl<'a> CommandFault<'a> {
             CommandFault::MountsUnknown(_) | CommandFault::NoLinks(_) => 2,
             CommandFault::BadOption(_) => 2,
             CommandFault::ReadFault | CommandFault::Super(_) | CommandFault::BadRevoke(_) => 1,
+            CommandFault::ChecksumType(_)
+            | CommandFault::SuperChecksum
+            | CommandFault::BadChecksum(_, _) => 1,
             CommandFault::HomeOutOfRange(_, _, _)
             | CommandFault::NoHome(_, _)
             | CommandFault::NeedsRecovery
@@ -167,29 +176,42 @@ impl<'a> CommandFault<'a> {
     }
 
     /// A fault of a recovery of an image with so many home blocks, where that is known.
-    pub(crate) fn of_recovery(fault: RecoverFault, homes: Option<u64>) -> CommandFault<'a>
+    pub(crate) fn of_recovery(fault: CheckedFault, homes: Option<u64>) -> CommandFault<'a>
         ensures value { result ≡ recover_fault homes fault }
     {
         match fault {
-            RecoverFault::DeviceFault => CommandFault::DeviceFault,
-            RecoverFault::Super(fault) => CommandFault::Super(fault),
-            RecoverFault::BadRevoke(place) => CommandFault::BadRevoke(place),
-            RecoverFault::HomeOutOfRange(home, number) => {
+            CheckedFault::DeviceFault => CommandFault::DeviceFault,
+            CheckedFault::Super(fault) => CommandFault::of_super(fault),
+            CheckedFault::BadChecksum(what, place) => CommandFault::BadChecksum(what, place),
+            CheckedFault::BadRevoke(place) => CommandFault::BadRevoke(place),
+            CheckedFault::HomeOutOfRange(home, number) => {
                 CommandFault::HomeOutOfRange(home, number, homes)
             }
-            RecoverFault::Memory => CommandFault::Memory,
+            CheckedFault::Memory => CommandFault::Memory,
         }
     }
 
     /// A fault of a peek into an image with so many home blocks, where that is known.
-    pub(crate) fn of_peek(fault: PeekFault, homes: Option<u64>) -> CommandFault<'a>
+    pub(crate) fn of_peek(fault: CheckedPeekFault, homes: Option<u64>) -> CommandFault<'a>
         ensures value { result ≡ peek_fault homes fault }
     {
         match fault {
-            PeekFault::DeviceFault => CommandFault::DeviceFault,
-            PeekFault::Super(fault) => CommandFault::Super(fault),
-            PeekFault::BadRevoke(place) => CommandFault::BadRevoke(place),
-            PeekFault::HomeOutOfRange(home) => CommandFault::NoHome(home, homes),
+            CheckedPeekFault::DeviceFault => CommandFault::DeviceFault,
+            CheckedPeekFault::Super(fault) => CommandFault::of_super(fault),
+            CheckedPeekFault::BadChecksum(what, place) => CommandFault::BadChecksum(what, place),
+            CheckedPeekFault::BadRevoke(place) => CommandFault::BadRevoke(place),
+            CheckedPeekFault::HomeOutOfRange(home) => CommandFault::NoHome(home, homes),
+        }
+    }
+
+    /// Why a superblock is refused, where a journal may have checksums.
+    pub(crate) fn of_super(fault: CheckedSuperFault) -> CommandFault<'a>
+        ensures value { result ≡ super_fault fault }
+    {
+        match fault {
+            CheckedSuperFault::Super(fault) => CommandFault::Super(fault),
+            CheckedSuperFault::ChecksumType(kind) => CommandFault::ChecksumType(kind),
+            CheckedSuperFault::Checksum => CommandFault::SuperChecksum,
         }
     }
 
@@ -212,6 +234,9 @@ impl<'a> CommandFault<'a> {
             CommandFault::FileSystem(fault) => system_hint(fault),
             CommandFault::Extents(fault) => extents_hint(fault),
             CommandFault::Own(fault) => own_hint(fault),
+            CommandFault::ChecksumType(_) => Hint::SuperChecksumType,
+            CommandFault::SuperChecksum => Hint::SuperChecksum,
+            CommandFault::BadChecksum(_, _) => Hint::BadChecksum,
             CommandFault::BadRevoke(_) => Hint::BadRevoke,
             CommandFault::HomeOutOfRange(_, _, homes) => Hint::HomeOutOfRange(homes),
             CommandFault::NoHome(_, homes) => Hint::NoHome(homes),
@@ -224,72 +249,5 @@ impl<'a> CommandFault<'a> {
             CommandFault::Memory => Hint::Memory,
             CommandFault::WriteFault => Hint::WriteFault,
         }
-    }
-}
-
-/// What a second line is about after the line of a superblock that is refused.
-fn super_hint(fault: SuperFault) -> Hint
-    ensures { result ≡ super_hint_of fault }
-{
-    match fault {
-        SuperFault::ShortBlock => Hint::SuperShortBlock,
-        SuperFault::NoMagic => Hint::SuperNoMagic,
-        SuperFault::NotVersion2(_) => Hint::SuperNotVersion2,
-        SuperFault::BlockSize(_) => Hint::SuperBlockSize,
-        SuperFault::Geometry => Hint::SuperGeometry,
-        SuperFault::Feature(_, _) => Hint::SuperFeature,
-    }
-}
-
-/// What a second line is about after the line of a journal that is not recovered into a file system.
-fn system_hint(fault: FileSystemFault) -> Hint
-    ensures { result ≡ system_hint_of fault }
-{
-    match fault {
-        FileSystemFault::BlockSize(_) => Hint::FileSystemBlockSize,
-        FileSystemFault::Uuid => Hint::FileSystemUuid,
-        FileSystemFault::Clean => Hint::FileSystemClean,
-        FileSystemFault::Newer => Hint::FileSystemNewer,
-        FileSystemFault::Unrecovered => Hint::FileSystemUnrecovered,
-    }
-}
-
-/// What a second line is about after the line of extents that do not hold the journal.
-fn extents_hint(fault: ExtentsFault) -> Hint
-    ensures { result ≡ extents_hint_of fault }
-{
-    match fault {
-        ExtentsFault::Overlap(_) => Hint::ExtentsOverlap,
-        ExtentsFault::PastEnd(_) => Hint::ExtentsPastEnd,
-        ExtentsFault::Short(_) => Hint::ExtentsShort,
-        ExtentsFault::Long(_) => Hint::ExtentsLong,
-        ExtentsFault::NoJournal => Hint::ExtentsNoJournal,
-        ExtentsFault::BlockSizes(_, _) => Hint::ExtentsBlockSizes,
-        ExtentsFault::Front(_) => Hint::ExtentsFront,
-        ExtentsFault::Home(_) => Hint::ExtentsHome,
-        ExtentsFault::Nothing => Hint::ExtentsNothing,
-        ExtentsFault::Other(_) => Hint::ExtentsOther,
-        ExtentsFault::Broken(_) => Hint::ExtentsBroken,
-    }
-}
-
-/// What a second line is about after the line of a file system's own journal that is not found.
-fn own_hint(fault: OwnFault) -> Hint
-    ensures { result ≡ own_hint_of fault }
-{
-    match fault {
-        OwnFault::NoSystem => Hint::OwnNoSystem,
-        OwnFault::Device => Hint::OwnDevice,
-        OwnFault::Feature(_) => Hint::OwnFeature,
-        OwnFault::NoJournal => Hint::OwnNone,
-        OwnFault::External => Hint::OwnExternal,
-        OwnFault::Field(_, _) => Hint::OwnField,
-        OwnFault::Descriptor(_) => Hint::OwnDescriptor,
-        OwnFault::Table(_) => Hint::OwnTable,
-        OwnFault::Inode(_) => Hint::OwnInode,
-        OwnFault::Map(_) => Hint::OwnMap,
-        OwnFault::Differs => Hint::OwnDiffers,
-        OwnFault::NoSuper(_) => Hint::OwnNoSuper,
-        OwnFault::Short => Hint::OwnShort,
     }
 }

@@ -7,6 +7,7 @@ mod command_end;
 mod command_output;
 mod cost;
 mod fault;
+mod fault_hints;
 mod files;
 pub mod laws;
 mod names;
@@ -35,6 +36,6 @@ pub use queue_fault::fault_answer;
 pub use report::Report;
 pub use running::{close, perform, run_plain};
 pub use streams::{
-    CERT_LIMIT, TEXT_LIMIT, cat_on, dump_from, judge_on, recover_on, refuse_words, renumber_on,
-    tell, widen_on,
+    CERT_LIMIT, ShownHomes, TEXT_LIMIT, cat_on, dump_from, judge_on, recover_on, refuse_words,
+    renumber_on, tell, widen_on,
 };

@@ -3,6 +3,7 @@
 
 mod catting;
 mod changing;
+mod checking;
 mod disk_reader;
 mod dumping;
 mod fault_line;
@@ -17,9 +18,10 @@ mod refusal;
 mod showing;
 mod telling;
 
-pub use catting::cat_on;
+pub use catting::{ShownHomes, cat_on};
 pub use changing::{renumber_on, widen_on};
 pub(crate) use changing::{tell_renumbered, tell_widened};
+pub(crate) use checking::foresee_by;
 pub(crate) use disk_reader::DiskReader;
 pub use dumping::dump_from;
 pub(crate) use foreseeing::tell_foreseen;

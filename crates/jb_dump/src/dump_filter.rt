@@ -1,4 +1,4 @@
-/// Which lines of a journal's text are written: those that each of these lets stay.
+/// Which journals have a text, and which lines of it are written: those that each of these lets stay.
 #[derive(Clone, Copy, Debug, PartialEq, Eq)]
 pub struct DumpFilter {
     /// Where there is one, the lines alone that speak of this home block: its copies, and the descriptor blocks and
@@ -10,13 +10,15 @@ pub struct DumpFilter {
     pub superblock: bool,
     /// Whether in place of all lines those of the journal at a glance are written. The others change nothing then.
     pub summary: bool,
+    /// Whether a journal with checksums is taken, too, and its blocks are judged by them.
+    pub checksums: bool,
 }
 
 impl DumpFilter {
     ghost use Rattle.std.specs.Prelude.{◌≡◌, ◌||◌};
     ghost use Rattle.jb_dump.specs.Choices.{every_line, takes_end};
 
-    /// Every line.
+    /// Every line, of a journal without checksums.
     pub fn every_line() -> DumpFilter
         ensures value { result ≡ every_line }
     {
@@ -25,6 +27,7 @@ impl DumpFilter {
             last: None,
             superblock: false,
             summary: false,
+            checksums: false,
         }
     }
 

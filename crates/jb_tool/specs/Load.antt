@@ -3,6 +3,7 @@ use Rattle.std.specs.Prelude.{◌≡◌, ◌⊎◌, ◌≤◌, ℕ, Bool, true, 
 use Rattle.jb_args.specs.declared.hint.Hint.{Hint}
 use Rattle.jb_args.specs.declared.option_name.OptionName.TheVariants.{Threads}
 use Rattle.jb_ext.specs.declared.choosing.MapSource.{MapSource}
+use Rattle.jb_super.specs.declared.checked.Checksums.TheVariants.{Refused}
 use Rattle.jb_commands.specs.QueueFaults.{queue_fault}
 use Rattle.jb_commands.specs.AnswerSaid.{said}
 use Rattle.jb_commands.specs.declared.command_output.CommandOutput.{CommandOutput}
@@ -125,7 +126,7 @@ module _ {S T : Type 0} {start : Starts S} {other : Starts T} where
 -- the image was not opened: the number of threads is bad, or it is not, and the image was not opened for this
 abbrev pub IsLoadUnopened : {S T : Type 0} → Starts S → Starts T → Loading → Option (List ℕ) → CommandFault → Type 0
 IsLoadUnopened start other load input fault =
-    (IsBadOption Threads fault × (HasThreads load → ⊥)) ⊎ (HasThreads load × IsShutAt start other load.image input load.journal load.extents fault)
+    (IsBadOption Threads fault × (HasThreads load → ⊥)) ⊎ (HasThreads load × IsShutAt Refused start other load.image input load.journal load.extents fault)
 
 -- what the journal is that is to be loaded: in a file of its own it was copied out of the image
 abbrev pub load_use : Option (List ℕ) → JournalUse
@@ -134,7 +135,7 @@ load_use (Some journal) = LoadCopy
 
 -- a journal that is beside its home blocks was judged by them
 abbrev pub JudgesLoad : {D : Type 0} → Disks D → Option (List ℕ) → Bool → D → D → Result Unit CommandFault → Type 0
-JudgesLoad G journal within old new judged = JudgesBeside G (is_beside journal within) (load_use journal) false old new judged
+JudgesLoad G journal within old new judged = JudgesBeside Refused G (is_beside journal within) (load_use journal) false old new judged
 
 module _ {S T : Type 0} {start : Starts S} {other : Starts T} where
   -- the text came next; or the image is not the journal's own, and stays as it was judged
@@ -153,7 +154,7 @@ module _ {S T : Type 0} {start : Starts S} {other : Starts T} where
   EndsOfLoad load input image end =
       ((fault : CommandFault) × (image ≡ None) × (end ≡ Err fault) × IsLoadUnopened start other load input fault)
       ⊎ (HasThreads load × ((disk : ImageDisk (FileDisk S start) (FileDisk T other)) × (homes : ℕ) × (found : Option MapSource)
-      × IsOpenedAt input load.journal load.extents disk homes found
+      × IsOpenedAt Refused input load.journal load.extents disk homes found
       × ((options : LoadOptions) × AreOptionsOf load options × LoadsOpened load options homes disk image end)))
 
 -- the whole run of a load

@@ -19,6 +19,7 @@ use jb_disk::{Disk, FileDisk, FixedClock, Start, Unknown};
 use jb_image::{ExtentsFault, ImageDisk, JournalUse};
 use jb_journal::OpenFault;
 use jb_queue::{QueueLines, read_lines};
+use jb_super::Checksums;
 use std::fs::File;
 use std::io::{Read, Write};
 use std::marker::Brand;
@@ -76,6 +77,7 @@ pub fn load_files<
         load.journal,
         load.extents,
         Opening::Change,
+        Checksums::Refused,
         input,
     ) {
         Ok(opened) => load_opened(rt, load, opened.disk, opened.homes, options),
@@ -129,9 +131,9 @@ fn judge_load<'a, D: Disk>(
         result }
 {
     match journal {
-        None if within => judge_on(disk, JournalUse::LoadInPlace, false),
+        None if within => judge_on(disk, JournalUse::LoadInPlace, false, Checksums::Refused),
         None => Ok(()),
-        Some(_) => judge_on(disk, JournalUse::LoadCopy, false),
+        Some(_) => judge_on(disk, JournalUse::LoadCopy, false, Checksums::Refused),
     }
 }
 

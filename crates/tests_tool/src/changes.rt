@@ -2,8 +2,9 @@
 
 use crate::checks::{check, check_at, check_text, fail};
 use crate::small::formatted;
-use jb_commands::cat_on;
+use jb_commands::{ShownHomes, cat_on};
 use jb_disk::{Disk, MemoryDisk, OneFaultDisk};
+use jb_super::Checksums;
 use jb_tool::{CommandFault, renumber_on, widen_on};
 use std::alloc::Global;
 use std::process::Abort;
@@ -61,10 +62,18 @@ fn a_call_that_fails_is_reported_and_nothing_is_written(rt: HostRuntime) {
     check_changes(&rt, rt.alloc())
 }
 
+/// The home block that is shown.
+const SHOWN: ShownHomes = ShownHomes {
+    home: 3,
+    count: 1,
+    hex: false,
+    sums: Checksums::Refused,
+};
+
 /// Checks that a home block is shown as it was written last.
 fn check_shown(rt: &impl Abort, alloc: Global, disk: &mut MemoryDisk) {
     let mut out = Vec::new(alloc);
-    let shown = cat_on(alloc, disk, 3, 1, false, None, &mut out);
+    let shown = cat_on(alloc, disk, SHOWN, None, &mut out);
     let is_shown = shown.is_ok() && out.as_slice() == [7; 1024].as_slice();
     check(rt, is_shown, "it is not shown")
 }

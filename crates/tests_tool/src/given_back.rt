@@ -29,6 +29,7 @@ const RECOVER: RecoverOptions<'static> = RecoverOptions {
     force: false,
     dry_run: false,
     list: false,
+    checksums: false,
 };
 
 const CAT: CatOptions<'static> = CatOptions {
@@ -37,6 +38,7 @@ const CAT: CatOptions<'static> = CatOptions {
     hex: false,
     journal: None,
     extents: None,
+    checksums: false,
 };
 
 /// Checks how many blocks the image has that a command gives back, if it gives one, and what the command has to say.

@@ -9,11 +9,12 @@ use jb_disk::Unknown;
 use jb_ext::{FieldName, InodeFault, OwnFault};
 use jb_image::{ExtentsFault, FileSystemFault};
 use jb_map::{MapFault, NodeFault};
+use jb_scan::Summed;
 use jb_super::SuperFault;
 use jb_tool::{CommandFault, LoadDone, LoadReport, Loaded, QueueHandleFault, Refused};
 
 /// Each fault of a command, with what the second line says beside the words of its row.
-static FAULTS: [(CommandFault<'static>, &str); 62] = [
+static FAULTS: [(CommandFault<'static>, &str); 67] = [
     (
         CommandFault::CannotRead("a", Some(2)),
         ": No such file or directory (os error 2)",
@@ -44,7 +45,11 @@ static FAULTS: [(CommandFault<'static>, &str); 62] = [
     (CommandFault::Super(SuperFault::NotVersion2(3)), ""),
     (CommandFault::Super(SuperFault::BlockSize(512)), ""),
     (CommandFault::Super(SuperFault::Geometry), ""),
+    (CommandFault::Super(SuperFault::Feature(2, 8)), ""),
     (CommandFault::Super(SuperFault::Feature(2, 16)), ""),
+    (CommandFault::Super(SuperFault::Feature(2, 32)), ""),
+    (CommandFault::ChecksumType(1), ""),
+    (CommandFault::SuperChecksum, ""),
     (CommandFault::JournalLength(34, 33), ""),
     (
         CommandFault::FileSystem(FileSystemFault::BlockSize(4096)),
@@ -88,6 +93,7 @@ static FAULTS: [(CommandFault<'static>, &str); 62] = [
     (CommandFault::Own(OwnFault::Differs), ""),
     (CommandFault::Own(OwnFault::NoSuper(9)), ""),
     (CommandFault::Own(OwnFault::Short), ""),
+    (CommandFault::BadChecksum(Summed::Commit, 2), ""),
     (CommandFault::BadRevoke(2), ""),
     (CommandFault::HomeOutOfRange(20, 2, Some(16)), ": 16"),
     (CommandFault::HomeOutOfRange(20, 2, None), ""),

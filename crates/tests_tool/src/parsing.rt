@@ -52,7 +52,8 @@ fn put_dump(rt: &impl Host, text: &mut String, file: &str, of: DumpOptions) {
     put_some(rt, text, of.last);
     put_flags(rt, text, &[of.superblock, of.summary]);
     put(rt, text, of.journal.unwrap_or("-"));
-    put(rt, text, of.extents.unwrap_or("-"))
+    put(rt, text, of.extents.unwrap_or("-"));
+    put_flags(rt, text, &[of.checksums])
 }
 
 /// Adds the words and options of `jb format`, in the order of `FormatOptions`.
@@ -69,7 +70,8 @@ fn put_cat(rt: &impl Host, text: &mut String, image: &str, of: CatOptions) {
     put_numbers(rt, text, &[of.home, of.count]);
     put_flags(rt, text, &[of.hex]);
     put(rt, text, of.journal.unwrap_or("-"));
-    put(rt, text, of.extents.unwrap_or("-"))
+    put(rt, text, of.extents.unwrap_or("-"));
+    put_flags(rt, text, &[of.checksums])
 }
 
 /// Adds the words and options of `jb recover`, in the order of `RecoverOptions`.
@@ -77,7 +79,7 @@ fn put_recover(rt: &impl Host, text: &mut String, image: &str, of: RecoverOption
     put_words(rt, text, &["recover", image]);
     put(rt, text, of.journal.unwrap_or("-"));
     put(rt, text, of.extents.unwrap_or("-"));
-    put_flags(rt, text, &[of.force, of.dry_run, of.list])
+    put_flags(rt, text, &[of.force, of.dry_run, of.list, of.checksums])
 }
 
 /// Adds the words and options of `jb load`, in the order of `LoadWords`.
@@ -122,7 +124,7 @@ fn asked(rt: &impl Host, words: &[&str]) -> String {
 }
 
 /// Command lines, and what they ask for.
-static ROWS: [(&str, &str); 31] = [
+static ROWS: [(&str, &str); 34] = [
     ("cost queue.txt", "cost queue.txt"),
     ("cost -", "cost -"),
     ("cost -- -x", "cost -x"),
@@ -140,39 +142,57 @@ static ROWS: [(&str, &str); 31] = [
         "format a.img --bs +1024 --journal 033 --homes 16",
         "format a.img 1024 33 16 0 00000000000000000000000000000000 false",
     ),
-    ("dump a", "dump a - - false false - -"),
-    ("dump --home 5 a", "dump a 5 - false false - -"),
-    ("dump --journal j a", "dump a - - false false j -"),
-    ("dump a --extents=1-33", "dump a - - false false - 1-33"),
+    ("dump a", "dump a - - false false - - false"),
+    ("dump --home 5 a", "dump a 5 - false false - - false"),
+    ("dump --journal j a", "dump a - - false false j - false"),
+    (
+        "dump a --extents=1-33",
+        "dump a - - false false - 1-33 false",
+    ),
     (
         "dump a --last=18446744073709551615",
-        "dump a - 18446744073709551615 false false - -",
+        "dump a - 18446744073709551615 false false - - false",
     ),
-    ("dump --super a", "dump a - - true false - -"),
-    ("dump --summary a", "dump a - - false true - -"),
-    ("dump a --summary --last 2", "dump a - 2 false true - -"),
+    ("dump --super a", "dump a - - true false - - false"),
+    ("dump --summary a", "dump a - - false true - - false"),
+    (
+        "dump a --summary --last 2",
+        "dump a - 2 false true - - false",
+    ),
     (
         "dump --last 0 --super a --home=+07",
-        "dump a 7 0 true false - -",
+        "dump a 7 0 true false - - false",
     ),
-    ("cat a.img 5", "cat a.img 5 1 false - -"),
+    (
+        "dump a --checksums --super",
+        "dump a - - true false - - true",
+    ),
+    ("cat a.img 5", "cat a.img 5 1 false - - false"),
     (
         "cat --hex a.img -n 3 18446744073709551615",
-        "cat a.img 18446744073709551615 3 true - -",
+        "cat a.img 18446744073709551615 3 true - - false",
     ),
-    ("cat a.img --journal j 0 -n0", "cat a.img 0 0 false j -"),
-    ("recover a.img", "recover a.img - - false false false"),
+    (
+        "cat a.img --journal j 0 -n0",
+        "cat a.img 0 0 false j - false",
+    ),
+    ("cat --checksums a.img 0", "cat a.img 0 1 false - - true"),
+    ("recover a.img", "recover a.img - - false false false false"),
     (
         "recover --journal=j a.img",
-        "recover a.img j - false false false",
+        "recover a.img j - false false false false",
     ),
     (
         "recover --force a.img --extents= --dry-run",
-        "recover a.img -  true true false",
+        "recover a.img -  true true false false",
     ),
     (
         "recover a.img --list --dry-run",
-        "recover a.img - - false true true",
+        "recover a.img - - false true true false",
+    ),
+    (
+        "recover --checksums --force a.img",
+        "recover a.img - - true false false true",
     ),
     (
         "load a.img queue.txt",
@@ -204,7 +224,7 @@ fn check_rows(rt: &impl Host) {
         check_asked(rt, &words_of(rt, line), wanted, row);
     }
     let words = ["recover", "--extents", "(0-1):5-6, (2):9", "a.img"];
-    let wanted = "recover a.img - (0-1):5-6, (2):9 false false false";
+    let wanted = "recover a.img - (0-1):5-6, (2):9 false false false false";
     check_asked(rt, &words, wanted, ROWS.len())
 }
 

@@ -45,6 +45,13 @@ const DUMP_EXTENTS: Word = Word {
     help: "Where the journal stands within FILE, as debugfs lists its blocks; - or @FILE has it",
 };
 
+/// The option by which a journal with checksums is taken.
+const CHECKSUMS: Word = Word {
+    name: "checksums",
+    kind: Kind::Flag,
+    help: "Takes a journal with checksums, too, and judges it by them",
+};
+
 /// What `--uuid` is where it is not given.
 const NO_UUID: &str = "00000000000000000000000000000000";
 
@@ -116,6 +123,7 @@ pub(super) static DUMP: CommandRow = CommandRow {
         },
         DUMP_JOURNAL,
         DUMP_EXTENTS,
+        CHECKSUMS,
     ],
 };
 
@@ -143,6 +151,7 @@ pub(super) static CAT: CommandRow = CommandRow {
         },
         JOURNAL,
         EXTENTS,
+        CHECKSUMS,
     ],
 };
 
@@ -251,6 +260,7 @@ pub(super) static RECOVER: CommandRow = CommandRow {
             kind: Kind::Flag,
             help: "With --dry-run: lists the home blocks that would be written",
         },
+        CHECKSUMS,
     ],
 };
 

@@ -88,6 +88,10 @@ With --summary the journal at a glance is printed in place of the lines, whateve
 much of the log is used, the blocks of a transaction, the copies and the homes that are written most, the
 revokes, and when the first and the last transaction were committed.
 
+With --checksums a journal with checksums (CSUM_V2 or CSUM_V3) is taken, too. It is refused where a descriptor,
+revoke or commit block of a committed transaction has a wrong one (jb: BadChecksum); the line of a copy ends in
+the word wrong where its data has.
+
 Status: 0 where they are printed, 1 where the journal is refused, by the name of its fault, or a read
 fails, 2 where a file cannot be opened, or is in use.
 
@@ -104,6 +108,9 @@ is not revoked makes of it, or the block as it stands. For each block the log is
 of an image with a long log are read faster after jb recover. A copy for another home block that the image
 does not have is not looked at, though recover refuses it. Of a file system of ext2, ext3 or ext4 its own
 journal is found, as jb recover finds it.
+
+With --checksums a journal with checksums is taken, too, as by jb recover; of the copies the one alone that is
+written is judged.
 
 With --hex a block is lines as xxd prints them, with offsets from 0 on over all the blocks, of 32 bits. With
 -n 0 nothing is written, but the image is read, and refused, as for one block.
@@ -186,6 +193,11 @@ to be the file system's own: its block size has to be the same, and unless --for
 e2fsck and an unmount take away. The journal of --journal is an old copy where the file system was mounted
 after its last commit, by the times that both say: then it is refused too, unless --force is given. So copy
 it out after the crash that is to be recovered. A clock that was set back meanwhile may need --force.
+
+With --checksums a journal with checksums (CSUM_V2 or CSUM_V3, which ext4 has from its first mount on since
+2016) is taken, too. All is judged before anything is written: where a block of a committed transaction has a
+wrong checksum, or a copy that would be written, the image is refused and stays as it is (jb: BadChecksum KIND
+PLACE). So what e2fsck and the kernel would write and then lose is still there.
 
 With --dry-run nothing is written, the image is opened for reading, and the line is that of the recovery;
 with --list the home block of each copy that would be written follows, as home N, in the log's order.

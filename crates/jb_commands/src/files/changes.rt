@@ -5,6 +5,7 @@ ghost use Rattle.jb_format.specs.Widen.{IsWidened, Widens, WidensAs};
 ghost use Rattle.jb_image.specs.Files.{as_disks};
 ghost use Rattle.jb_image.specs.Images.{is_within};
 ghost use Rattle.jb_image.specs.declared.judging.JournalUse.TheVariants.{RecoverInPlace};
+ghost use Rattle.jb_super.specs.declared.checked.Checksums.TheVariants.{Refused};
 ghost use Rattle.jb_commands.specs.ChangePlace.{ChangesOpened, EndsOfChange};
 ghost use Rattle.jb_commands.specs.JournalPlace.{JudgesBeside};
 ghost use Rattle.jb_commands.specs.ListText.{reads_list};
@@ -20,6 +21,7 @@ use crate::report::Report;
 use crate::streams::{renumber_on, widen_on};
 use jb_disk::{Disk, Start};
 use jb_image::{ImageDisk, JournalUse};
+use jb_super::Checksums;
 use std::fs::File;
 use std::io::Read;
 use std::rt::Files;
@@ -39,7 +41,15 @@ pub fn renumber_file<'a, S: Start, T: Start, R: Files<File = File> + AllocGlobal
         (option_map (λ word. word.now) extents.entry) (I.remaining input.old) result.image result.end }
     ensures unread { reads_list (option_map (λ word. word.now) extents.entry) ≡ false → input.new ≡ input.old }
 {
-    match open_placed(rt, image, None, extents, Opening::Change, input) {
+    match open_placed(
+        rt,
+        image,
+        None,
+        extents,
+        Opening::Change,
+        Checksums::Refused,
+        input,
+    ) {
         Ok(mut opened) => {
             let end = renumber_opened(&mut opened.disk);
             CommandEnd {
@@ -68,7 +78,15 @@ pub fn widen_file<'a, S: Start, T: Start, R: Files<File = File> + AllocGlobal, I
         (option_map (λ word. word.now) extents.entry) (I.remaining input.old) result.image result.end }
     ensures unread { reads_list (option_map (λ word. word.now) extents.entry) ≡ false → input.new ≡ input.old }
 {
-    match open_placed(rt, image, None, extents, Opening::Change, input) {
+    match open_placed(
+        rt,
+        image,
+        None,
+        extents,
+        Opening::Change,
+        Checksums::Refused,
+        input,
+    ) {
         Ok(mut opened) => {
             let end = widen_opened(&mut opened.disk);
             CommandEnd {
@@ -111,8 +129,15 @@ fn widen_opened<'a, D: Disk, E: Disk>(
 
 /// Whether the journal of an image, where it stands within the home blocks, is their file system's own.
 fn judge_within<'a, D: Disk, E: Disk>(disk: &mut ImageDisk<D, E>) -> Result<(), CommandFault<'a>>
-    ensures { JudgesBeside (as_disks D.Disk E.Disk) (is_within disk.old) RecoverInPlace false disk.old disk.new result }
+    ensures { JudgesBeside Refused (as_disks D.Disk E.Disk) (is_within disk.old) RecoverInPlace false disk.old
+        disk.new result }
 {
     let within = disk.is_within();
-    judge_beside(disk, within, JournalUse::RecoverInPlace, false)
+    judge_beside(
+        disk,
+        within,
+        JournalUse::RecoverInPlace,
+        false,
+        Checksums::Refused,
+    )
 }

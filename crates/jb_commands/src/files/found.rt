@@ -1,5 +1,6 @@
 //! The superblock of a journal within an image, at the first block of its extents.
 ghost use Rattle.std.specs.Prelude.{◌≡◌, Err, IfErr, IfOk, None, Some};
+ghost use Rattle.jb_super.specs.Checked.{read_as};
 ghost use Rattle.jb_commands.specs.Files.{SaysSuper};
 ghost use Rattle.jb_commands.specs.FoundWithin.{IsFoundWithin, IsNotFound, IsNotRead, IsReadOf, IsSaid, IsSaidSo};
 ghost use Rattle.jb_commands.specs.FoundWithin.{IsTry, super_chosen, of_sizes, try_of, try_refused, with_try};
@@ -8,15 +9,15 @@ use crate::files::opening::front_of;
 use crate::files::shut::{FileFault, WithinFault};
 use jb_block::BlockSize;
 use jb_image::{ExtentsFault, FileSystem, FileSystemFault};
-use jb_super::{Super, SuperFault};
+use jb_super::{Checksums, Super, SuperFault};
 use std::alloc::Global;
 use std::io::{Read, Seek, SeekFrom};
 
 /// Where a file system of ext2, ext3 or ext4 has its superblock.
 const SYSTEM_AT: u64 = 1024;
 
-/// The superblock of a journal that a file has at this block. Where the file has the superblock of ext2, ext3 or ext4,
-/// the block has its size; else each size is tried.
+/// The superblock of a journal that a file has at this block, which has checksums only where these are allowed. Where
+/// the file has the superblock of ext2, ext3 or ext4, the block has its size; else each size is tried.
 ///
 /// # Errors
 /// `WithinFault::File` where the file cannot be read, memory ran out, or no superblock is taken and one is refused: the
@@ -27,13 +28,14 @@ pub(crate) fn super_within<R: Read + Seek>(
     alloc: Global,
     file: &mut R,
     first: u64,
+    sums: Checksums,
 ) -> Result<Super, WithinFault>
     ensures shut { IfErr result IsNotFound }
     ensures found { IfOk result IsFoundWithin }
 {
     match system_of(alloc, file) {
-        Ok(Some(system)) => super_of_system(alloc, file, first, system),
-        Ok(None) => super_of_sizes(alloc, file, first),
+        Ok(Some(system)) => super_of_system(alloc, file, first, system, sums),
+        Ok(None) => super_of_sizes(alloc, file, first, sums),
         Err(fault) => Err(WithinFault::File(fault)),
     }
 }
@@ -61,6 +63,7 @@ fn super_of_system<R: Read + Seek>(
     file: &mut R,
     first: u64,
     system: FileSystem,
+    sums: Checksums,
 ) -> Result<Super, WithinFault>
     requires read { IsReadOf (Some system) }
     ensures shut { IfErr result IsNotFound }
@@ -68,7 +71,7 @@ fn super_of_system<R: Read + Seek>(
 {
     match BlockSize::of(system.block_size) {
         None => { Err(WithinFault::System(FileSystemFault::BlockSize(system.block_size))) }
-        Some(size) => match super_at(alloc, file, first, size) {
+        Some(size) => match super_at(alloc, file, first, size, sums) {
             Ok(tried) => chosen(with(Ok(None), tried)),
             Err(fault) => Err(WithinFault::File(fault)),
         },
@@ -80,14 +83,15 @@ fn super_of_sizes<R: Read + Seek>(
     alloc: Global,
     file: &mut R,
     first: u64,
+    sums: Checksums,
 ) -> Result<Super, WithinFault>
     requires read { IsReadOf None }
     ensures shut { IfErr result IsNotFound }
     ensures found { IfOk result IsFoundWithin }
 {
-    let one = super_at(alloc, file, first, BlockSize::OneKib)?;
-    let two = super_at(alloc, file, first, BlockSize::TwoKib)?;
-    let four = super_at(alloc, file, first, BlockSize::FourKib)?;
+    let one = super_at(alloc, file, first, BlockSize::OneKib, sums)?;
+    let two = super_at(alloc, file, first, BlockSize::TwoKib, sums)?;
+    let four = super_at(alloc, file, first, BlockSize::FourKib, sums)?;
     chosen(with(with(with(Ok(None), one), two), four))
 }
 
@@ -97,6 +101,7 @@ fn super_at<R: Read + Seek>(
     file: &mut R,
     first: u64,
     size: BlockSize,
+    sums: Checksums,
 ) -> Result<Result<Option<Super>, SuperFault>, FileFault>
     ensures shut { IfErr result IsNotRead }
     ensures tried { IfOk result (IsTry size) }
@@ -109,18 +114,22 @@ fn super_at<R: Read + Seek>(
         return Ok(Ok(None));
     }
     match front_of(alloc, file) {
-        Ok(front) => Ok(super_of_size(front.as_slice(), size)),
+        Ok(front) => Ok(super_of_size(front.as_slice(), size, sums)),
         Err(fault) => Err(fault),
     }
 }
 
 /// The superblock that these bytes are, where it says this size of blocks; `None` where they are none of version 1 or
 /// 2, or say another size.
-fn super_of_size(front: &[u8], size: BlockSize) -> Result<Option<Super>, SuperFault>
-    ensures is { result ≡ try_of size front.now }
+fn super_of_size(
+    front: &[u8],
+    size: BlockSize,
+    sums: Checksums,
+) -> Result<Option<Super>, SuperFault>
+    ensures is { result ≡ try_of size (read_as sums front.now) }
     ensures said { IsSaid result }
 {
-    match Super::read(front) {
+    match Super::read_by(sums, front) {
         Ok(sb) if sb.block_size() == size => Ok(Some(sb)),
         Ok(_) => Ok(None),
         Err(fault) => refused(fault),

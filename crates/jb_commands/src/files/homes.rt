@@ -9,8 +9,9 @@ use crate::command_end::CommandEnd;
 use crate::fault::CommandFault;
 use crate::files::opening::Opening;
 use crate::files::placed::open_placed;
+use crate::files::recovered::checksums_of;
 use crate::report::{Report, status_end};
-use crate::streams::show_on;
+use crate::streams::{ShownHomes, show_on};
 use jb_args::CatOptions;
 use jb_disk::{Disk, Start};
 use jb_image::{ExtentsFault, ImageDisk};
@@ -41,6 +42,7 @@ pub fn cat_file<'a, S: Start, T: Start, R: Files<File = File> + AllocGlobal, I: 
         options.journal,
         options.extents,
         Opening::Read,
+        checksums_of(options.checksums),
         input,
     ) {
         Ok(mut opened) => {
@@ -76,14 +78,12 @@ fn show_opened<'a, D: Disk, E: Disk, O: Write>(
     if let Some(home) = disk.own_among(options.home, options.count) {
         return Err(CommandFault::Extents(ExtentsFault::Home(home)));
     }
-    let told = show_on(
-        alloc,
-        disk,
-        options.home,
-        options.count,
-        options.hex,
-        Some(homes),
-        out,
-    );
+    let shown = ShownHomes {
+        home: options.home,
+        count: options.count,
+        hex: options.hex,
+        sums: checksums_of(options.checksums),
+    };
+    let told = show_on(alloc, disk, shown, Some(homes), out);
     status_end(told)
 }

@@ -12,6 +12,7 @@ use crate::fault::CommandFault;
 use crate::files::found::system_of;
 use crate::files::opening::Opening;
 use crate::files::placed::open_placed;
+use crate::files::recovered::checksums_of;
 use crate::files::shut::FileFault;
 use crate::files::texts::unopened;
 use crate::streams::{DiskReader, dump_from};
@@ -128,7 +129,15 @@ fn dump_placed<'a, S: Start, T: Start, R: Files<File = File> + AllocGlobal, I: R
     ensures unread { reads_list (dump_said options.entry).extents ≡ false → input.new ≡ input.old }
 {
     let (journal, extents) = (options.journal, options.extents);
-    match open_placed::<S, T, R, I>(rt, name, journal, extents, Opening::Read, input) {
+    match open_placed::<S, T, R, I>(
+        rt,
+        name,
+        journal,
+        extents,
+        Opening::Read,
+        checksums_of(options.checksums),
+        input,
+    ) {
         Ok(opened) => dump_disk(rt.alloc(), opened.disk, choice_of(options), out),
         Err(fault) => Err(fault),
     }
@@ -156,6 +165,7 @@ fn choice_of(options: DumpOptions<'_>) -> DumpFilter
         last: options.last,
         superblock: options.superblock,
         summary: options.summary,
+        checksums: options.checksums,
     }
 }
 

@@ -14,7 +14,7 @@ use jb_disk::{Disk, FileDisk, Start};
 use jb_format::homes_behind;
 pub use jb_image::Opening;
 use jb_image::{ImageDisk, ImageFault, PairDisk, open_file};
-use jb_super::Super;
+use jb_super::{Checksums, Super};
 use jb_text::{ReadFault, read_front};
 use std::alloc::Global;
 use std::fs::{File, Metadata};
@@ -28,7 +28,7 @@ const FRONT: usize = 1024;
 
 /// The image of this name as a disk, with the number of its home blocks: those after the journal's, as many as the
 /// journal's first bytes say, and of a journal with block numbers of 32 bits 2^32 at most. The journal is the front of
-/// that file, or a file of its own.
+/// that file, or a file of its own. It has checksums only where these are allowed; they are not judged here.
 ///
 /// # Errors
 /// `CommandFault::CannotRead` where a file is of another kind, or cannot be opened or read; `CommandFault::InUse` where
@@ -42,14 +42,15 @@ pub fn open_counted<'a, S: Start, T: Start, R: Files<File = File> + AllocGlobal>
     name: &'a str,
     journal: Option<&'a str>,
     opening: Opening,
+    sums: Checksums,
 ) -> Result<(ImageDisk<FileDisk<S>, FileDisk<T>>, u64), CommandFault<'a>>
     ensures shut { IfErr result (IsShut name.entry.now (option_map (λ word. word.now) journal.entry)) }
     ensures opened { IfOk result
         (λ opened. IsImageOpened (option_map (λ word. word.now) journal.entry) opened.0 opened.1) }
 {
     match journal {
-        None => named(open_one(rt, name, opening), name),
-        Some(journal) => named_pair(open_two(rt, name, journal, opening), name, journal),
+        None => named(open_one(rt, name, opening, sums), name),
+        Some(journal) => { named_pair(open_two(rt, name, journal, opening, sums), name, journal) }
     }
 }
 
@@ -58,11 +59,12 @@ fn open_one<S: Start, T: Start, R: Files<File = File> + AllocGlobal>(
     rt: &R,
     name: &str,
     opening: Opening,
+    sums: Checksums,
 ) -> Result<(ImageDisk<FileDisk<S>, FileDisk<T>>, u64), FileFault>
     ensures shut { IfErr result IsFileShut }
     ensures opened { IfOk result (λ opened. IsImageOpened None opened.0 opened.1) }
 {
-    match open_front(rt, name, opening) {
+    match open_front(rt, name, opening, sums) {
         Ok((disk, sb)) => {
             let (disk, homes) = counted(disk, &sb);
             Ok((ImageDisk::One(disk), homes))
@@ -77,6 +79,7 @@ fn open_two<S: Start, T: Start, R: Files<File = File> + AllocGlobal>(
     name: &str,
     journal: &str,
     opening: Opening,
+    sums: Checksums,
 ) -> Result<(ImageDisk<FileDisk<S>, FileDisk<T>>, u64), PairFault>
     ensures shut { IfErr result IsPairShut }
     ensures opened { IfOk result (λ opened. IsImageOpened (Some journal.now) opened.0 opened.1) }
@@ -84,7 +87,7 @@ fn open_two<S: Start, T: Start, R: Files<File = File> + AllocGlobal>(
     if are_same(rt, name, journal) {
         return Err(PairFault::SameFile);
     }
-    match open_log(rt, journal, opening) {
+    match open_log(rt, journal, opening, sums) {
         Ok((log, sb)) => match open_sized(rt, name, sb.block_size(), opening) {
             Ok(rest) => {
                 let (pair, homes) = paired(log, rest, &sb);
@@ -101,12 +104,13 @@ fn open_log<S: Start, R: Files<File = File> + AllocGlobal>(
     rt: &R,
     name: &str,
     opening: Opening,
+    sums: Checksums,
 ) -> Result<(FileDisk<S>, Super), PairFault>
     ensures shut { IfErr result IsPairShut }
     ensures front { IfOk result (λ log. IsFront log.0 log.1) }
     ensures count { IfOk result (λ log. count_of log.0 ≡ log.1.maxlen) }
 {
-    match open_front(rt, name, opening) {
+    match open_front(rt, name, opening, sums) {
         Ok((log, sb)) => match judge_length(log.blocks(), &sb) {
             Ok(()) => Ok((log, sb)),
             Err(fault) => Err(fault),
@@ -136,12 +140,13 @@ fn open_front<S: Start, R: Files<File = File> + AllocGlobal>(
     rt: &R,
     name: &str,
     opening: Opening,
+    sums: Checksums,
 ) -> Result<(FileDisk<S>, Super), FileFault>
     ensures shut { IfErr result IsFileShut }
     ensures front { IfOk result (λ front. IsFront front.0 front.1) }
 {
     let mut file = open_image(rt, name, opening)?;
-    let sb = super_of(rt.alloc(), &mut file)?;
+    let sb = super_of(rt.alloc(), &mut file, sums)?;
     let disk = disk_of(file, sb.block_size())?;
     Ok((disk, sb))
 }
@@ -209,22 +214,22 @@ fn are_one(one: io::Result<Metadata>, other: io::Result<Metadata>) -> bool {
 }
 
 /// The superblock that a file begins with.
-fn super_of<R: Read>(alloc: Global, file: &mut R) -> Result<Super, FileFault>
+fn super_of<R: Read>(alloc: Global, file: &mut R, sums: Checksums) -> Result<Super, FileFault>
     ensures shut { IfErr result IsFileShut }
     ensures says { IfOk result SaysSuper }
 {
     match front_of(alloc, file) {
-        Ok(front) => super_in(front.as_slice()),
+        Ok(front) => super_in(front.as_slice(), sums),
         Err(fault) => Err(fault),
     }
 }
 
 /// The superblock that these bytes are.
-fn super_in(front: &[u8]) -> Result<Super, FileFault>
+fn super_in(front: &[u8], sums: Checksums) -> Result<Super, FileFault>
     ensures shut { IfErr result IsFileShut }
     ensures says { IfOk result SaysSuper }
 {
-    match Super::read(front) {
+    match Super::read_by(sums, front) {
         Ok(sb) => Ok(sb),
         Err(fault) => Err(FileFault::Super(fault)),
     }

@@ -18,7 +18,7 @@ use jb_block::BlockSize;
 use jb_disk::{FileDisk, Start};
 use jb_ext::{FindFault, OwnFault, find_journal};
 use jb_image::{Extents, ExtentsDisk, ExtentsFault, FileSystem, ImageDisk, Opening};
-use jb_super::{Super, SuperFault};
+use jb_super::{Checksums, Super, SuperFault};
 use jb_text::{ReadFault, read_front};
 use std::alloc::Global;
 use std::fs::File;
@@ -39,7 +39,7 @@ pub(crate) enum ImageFront {
 }
 
 /// The image of this name with its journal at the front; or, where it is a file system of ext2, ext3 or ext4, with that
-/// file system's own.
+/// file system's own. The journal has checksums only where these are allowed; they are not judged here.
 ///
 /// # Errors
 /// `OwnShut::File` where it is not opened or read, or its first bytes are neither superblock; `OwnShut::Find` where the
@@ -48,12 +48,13 @@ pub(crate) fn open_by_front<S: Start, T: Start, R: Files<File = File> + AllocGlo
     rt: &R,
     name: &str,
     opening: Opening,
+    sums: Checksums,
 ) -> Result<OpenedImage<S, T>, OwnShut>
-    ensures shut { IfErr result (IsOwnShut S.Start) }
-    ensures opened { IfOk result (λ image. IsOpenedByFront image.disk image.homes image.found) }
+    ensures shut { IfErr result (IsOwnShut sums S.Start) }
+    ensures opened { IfOk result (λ image. IsOpenedByFront sums image.disk image.homes image.found) }
 {
-    match open_fronted(rt, name, opening) {
-        Ok((file, front)) => open_front(rt.alloc(), file, front),
+    match open_fronted(rt, name, opening, sums) {
+        Ok((file, front)) => open_front(rt.alloc(), file, front, sums),
         Err(fault) => Err(OwnShut::File(fault)),
     }
 }
@@ -63,14 +64,15 @@ fn open_front<S: Start, T: Start>(
     alloc: Global,
     file: File,
     front: ImageFront,
+    sums: Checksums,
 ) -> Result<OpenedImage<S, T>, OwnShut>
-    requires { SaysFront front }
-    ensures shut { IfErr result (IsOwnShut S.Start) }
-    ensures opened { IfOk result (λ image. IsOpenedByFront image.disk image.homes image.found) }
+    requires { SaysFront sums front }
+    ensures shut { IfErr result (IsOwnShut sums S.Start) }
+    ensures opened { IfOk result (λ image. IsOpenedByFront sums image.disk image.homes image.found) }
 {
     match front {
-        ImageFront::Journal(sb) => open_journal(file, sb),
-        ImageFront::System(size) => open_system(alloc, file, size),
+        ImageFront::Journal(sb) => open_journal(file, sb, sums),
+        ImageFront::System(size) => open_system(alloc, file, size, sums),
     }
 }
 
@@ -79,13 +81,14 @@ fn open_fronted<R: Files<File = File> + AllocGlobal>(
     rt: &R,
     name: &str,
     opening: Opening,
+    sums: Checksums,
 ) -> Result<(File, ImageFront), FileFault>
     ensures shut { IfErr result IsFileShut }
-    ensures says { IfOk result (λ opened. SaysFront opened.1) }
+    ensures says { IfOk result (λ opened. SaysFront sums opened.1) }
 {
     let mut file = open_image(rt, name, opening)?;
     let front = read_fronts(rt.alloc(), &mut file)?;
-    let front = front_in(front.as_slice())?;
+    let front = front_in(front.as_slice(), sums)?;
     Ok((file, front))
 }
 
@@ -102,12 +105,12 @@ fn read_fronts<R: Read>(alloc: Global, image: &mut R) -> Result<Vec<u8>, FileFau
 }
 
 /// What an image is that has these first bytes.
-fn front_in(front: &[u8]) -> Result<ImageFront, FileFault>
-    ensures value { result ≡ front_of_image front.now }
+fn front_in(front: &[u8], sums: Checksums) -> Result<ImageFront, FileFault>
+    ensures value { result ≡ front_of_image sums front.now }
     ensures shut { IfErr result IsFileShut }
-    ensures says { IfOk result SaysFront }
+    ensures says { IfOk result (SaysFront sums) }
 {
-    match Super::read(front) {
+    match Super::read_by(sums, front) {
         Ok(sb) => Ok(ImageFront::Journal(sb)),
         Err(SuperFault::NoMagic) => match system_size(front) {
             Some(size) => Ok(ImageFront::System(size)),
@@ -150,9 +153,13 @@ fn size_said(bytes: u32) -> BlockSize
 }
 
 /// An image with a journal at its front, which has this superblock.
-fn open_journal<S: Start, T: Start>(file: File, sb: Super) -> Result<OpenedImage<S, T>, OwnShut>
+fn open_journal<S: Start, T: Start>(
+    file: File,
+    sb: Super,
+    sums: Checksums,
+) -> Result<OpenedImage<S, T>, OwnShut>
     requires { SaysSuper sb }
-    ensures shut { IfErr result (IsOwnShut S.Start) }
+    ensures shut { IfErr result (IsOwnShut sums S.Start) }
     ensures opened { IfOk result (λ image. IsImageOpened None image.disk image.homes × (image.found ≡ None)) }
 {
     match disk_of(file, sb.block_size()) {
@@ -173,12 +180,13 @@ fn open_system<S: Start, T: Start>(
     alloc: Global,
     file: File,
     size: BlockSize,
+    sums: Checksums,
 ) -> Result<OpenedImage<S, T>, OwnShut>
-    ensures shut { IfErr result (IsOwnShut S.Start) }
-    ensures opened { IfOk result (λ image. IsOwnOpened image.disk image.homes image.found) }
+    ensures shut { IfErr result (IsOwnShut sums S.Start) }
+    ensures opened { IfOk result (λ image. IsOwnOpened sums image.disk image.homes image.found) }
 {
     match disk_of(file, size) {
-        Ok(disk) => match open_own(alloc, disk) {
+        Ok(disk) => match open_own(alloc, disk, sums) {
             Ok(opened) => Ok(opened),
             Err(fault) => Err(OwnShut::Find(fault)),
         },
@@ -193,13 +201,14 @@ fn open_system<S: Start, T: Start>(
 fn open_own<S: Start, T: Start>(
     alloc: Global,
     disk: FileDisk<S>,
+    sums: Checksums,
 ) -> Result<OpenedImage<S, T>, FindFault>
     requires measured { IsMeasured disk }
-    ensures shut { IfErr result (IsOwnUnfound S.Start) }
-    ensures opened { IfOk result (λ image. IsOwnOpened image.disk image.homes image.found) }
+    ensures shut { IfErr result (IsOwnUnfound sums S.Start) }
+    ensures opened { IfOk result (λ image. IsOwnOpened sums image.disk image.homes image.found) }
 {
     let mut disk = disk;
-    match find_journal(alloc, &mut disk) {
+    match find_journal(alloc, &mut disk, sums) {
         Ok(own) => {
             let (extents, by, sb) = (own.extents, own.by, own.sb);
             let maxlen = u64::from(sb.maxlen());
@@ -223,13 +232,14 @@ fn open_own<S: Start, T: Start>(
 pub(crate) fn compare_own<'a, S: Start, T: Start>(
     alloc: Global,
     image: ImageDisk<FileDisk<S>, FileDisk<T>>,
+    sums: Checksums,
 ) -> Result<ImageDisk<FileDisk<S>, FileDisk<T>>, CommandFault<'a>>
     requires { AreFew image }
-    ensures compared { IfOk result (IsComparedImage image) }
-    ensures shut { IfErr result (IsOtherImage image) }
+    ensures compared { IfOk result (IsComparedImage sums image) }
+    ensures shut { IfErr result (IsOtherImage sums image) }
 {
     match image {
-        ImageDisk::Within(disk) => match compare(alloc, disk) {
+        ImageDisk::Within(disk) => match compare(alloc, disk, sums) {
             Ok(disk) => Ok(ImageDisk::Within(disk)),
             Err(fault) => Err(fault),
         },
@@ -242,13 +252,14 @@ pub(crate) fn compare_own<'a, S: Start, T: Start>(
 fn compare<'a, S: Start>(
     alloc: Global,
     whole: ExtentsDisk<FileDisk<S>>,
+    sums: Checksums,
 ) -> Result<ExtentsDisk<FileDisk<S>>, CommandFault<'a>>
     requires { extents_count (list_of (extents_of whole)) < 2 ^ 64 - 1 }
-    ensures compared { IfOk result (IsComparedTo whole) }
-    ensures shut { IfErr result (IsOtherThan whole) }
+    ensures compared { IfOk result (IsComparedTo sums whole) }
+    ensures shut { IfErr result (IsOtherThan sums whole) }
 {
     let (mut disk, extents, journal) = whole.into_parts();
-    match find_journal(alloc, &mut disk) {
+    match find_journal(alloc, &mut disk, sums) {
         Ok(own) => match extents.first_other(&Extents::of(own.extents)) {
             None => Ok(ExtentsDisk::of(disk, extents, journal)),
             Some(place) => Err(CommandFault::Extents(ExtentsFault::Other(place))),

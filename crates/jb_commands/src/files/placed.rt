@@ -22,7 +22,7 @@ use crate::files::texts::read_text;
 use jb_args::OptionName;
 use jb_disk::{Disk, FileDisk, Start};
 use jb_image::{Extents, ExtentsDisk, ExtentsFault, ImageDisk, ListFault};
-use jb_super::Super;
+use jb_super::{Checksums, Super};
 use std::alloc::Global;
 use std::fs::File;
 use std::io::Read;
@@ -30,7 +30,7 @@ use std::rt::Files;
 
 /// The image of this name: as `open_by_front`, with a journal's own file as `open_counted`, or with extents as
 /// `open_compared`; what is read for these may be `input`. Where its journal was looked for, it is also said what says
-/// where that stands.
+/// where that stands. The journal has checksums only where these are allowed; they are not judged here.
 ///
 /// # Errors
 /// Those of the three, and `CommandFault::BadOption` where both places of the journal are given.
@@ -40,19 +40,20 @@ pub fn open_placed<'a, S: Start, T: Start, R: Files<File = File> + AllocGlobal, 
     journal: Option<&'a str>,
     extents: Option<&'a str>,
     opening: Opening,
+    sums: Checksums,
     input: &mut I,
 ) -> Result<OpenedImage<S, T>, CommandFault<'a>>
-    ensures shut { IfErr result (IsShutAt S.Start T.Start name.entry.now (I.remaining input.old)
+    ensures shut { IfErr result (IsShutAt sums S.Start T.Start name.entry.now (I.remaining input.old)
         (option_map (λ word. word.now) journal.entry) (option_map (λ word. word.now) extents.entry)) }
-    ensures opened { IfOk result (λ image. IsOpenedAt (I.remaining input.old)
+    ensures opened { IfOk result (λ image. IsOpenedAt sums (I.remaining input.old)
         (option_map (λ word. word.now) journal.entry) (option_map (λ word. word.now) extents.entry)
         image.disk image.homes image.found) }
     ensures unread { reads_list (option_map (λ word. word.now) extents.entry) ≡ false → input.new ≡ input.old }
 {
     match (journal, extents) {
-        (None, None) => named_front::<S, _>(open_by_front(rt, name, opening), name),
-        (Some(journal), None) => open_beside(rt, name, journal, opening),
-        (None, Some(word)) => open_compared(rt, name, word, opening, input),
+        (None, None) => named_front::<S, _>(open_by_front(rt, name, opening, sums), name),
+        (Some(journal), None) => open_beside(rt, name, journal, opening, sums),
+        (None, Some(word)) => open_compared(rt, name, word, opening, sums, input),
         (Some(_), Some(_)) => Err(CommandFault::BadOption(OptionName::Extents)),
     }
 }
@@ -66,12 +67,13 @@ fn open_beside<'a, S: Start, T: Start, R: Files<File = File> + AllocGlobal>(
     name: &'a str,
     journal: &'a str,
     opening: Opening,
+    sums: Checksums,
 ) -> Result<OpenedImage<S, T>, CommandFault<'a>>
     ensures shut { IfErr result (IsShut name.entry.now (Some journal.entry.now)) }
     ensures opened { IfOk result (λ image. IsImageOpened (Some journal.entry.now) image.disk image.homes
         × (image.found ≡ None)) }
 {
-    match open_counted(rt, name, Some(journal), opening) {
+    match open_counted(rt, name, Some(journal), opening, sums) {
         Ok((disk, homes)) => Ok(OpenedImage {
             disk,
             homes,
@@ -91,16 +93,17 @@ fn open_compared<'a, S: Start, T: Start, R: Files<File = File> + AllocGlobal, I:
     name: &'a str,
     word: &'a str,
     opening: Opening,
+    sums: Checksums,
     input: &mut I,
 ) -> Result<OpenedImage<S, T>, CommandFault<'a>>
     ensures shut { IfErr result
-        (IsShutCompared S.Start T.Start name.entry.now (I.remaining input.old) word.entry.now) }
-    ensures opened { IfOk result (λ image. IsOpenedCompared (I.remaining input.old) word.entry.now image.disk
+        (IsShutCompared sums S.Start T.Start name.entry.now (I.remaining input.old) word.entry.now) }
+    ensures opened { IfOk result (λ image. IsOpenedCompared sums (I.remaining input.old) word.entry.now image.disk
         image.homes × (image.found ≡ None)) }
     ensures unread { is_input (list_file word.entry.now) ≡ false → input.new ≡ input.old }
 {
-    match open_listed(rt, name, word, opening, input) {
-        Ok((image, homes)) => match compare_own(rt.alloc(), image) {
+    match open_listed(rt, name, word, opening, sums, input) {
+        Ok((image, homes)) => match compare_own(rt.alloc(), image, sums) {
             Ok(disk) => Ok(OpenedImage {
                 disk,
                 homes,
@@ -122,6 +125,7 @@ fn open_listed<'a, S: Start, T: Start, R: Files<File = File> + AllocGlobal, I: R
     name: &'a str,
     word: &'a str,
     opening: Opening,
+    sums: Checksums,
     input: &mut I,
 ) -> Result<(ImageDisk<FileDisk<S>, FileDisk<T>>, u64), CommandFault<'a>>
     ensures shut { IfErr result (IsShutListed name.entry.now (I.remaining input.old) word.entry.now) }
@@ -129,9 +133,9 @@ fn open_listed<'a, S: Start, T: Start, R: Files<File = File> + AllocGlobal, I: R
     ensures unread { is_input (list_file word.entry.now) ≡ false → input.new ≡ input.old }
 {
     match file_of(word) {
-        None => named_within(open_within(rt, name, word.as_bytes(), opening), name),
+        None => named_within(open_within(rt, name, word.as_bytes(), opening, sums), name),
         Some(file) => match read_text(rt, file, input) {
-            Ok(list) => named_within(open_within(rt, name, list.as_slice(), opening), name),
+            Ok(list) => named_within(open_within(rt, name, list.as_slice(), opening, sums), name),
             Err(fault) => Err(fault),
         },
     }
@@ -148,12 +152,13 @@ fn open_within<S: Start, T: Start, R: Files<File = File> + AllocGlobal>(
     name: &str,
     list: &[u8],
     opening: Opening,
+    sums: Checksums,
 ) -> Result<(ImageDisk<FileDisk<S>, FileDisk<T>>, u64), WithinFault>
     ensures shut { IfErr result (IsListShut list.now) }
     ensures opened { IfOk result (λ opened. IsOpenedWithin list.now opened.0 opened.1) }
 {
     match extents_of(rt.alloc(), list) {
-        Ok(extents) => open_spread(rt, name, extents, opening),
+        Ok(extents) => open_spread(rt, name, extents, opening, sums),
         Err(fault) => Err(fault),
     }
 }
@@ -184,6 +189,7 @@ fn open_spread<S: Start, T: Start, R: Files<File = File> + AllocGlobal>(
     name: &str,
     extents: Extents,
     opening: Opening,
+    sums: Checksums,
 ) -> Result<(ImageDisk<FileDisk<S>, FileDisk<T>>, u64), WithinFault>
     requires apart { AreDisjoint (list_of extents) }
     ensures shut { IfErr result (IsSpreadShut (list_of extents)) }
@@ -192,7 +198,7 @@ fn open_spread<S: Start, T: Start, R: Files<File = File> + AllocGlobal>(
     let Some(first) = extents.place(0) else {
         return Err(WithinFault::Extents(ExtentsFault::NoJournal));
     };
-    match open_found(rt, name, first, opening) {
+    match open_found(rt, name, first, opening, sums) {
         Ok((disk, sb)) => match joined(disk, extents, &sb) {
             Ok(whole) => {
                 let (whole, homes) = counted(whole, &sb);
@@ -210,12 +216,13 @@ fn open_found<S: Start, R: Files<File = File> + AllocGlobal>(
     name: &str,
     first: u64,
     opening: Opening,
+    sums: Checksums,
 ) -> Result<(FileDisk<S>, Super), WithinFault>
     ensures shut { IfErr result IsFoundShut }
     ensures front { IfOk result (λ front. IsFrontWithin front.0 front.1) }
 {
     let mut file = open_image(rt, name, opening)?;
-    match super_within(rt.alloc(), &mut file, first) {
+    match super_within(rt.alloc(), &mut file, first, sums) {
         Ok(sb) => match disk_of(file, sb.block_size()) {
             Ok(disk) => Ok((disk, sb)),
             Err(fault) => Err(WithinFault::File(fault)),

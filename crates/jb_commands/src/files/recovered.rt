@@ -4,7 +4,7 @@ ghost use Rattle.jb_image.specs.Files.{as_disks};
 ghost use Rattle.jb_args.specs.PlainCommand.{recover_said};
 ghost use Rattle.jb_commands.specs.Foresee.{foreseen_end as foreseen_so, own_checked};
 ghost use Rattle.jb_commands.specs.ListText.{reads_list};
-ghost use Rattle.jb_commands.specs.JournalPlace.{EndsOfRecover, is_beside as stands_beside, use_of as use_so};
+ghost use Rattle.jb_commands.specs.JournalPlace.{EndsOfRecover, is_beside as stands_beside, sums_of, use_of as use_so};
 ghost use Rattle.jb_commands.specs.JournalPlace.{JudgesBeside, RecoversImage, RecoversOpened};
 ghost use Rattle.jb_commands.specs.OpenRefusals.{opening_for};
 
@@ -13,12 +13,13 @@ use crate::fault::CommandFault;
 use crate::files::opening::Opening;
 use crate::files::placed::open_placed;
 use crate::report::Report;
-use crate::streams::{judge_on, recover_on};
+use crate::streams::{foresee_by, judge_on, recover_on};
 use jb_args::{OptionName, RecoverOptions};
 use jb_disk::{Disk, Start};
 use jb_ext::MapSource;
 use jb_image::{ExtentsFault, ImageDisk, JournalUse};
-use jb_recover::{Foreseen, RecoverFault, foresee};
+use jb_recover::{CheckedFault, Foreseen};
+use jb_super::Checksums;
 use std::alloc::Global;
 use std::fs::File;
 use std::io::Read;
@@ -48,7 +49,15 @@ pub fn recover_file<'a, S: Start, T: Start, R: Files<File = File> + AllocGlobal,
         };
     }
     let opening = opening_of(options.dry_run, options.force);
-    match open_placed(rt, image, options.journal, options.extents, opening, input) {
+    match open_placed(
+        rt,
+        image,
+        options.journal,
+        options.extents,
+        opening,
+        checksums_of(options.checksums),
+        input,
+    ) {
         Ok(mut opened) => {
             let (homes, found) = (opened.homes, opened.found);
             let end = recover_opened(rt.alloc(), &mut opened.disk, homes, found, options);
@@ -90,15 +99,16 @@ fn recover_opened<'a, D: Disk, E: Disk>(
 {
     let beside = is_beside(options.journal, disk.is_within());
     let used = use_of(options.journal);
-    match judge_beside(disk, beside, used, options.force) {
+    let sums = checksums_of(options.checksums);
+    match judge_beside(disk, beside, used, options.force, sums) {
         Ok(()) => {}
         Err(fault) => return Err(fault),
     }
     if options.dry_run {
-        let answer = foresee(alloc, disk);
+        let answer = foresee_by(alloc, disk, sums);
         foreseen_end(disk, homes, found, options.list, answer)
     } else {
-        recover_image(alloc, disk, homes, found)
+        recover_image(alloc, disk, homes, found, sums)
     }
 }
 
@@ -109,6 +119,17 @@ fn is_beside(journal: Option<&str>, within: bool) -> bool
     match journal {
         None => within,
         Some(_) => true,
+    }
+}
+
+/// Whether checksums are allowed, by the option.
+pub(crate) fn checksums_of(allowed: bool) -> Checksums
+    ensures { result ≡ sums_of allowed }
+{
+    if allowed {
+        Checksums::Allowed
+    } else {
+        Checksums::Refused
     }
 }
 
@@ -131,11 +152,12 @@ pub(crate) fn judge_beside<'a, D: Disk>(
     beside: bool,
     used: JournalUse,
     force: bool,
+    sums: Checksums,
 ) -> Result<(), CommandFault<'a>>
-    ensures judges { JudgesBeside D.Disk beside used force disk.old disk.new result }
+    ensures judges { JudgesBeside sums D.Disk beside used force disk.old disk.new result }
 {
     if beside {
-        judge_on(disk, used, force)
+        judge_on(disk, used, force, sums)
     } else {
         Ok(())
     }
@@ -147,7 +169,7 @@ fn foreseen_end<'a, D: Disk, E: Disk>(
     homes: u64,
     found: Option<MapSource>,
     list: bool,
-    answer: Result<Foreseen, RecoverFault>,
+    answer: Result<Foreseen, CheckedFault>,
 ) -> Result<Report, CommandFault<'a>>
     ensures { result ≡ foreseen_so disk.now homes found list answer }
 {
@@ -170,15 +192,16 @@ fn recover_image<'a, D: Disk, E: Disk>(
     disk: &mut ImageDisk<D, E>,
     homes: u64,
     found: Option<MapSource>,
+    sums: Checksums,
 ) -> Result<Report, CommandFault<'a>>
-    ensures recovers { RecoversImage (as_disks D.Disk E.Disk) homes found disk.old disk.new result }
+    ensures recovers { RecoversImage (as_disks D.Disk E.Disk) sums homes found disk.old disk.new result }
 {
     if !disk.is_within() {
-        return recover_on(alloc, disk, Some(homes), found);
+        return recover_on(alloc, disk, Some(homes), found, sums);
     }
-    let answer = foresee(alloc, disk);
+    let answer = foresee_by(alloc, disk, sums);
     match own_end(disk, homes, answer) {
-        Ok(()) => recover_on(alloc, disk, Some(homes), found),
+        Ok(()) => recover_on(alloc, disk, Some(homes), found, sums),
         Err(fault) => Err(fault),
     }
 }
@@ -187,7 +210,7 @@ fn recover_image<'a, D: Disk, E: Disk>(
 fn own_end<'a, D: Disk, E: Disk>(
     disk: &ImageDisk<D, E>,
     homes: u64,
-    answer: Result<Foreseen, RecoverFault>,
+    answer: Result<Foreseen, CheckedFault>,
 ) -> Result<(), CommandFault<'a>>
     ensures { result ≡ own_checked disk.now homes answer }
 {

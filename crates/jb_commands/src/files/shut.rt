@@ -1,6 +1,7 @@
 //! Why an image is not opened. These faults name no file, so that what only passes them on borrows nothing; they become
 //! a `CommandFault` where the words of the command are.
 ghost use Rattle.std.specs.Prelude.{◌≡◌, IfErr, IfOk, List, Some, ℕ};
+ghost use Rattle.jb_super.specs.declared.checked.Checksums.{Checksums};
 ghost use Rattle.jb_commands.specs.Files.{IsShut, IsUnread};
 ghost use Rattle.jb_commands.specs.JournalPlace.{IsShutWithin};
 ghost use Rattle.jb_commands.specs.OpenRefusals.{IsFileShut, IsListShut, IsOwnShut, IsPairShut};
@@ -85,7 +86,8 @@ pub(crate) fn named_front<'a, S: Start, V>(
     name: &'a str,
 ) -> Result<V, CommandFault<'a>>
     ensures opened { IfOk result (λ value. opened ≡ Ok value) }
-    ensures shut { IfErr opened (IsOwnShut S.Start) → IfErr result (IsFrontShut S.Start name.entry.now) }
+    ensures shut { (sums : Checksums) → IfErr opened (IsOwnShut sums S.Start)
+        → IfErr result (IsFrontShut sums S.Start name.entry.now) }
 {
     match opened {
         Ok(value) => Ok(value),

@@ -5,42 +5,55 @@ ghost use Rattle.jb_commands.specs.Lines.{upto};
 ghost use Rattle.jb_commands.specs.declared.fault.CommandFault.TheVariants.{Memory as NoMemory};
 
 use crate::fault::CommandFault;
+use crate::streams::checking::peek_by;
 use jb_block::{MOST_BYTES, Memory};
 use jb_disk::Disk;
-use jb_recover::peek;
+use jb_super::Checksums;
 use jb_text::put;
 use std::alloc::Global;
 use std::io::Write;
 
-/// Writes so many home blocks of a disk from this one on, each as recovery would leave it, and gives status 0. With
+/// Home blocks that are asked for.
+#[derive(Clone, Copy)]
+pub struct ShownHomes {
+    /// The first one.
+    pub home: u64,
+    /// How many.
+    pub count: u64,
+    /// Whether as lines of hexadecimal digits.
+    pub hex: bool,
+    /// Whether the journal may have checksums.
+    pub sums: Checksums,
+}
+
+/// Writes the home blocks of a disk that are asked for, each as recovery would leave it, and gives status 0. With
 /// `hex` a block is lines of sixteen bytes in hexadecimal digits. The disk is not written or synced.
 ///
 /// # Errors
 /// `CommandFault::Super`, `CommandFault::BadRevoke` and `CommandFault::NoHome` where a peek is refused, the last with
 /// the number of home blocks, where that is known; `CommandFault::DeviceFault` where a call of the disk failed, and
 /// `CommandFault::Memory` where a growth was refused, with `hex` alone: the blocks before it are written then.
-/// `CommandFault::WriteFault` where `out` took only the beginning.
+/// `CommandFault::WriteFault` where `out` took only the beginning. Where checksums are allowed, `ChecksumType`,
+/// `SuperChecksum` and `BadChecksum` too where a peek is refused.
 pub fn cat_on<'a, D: Disk, O: Write>(
     alloc: Global,
     disk: &mut D,
-    home: u64,
-    count: u64,
-    hex: bool,
+    shown: ShownHomes,
     homes: Option<u64>,
     out: &mut O,
 ) -> Result<u8, CommandFault<'a>>
-    ensures cats { CatsOn D.Disk homes home count hex disk.old disk.new (O.contents out.old)
-        (O.contents out.new) result }
+    ensures cats { CatsOn shown.sums D.Disk homes shown.home shown.count shown.hex disk.old disk.new
+        (O.contents out.old) (O.contents out.new) result }
 {
     let mut block = [0u8; MOST_BYTES];
     let bytes = &mut block[..disk.block_size().bytes() as usize];
     let mut at = 0u32;
-    for i in 0..count {
-        match peek(disk, home.saturating_add(i), bytes) {
+    for i in 0..shown.count {
+        match peek_by(disk, shown.home.saturating_add(i), bytes, shown.sums) {
             Ok(()) => {}
             Err(fault) => return Err(CommandFault::of_peek(fault, homes)),
         }
-        put_block(alloc, hex, at, bytes, out)?;
+        put_block(alloc, shown.hex, at, bytes, out)?;
         at = at.wrapping_add(bytes.len() as u32);
     }
     Ok(0)

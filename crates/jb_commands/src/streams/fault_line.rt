@@ -1,8 +1,8 @@
 //! The line of each `CommandFault`.
-ghost use Rattle.std.specs.Prelude.{◌≡◌, List, ℕ, None, Option, option_map};
+ghost use Rattle.std.specs.Prelude.{◌≡◌, ◌∷◌, [], List, ℕ, None, Option, codes, decimal, option_map};
 ghost use Rattle.jb_text.specs.Puts.{PutsPart};
 ghost use Rattle.jb_commands.specs.FaultLines.{parts_of, named};
-ghost use Rattle.jb_commands.specs.Faults.{extents_line, line_of, super_line, system_line};
+ghost use Rattle.jb_commands.specs.Faults.{extents_line, line_of, sum_words, super_line, system_line};
 ghost use Rattle.jb_commands.specs.Lines.{Names, line_naming, names_said};
 
 use crate::fault::CommandFault;
@@ -11,6 +11,7 @@ use crate::streams::own_line::words_of_own;
 use crate::streams::putting::put_line;
 use itoa::Buffer;
 use jb_image::{ExtentsFault, FileSystemFault};
+use jb_scan::Summed;
 use jb_super::SuperFault;
 use std::io::Write;
 
@@ -54,15 +55,15 @@ fn words_of(fault: CommandFault<'_>) -> (&'static str, Numbers)
         CommandFault::BadOption(_) => ("jb: bad option", Numbers::None),
         CommandFault::ReadFault => ("jb: ReadFault", Numbers::None),
         CommandFault::Super(fault) => words_of_super(fault),
-        CommandFault::JournalLength(blocks, maxlen) => {
-            (
-                "jb: JournalLength ",
-                Numbers::Two(blocks, u64::from(maxlen)),
-            )
-        }
+        CommandFault::JournalLength(blocks, maxlen) => words_of_length(blocks, maxlen),
         CommandFault::FileSystem(fault) => words_of_system(fault),
         CommandFault::Extents(fault) => words_of_extents(fault),
         CommandFault::Own(fault) => words_of_own(fault),
+        CommandFault::ChecksumType(kind) => {
+            ("jb: Super ChecksumType ", Numbers::One(u64::from(kind)))
+        }
+        CommandFault::SuperChecksum => ("jb: Super Checksum", Numbers::None),
+        CommandFault::BadChecksum(what, place) => (words_of_sum(what), Numbers::One(place)),
         CommandFault::BadRevoke(place) => ("jb: BadRevoke ", Numbers::One(place)),
         CommandFault::HomeOutOfRange(home, number, _) => {
             ("jb: HomeOutOfRange ", Numbers::Two(home, u64::from(number)))
@@ -76,6 +77,29 @@ fn words_of(fault: CommandFault<'_>) -> (&'static str, Numbers)
         CommandFault::DeviceFault => ("jb: DeviceFault", Numbers::None),
         CommandFault::Memory => ("jb: Memory", Numbers::None),
         CommandFault::WriteFault => ("jb: WriteFault", Numbers::None),
+    }
+}
+
+/// The same of a journal that has more blocks than its superblock says.
+fn words_of_length(blocks: u64, maxlen: u32) -> (&'static str, Numbers)
+    ensures { parts_of result.0.now result.1
+        ≡ codes "jb: JournalLength " ∷ decimal blocks ∷ codes " " ∷ decimal maxlen ∷ [] }
+{
+    (
+        "jb: JournalLength ",
+        Numbers::Two(blocks, u64::from(maxlen)),
+    )
+}
+
+/// The words of the line of a block with a wrong checksum.
+fn words_of_sum(what: Summed) -> &'static str
+    ensures { result.now ≡ sum_words what }
+{
+    match what {
+        Summed::Descriptor => "jb: BadChecksum descriptor ",
+        Summed::Revoke => "jb: BadChecksum revoke ",
+        Summed::Commit => "jb: BadChecksum commit ",
+        Summed::Data => "jb: BadChecksum data ",
     }
 }
 
@@ -153,6 +177,9 @@ fn name_after<'a>(fault: CommandFault<'a>, files: Option<TwoFiles<'a>>) -> Optio
         | CommandFault::TooLong(name) => Some(name),
         CommandFault::Super(_)
         | CommandFault::JournalLength(_, _)
+        | CommandFault::ChecksumType(_)
+        | CommandFault::SuperChecksum
+        | CommandFault::BadChecksum(_, _)
         | CommandFault::BadRevoke(_)
         | CommandFault::NeedsRecovery
         | CommandFault::NumbersSpent => journal_of(files),

@@ -5,11 +5,13 @@ ghost use Rattle.jb_commands.specs.Outputs.{TellsLine, line_end};
 use crate::fault::CommandFault;
 use crate::program_end::ProgramEnd;
 use crate::report::Report;
+use crate::streams::checking::recover_by;
 use crate::streams::telling::tell_line;
 use itoa::Buffer;
 use jb_disk::Disk;
 use jb_ext::MapSource;
-use jb_recover::{RecoverFault, Recovered, recover};
+use jb_recover::{CheckedFault, Recovered};
+use jb_super::Checksums;
 use jb_text::WriteFault;
 use std::alloc::Global;
 use std::io::Write;
@@ -17,27 +19,29 @@ use std::io::Write;
 /// Recovers the journal at the front of a disk: the home blocks after it are written as its committed transactions say,
 /// and its log is emptied. Reports how many transactions there were, how many copies were written and how many are
 /// revoked, and the number of the next transaction; and what said where the journal stands, where it was looked for.
-/// Only the recovery takes memory.
+/// Only the recovery takes memory. The journal has checksums only where these are allowed, and is judged by them.
 ///
 /// # Errors
 /// `CommandFault::Super`, `CommandFault::BadRevoke` and `CommandFault::HomeOutOfRange`, the last with the number of
-/// home blocks where that is known, where the disk is refused, and `CommandFault::Memory` where a growth was refused:
+/// home blocks where that is known, where the disk is refused, and where checksums are allowed `ChecksumType`,
+/// `SuperChecksum` and `BadChecksum`, and `CommandFault::Memory` where a growth was refused:
 /// the disk is as it was; `CommandFault::DeviceFault` where a call of the disk failed: recovery is to be called again.
 pub fn recover_on<'a, D: Disk>(
     alloc: Global,
     disk: &mut D,
     homes: Option<u64>,
     found: Option<MapSource>,
+    sums: Checksums,
 ) -> Result<Report, CommandFault<'a>>
-    ensures recovers { RecoversOn D.Disk homes found disk.old disk.new result }
+    ensures recovers { RecoversOn sums D.Disk homes found disk.old disk.new result }
 {
-    let answer = recover(alloc, disk);
+    let answer = recover_by(alloc, disk, sums);
     recovery_end(answer, homes, found)
 }
 
 /// What a recovery answered, as the command's end.
 fn recovery_end<'a>(
-    answer: Result<Recovered, RecoverFault>,
+    answer: Result<Recovered, CheckedFault>,
     homes: Option<u64>,
     found: Option<MapSource>,
 ) -> Result<Report, CommandFault<'a>>

@@ -3,10 +3,11 @@ ghost use Rattle.std.specs.Prelude.{◌≡◌};
 ghost use Rattle.jb_commands.specs.Cat.{LooksOn, ShowsOn};
 
 use crate::fault::CommandFault;
-use crate::streams::catting::cat_on;
+use crate::streams::catting::{ShownHomes, cat_on};
+use crate::streams::checking::peek_by;
 use jb_block::MOST_BYTES;
 use jb_disk::Disk;
-use jb_recover::peek;
+use jb_super::Checksums;
 use std::alloc::Global;
 use std::io::Write;
 
@@ -18,19 +19,17 @@ use std::io::Write;
 pub(crate) fn show_on<'a, D: Disk, O: Write>(
     alloc: Global,
     disk: &mut D,
-    home: u64,
-    count: u64,
-    hex: bool,
+    shown: ShownHomes,
     homes: Option<u64>,
     out: &mut O,
 ) -> Result<u8, CommandFault<'a>>
-    ensures shows { ShowsOn D.Disk homes home count hex disk.old disk.new (O.contents out.old)
-        (O.contents out.new) result }
+    ensures shows { ShowsOn shown.sums D.Disk homes shown.home shown.count shown.hex disk.old disk.new
+        (O.contents out.old) (O.contents out.new) result }
 {
-    if count == 0 {
-        return look_on(disk, home, homes);
+    if shown.count == 0 {
+        return look_on(disk, shown.home, homes, shown.sums);
     }
-    cat_on(alloc, disk, home, count, hex, homes, out)
+    cat_on(alloc, disk, shown, homes, out)
 }
 
 /// Peeks at a home block, and gives status 0. The disk is not written or synced.
@@ -38,12 +37,17 @@ pub(crate) fn show_on<'a, D: Disk, O: Write>(
 /// # Errors
 /// `CommandFault::Super`, `CommandFault::BadRevoke` and `CommandFault::NoHome` where the peek is refused, the last with
 /// the number of home blocks, where that is known; `CommandFault::DeviceFault` where a call of the disk failed.
-fn look_on<'a, D: Disk>(disk: &mut D, home: u64, homes: Option<u64>) -> Result<u8, CommandFault<'a>>
-    ensures looks { LooksOn D.Disk homes home disk.old disk.new result }
+fn look_on<'a, D: Disk>(
+    disk: &mut D,
+    home: u64,
+    homes: Option<u64>,
+    sums: Checksums,
+) -> Result<u8, CommandFault<'a>>
+    ensures looks { LooksOn sums D.Disk homes home disk.old disk.new result }
 {
     let mut block = [0u8; MOST_BYTES];
     let bytes = &mut block[..disk.block_size().bytes() as usize];
-    match peek(disk, home, bytes) {
+    match peek_by(disk, home, bytes, sums) {
         Ok(()) => Ok(0),
         Err(fault) => Err(CommandFault::of_peek(fault, homes)),
     }

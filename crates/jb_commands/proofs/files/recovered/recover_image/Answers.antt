@@ -9,9 +9,9 @@ returns-then-not-is_within g c = record {
 pub returns-in-Ok : goal.returns-in-Ok
 returns-in-Ok g c = record {
   recovers = (
-    c.foresee-answer.new.disk,
+    c.foresee_by-answer.new.disk,
     Ok tt,
-    inr (sym c.is_within.ensures ∙ c.if-not-is_within.false, (c.foresee-answer.result, record { passed = c.foresee-answer.ensures.passed; foresees = c.foresee-answer.ensures.foresees }, sym c.in-Ok.is ∙ c.own_end.ensures)),
+    inr (sym c.is_within.ensures ∙ c.if-not-is_within.false, (c.foresee_by-answer.result, c.foresee_by-answer.ensures.foretells, sym c.in-Ok.is ∙ c.own_end.ensures)),
     c.recover_on-in-Ok.ensures.recovers,
   );
 }
@@ -19,9 +19,9 @@ returns-in-Ok g c = record {
 pub returns-in-Err : goal.returns-in-Err
 returns-in-Err g c = record {
   recovers = (
-    c.foresee-answer.new.disk,
+    c.foresee_by-answer.new.disk,
     Err c.in-Err.fault,
-    inr (sym c.is_within.ensures ∙ c.if-not-is_within.false, (c.foresee-answer.result, record { passed = c.foresee-answer.ensures.passed; foresees = c.foresee-answer.ensures.foresees }, sym c.in-Err.is ∙ c.own_end.ensures)),
+    inr (sym c.is_within.ensures ∙ c.if-not-is_within.false, (c.foresee_by-answer.result, c.foresee_by-answer.ensures.foretells, sym c.in-Err.is ∙ c.own_end.ensures)),
     (refl, refl),
   );
 }

@@ -3,7 +3,7 @@ use Rattle.jb_commands.proofs.files.recovered.recover_opened.Goals as goal
 
 pub returns-in-Err : goal.returns-in-Err
 returns-in-Err g c = record {
-  recovers = (c.judge_beside.new.disk, Err c.in-Err.fault, rw (c.is_beside-beside.ensures, c.is_within.ensures, c.use_of-used.ensures) at c.in-Err.ensures.judges, (refl, refl));
+  recovers = (c.judge_beside.new.disk, Err c.in-Err.fault, rw (c.is_beside-beside.ensures, c.is_within.ensures, c.use_of-used.ensures, c.checksums_of-sums.ensures) at c.in-Err.ensures.judges, (refl, refl));
 }
 
 pub returns-then-options : goal.returns-then-options
@@ -11,10 +11,10 @@ returns-then-options g c = record {
   recovers = (
     c.judge_beside.new.disk,
     Ok tt,
-    rw (c.is_beside-beside.ensures, c.is_within.ensures, c.use_of-used.ensures) at c.in-Ok.ensures.judges,
+    rw (c.is_beside-beside.ensures, c.is_within.ensures, c.use_of-used.ensures, c.checksums_of-sums.ensures) at c.in-Ok.ensures.judges,
     rw c.if-options.true (
-      c.foresee-answer.result,
-      record { passed = c.foresee-answer.ensures.passed; foresees = c.foresee-answer.ensures.foresees },
+      c.foresee_by-answer.result,
+      rw c.checksums_of-sums.ensures at c.foresee_by-answer.ensures.foretells,
       c.foreseen_end.ensures,
     ),
   );
@@ -22,5 +22,5 @@ returns-then-options g c = record {
 
 pub returns-else-options : goal.returns-else-options
 returns-else-options g c = record {
-  recovers = (c.judge_beside.new.disk, Ok tt, rw (c.is_beside-beside.ensures, c.is_within.ensures, c.use_of-used.ensures) at c.in-Ok.ensures.judges, rw c.if-options.false c.recover_image.ensures.recovers);
+  recovers = (c.judge_beside.new.disk, Ok tt, rw (c.is_beside-beside.ensures, c.is_within.ensures, c.use_of-used.ensures, c.checksums_of-sums.ensures) at c.in-Ok.ensures.judges, rw c.if-options.false (rw c.checksums_of-sums.ensures at c.recover_image.ensures.recovers));
 }

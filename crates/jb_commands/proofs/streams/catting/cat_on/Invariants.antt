@@ -3,5 +3,5 @@ use Rattle.jb_commands.proofs.streams.catting.cat_on.Given as goal
 
 abbrev pub invariant-loop-i : goal.invariant-loop-i
 invariant-loop-i g l = record {
-  state : Catting g.D.Disk l.fn.home l.fn.hex l.fn.disk l.disk (g.O.Write.contents l.fn.out) (g.O.Write.contents l.out) l.i l.at;
+  state : Catting g.D.Disk l.fn.shown.sums l.fn.shown.home l.fn.shown.hex l.fn.disk l.disk (g.O.Write.contents l.fn.out) (g.O.Write.contents l.out) l.i l.at;
 }

@@ -1,0 +1,97 @@
+-- The calls of a recovery, of a journal that has checksums only where these are allowed.
+use Rattle.std.specs.Prelude.{◌≡◌, ◌⊎◌, ℕ, ⊤, List, Option, Some, None, Result, Ok, Err, OnOk}
+use Rattle.std.specs.Option.{option_map}
+use Rattle.jb_disk.specs.Image.{Image, Only}
+use Rattle.jb_disk.specs.KeptOn.{KeptOn}
+use Rattle.jb_disk.specs.Time.{LeavesOnly}
+use Rattle.jb_disk.specs.declared.disk.Disk.{Ghosts as Disks}
+use Rattle.jb_super.specs.declared.checked.Checksums.{Checksums}
+use Rattle.jb_super.specs.declared.checked.Checksums.TheVariants.{Allowed, Refused}
+use Rattle.jb_recover.specs.CheckedFaults.{CheckedPassFaults, checked_of, checked_peek_of}
+use Rattle.jb_recover.specs.CheckedForesees.{CheckedForesees}
+use Rattle.jb_recover.specs.CheckedOutcomes.{CheckedRecoversAs}
+use Rattle.jb_recover.specs.CheckedPeeks.{IsCheckedPeek, checked_peek_refusal}
+use Rattle.jb_recover.specs.CheckedRecovers.{CheckedRecovers}
+use Rattle.jb_recover.specs.Foresees.{Foresees}
+use Rattle.jb_recover.specs.Outcomes.{RecoversAs}
+use Rattle.jb_recover.specs.Passes.{PassFaults, Passed, PassedBy}
+use Rattle.jb_recover.specs.Peeks.{IsPeeked, peek_refusal}
+use Rattle.jb_recover.specs.Recovers.{Recovers}
+use Rattle.jb_recover.specs.declared.checked_fault.CheckedFault.{CheckedFault}
+use Rattle.jb_recover.specs.declared.checked_fault.CheckedPeekFault.{CheckedPeekFault}
+use Rattle.jb_recover.specs.declared.checked_fault.CheckedPeekFault.TheVariants.{DeviceFault, Super, BadChecksum, BadRevoke, HomeOutOfRange}
+use Rattle.jb_recover.specs.declared.fault.RecoverFault.{RecoverFault}
+use Rattle.jb_recover.specs.declared.recovered.Foreseen.{Foreseen}
+use Rattle.jb_recover.specs.declared.recovered.Recovered.{Recovered}
+
+-- an answer of a call that judges no checksums, as one of a call that does
+abbrev pub as_checked : {T : Type 0} → Result T RecoverFault → Result T CheckedFault
+as_checked (Ok value) = Ok value
+as_checked (Err fault) = Err (checked_of fault)
+
+-- ---- a recovery
+
+-- the disk was recovered, as the clauses of `recover` say of its answer. A crash in its midst, or what it leaves after a fault, recovers to the
+-- image that the disk's content recovers to
+pub record RecoversPlain {D : Type 0} (G : Disks D) (old new : D) (answer : Result Recovered RecoverFault) : Type 0 where
+  pub kept : KeptOn G (PassFaults answer) old new
+  pub recovers : G.honest new → Recovers (G.size old) (G.count old) (G.newest old) (G.newest new) answer
+  pub crash : G.honest new → LeavesOnly G.moment G.left_since old new (λ c. G.may_leave old c ⊎ RecoversAs (G.size old) (G.count old) (G.newest old) c)
+  pub again : G.honest new → RecoversAs (G.size old) (G.count old) (G.newest old) (G.newest new)
+  pub durable : G.honest new → OnOk answer (Only (G.newest new) (G.may_leave new))
+
+-- the same, as those of `recover_checked` say
+pub record RecoversWithSums {D : Type 0} (G : Disks D) (old new : D) (answer : Result Recovered CheckedFault) : Type 0 where
+  pub kept : KeptOn G (CheckedPassFaults answer) old new
+  pub recovers : G.honest new → CheckedRecovers (G.size old) (G.count old) (G.newest old) (G.newest new) answer
+  pub crash : G.honest new → LeavesOnly G.moment G.left_since old new (λ c. G.may_leave old c ⊎ CheckedRecoversAs (G.size old) (G.count old) (G.newest old) c)
+  pub again : G.honest new → CheckedRecoversAs (G.size old) (G.count old) (G.newest old) (G.newest new)
+  pub durable : G.honest new → OnOk answer (Only (G.newest new) (G.may_leave new))
+
+-- the disk was recovered, where checksums are allowed or not
+abbrev pub RecoversBy : {D : Type 0} → Checksums → Disks D → D → D → Result Recovered CheckedFault → Type 0
+RecoversBy Refused G old new answer = (plain : Result Recovered RecoverFault) × RecoversPlain G old new plain × (answer ≡ as_checked plain)
+RecoversBy Allowed G old new answer = RecoversWithSums G old new answer
+
+-- ---- what a recovery would do
+
+-- it was foreseen what a recovery of the disk answers, with the clauses of `foresee`; the disk's content stays, and a crash leaves what it
+-- could leave before, no less and no more (`unsynced` of `passed`)
+pub record Foretells {D : Type 0} (G : Disks D) (old new : D) (answer : Result Foreseen RecoverFault) : Type 0 where
+  pub passed : Passed G answer old new
+  pub foresees : G.honest new → Foresees (G.size old) (G.count old) (G.newest old) answer
+
+-- the same, with those of `foresee_checked`
+pub record ForetellsWithSums {D : Type 0} (G : Disks D) (old new : D) (answer : Result Foreseen CheckedFault) : Type 0 where
+  pub passed : PassedBy G (λ r. CheckedPassFaults r) answer old new
+  pub foresees : G.honest new → CheckedForesees (G.size old) (G.count old) (G.newest old) answer
+
+-- it was foreseen, where checksums are allowed or not
+abbrev pub ForetellsBy : {D : Type 0} → Checksums → Disks D → D → D → Result Foreseen CheckedFault → Type 0
+ForetellsBy Refused G old new answer = (plain : Result Foreseen RecoverFault) × Foretells G old new plain × (answer ≡ as_checked plain)
+ForetellsBy Allowed G old new answer = ForetellsWithSums G old new answer
+
+-- ---- a peek
+
+-- why a home of an image is not peeked at, where it is not
+abbrev pub unpeeked_for : Checksums → ℕ → ℕ → Image → ℕ → Option CheckedPeekFault
+unpeeked_for Refused size count c home = option_map checked_peek_of (peek_refusal size count c home)
+unpeeked_for Allowed size count c home = checked_peek_refusal size count c home
+
+-- the bytes are what the committed transactions make of the home
+abbrev pub IsPeekedBy : Checksums → ℕ → ℕ → Image → ℕ → List ℕ → Type 0
+IsPeekedBy Refused size count c home bytes = IsPeeked size count c home bytes
+IsPeekedBy Allowed size count c home bytes = IsCheckedPeek size count c home bytes
+
+-- a peek at the home is refused for this
+abbrev pub IsUnpeeked : Checksums → ℕ → ℕ → Image → ℕ → CheckedPeekFault → Type 0
+IsUnpeeked sums size count c home DeviceFault = ⊤
+IsUnpeeked sums size count c home (Super fault) = unpeeked_for sums size count c home ≡ Some (Super fault)
+IsUnpeeked sums size count c home (BadChecksum what at) = unpeeked_for sums size count c home ≡ Some (BadChecksum what at)
+IsUnpeeked sums size count c home (BadRevoke at) = unpeeked_for sums size count c home ≡ Some (BadRevoke at)
+IsUnpeeked sums size count c home (HomeOutOfRange other) = unpeeked_for sums size count c home ≡ Some (HomeOutOfRange other)
+
+-- the home was peeked at, and these are its bytes; or it is refused for this
+abbrev pub PeeksBy : Checksums → ℕ → ℕ → Image → ℕ → List ℕ → {T : Type 0} → Result T CheckedPeekFault → Type 0
+PeeksBy sums size count c home bytes (Ok done) = (unpeeked_for sums size count c home ≡ None) × IsPeekedBy sums size count c home bytes
+PeeksBy sums size count c home bytes (Err fault) = IsUnpeeked sums size count c home fault
