@@ -1,5 +1,5 @@
 -- The journal that `jb dump` writes the text of, wherever it stands.
-use Rattle.std.specs.Prelude.{◌≡◌, ◌⊎◌, ℕ, Bool, true, false, List, Option, Some, None, Result, Ok, Err, codes}
+use Rattle.std.specs.Prelude.{◌≡◌, ◌⊎◌, ◌&&◌, ℕ, Bool, true, false, not, if◌then◌else◌, List, Option, Some, None, Result, Ok, Err, codes}
 use Rattle.std.specs.Str.{bytes_eq}
 use Rattle.jb_args.specs.PlainCommand.{DumpWords}
 use Rattle.jb_disk.specs.declared.file.FileDisk.{FileDisk}
@@ -7,19 +7,25 @@ use Rattle.jb_disk.specs.declared.start.Start.{Ghosts as Starts}
 use Rattle.jb_ext.specs.declared.choosing.MapSource.{MapSource}
 use Rattle.jb_ext.specs.declared.system.FileSystem.{FileSystem}
 use Rattle.jb_image.specs.declared.image.ImageDisk.{ImageDisk}
+use Rattle.jb_super.specs.declared.checked.Checksums.{Checksums}
+use Rattle.jb_super.specs.declared.checked.Checksums.TheVariants.{Unjudged}
 use Rattle.jb_commands.specs.Dump.{DumpsOn, IsUnopened, choice_of, is_placed, is_unbegun}
 use Rattle.jb_commands.specs.FoundWithin.{IsReadOf}
 use Rattle.jb_commands.specs.JournalPlace.{IsOpenedAt, IsShutAt, sums_of}
 use Rattle.jb_commands.specs.declared.fault.CommandFault.{CommandFault}
 use Rattle.jb_commands.specs.declared.fault.CommandFault.TheVariants.{Memory}
 
+-- which journals are looked for: those of any features, where the superblock alone is shown
+abbrev pub sums_sought : DumpWords → Checksums
+sums_sought words = if words.superblock && not words.summary then Unjudged else sums_of words.checksums
+
 module _ {S T : Type 0} (start : Starts S) (other : Starts T) where
   -- the image was opened, with its journal where the words say it, and that was dumped; or it was not opened, and nothing was written
   abbrev pub DumpsPlaced : DumpWords → List ℕ → Option (List ℕ) → Option (List ℕ) → Option (List ℕ) → Result ℕ CommandFault → Type 0
   DumpsPlaced words name input out_old out_new end =
-      ((disk : ImageDisk (FileDisk S start) (FileDisk T other)) × (homes : ℕ) × (found : Option MapSource) × IsOpenedAt (sums_of words.checksums) input words.journal words.extents disk homes found
+      ((disk : ImageDisk (FileDisk S start) (FileDisk T other)) × (homes : ℕ) × (found : Option MapSource) × IsOpenedAt (sums_sought words) input words.journal words.extents disk homes found
       × DumpsOn (choice_of words) None None out_old out_new end)
-      ⊎ ((fault : CommandFault) × (end ≡ Err fault) × IsShutAt (sums_of words.checksums) start other name input words.journal words.extents fault × (out_new ≡ out_old))
+      ⊎ ((fault : CommandFault) × (end ≡ Err fault) × IsShutAt (sums_sought words) start other name input words.journal words.extents fault × (out_new ≡ out_old))
 
   -- no journal begins in the bytes of a file, of which nothing was written; and it is a file system, and is dumped as an image, or there
   -- was no memory to know it

@@ -4,7 +4,7 @@ ghost use Rattle.jb_args.specs.PlainCommand.{dump_said};
 ghost use Rattle.jb_ext.specs.declared.system.FileSystem.{FileSystem};
 ghost use Rattle.jb_commands.specs.Dump.{DumpsOn, choice_of, is_placed as is_said, is_unbegun as begins_not};
 ghost use Rattle.jb_commands.specs.Dump.{reads_dump};
-ghost use Rattle.jb_commands.specs.DumpPlace.{DumpsFile, DumpsNamed, DumpsOpen, DumpsPlaced};
+ghost use Rattle.jb_commands.specs.DumpPlace.{DumpsFile, DumpsNamed, DumpsOpen, DumpsPlaced, sums_sought};
 ghost use Rattle.jb_commands.specs.FoundWithin.{IsReadOf};
 ghost use Rattle.jb_commands.specs.ListText.{reads_list};
 
@@ -20,7 +20,7 @@ use jb_args::DumpOptions;
 use jb_block::Memory;
 use jb_disk::{Disk, Start};
 use jb_dump::DumpFilter;
-use jb_super::SuperFault;
+use jb_super::{Checksums, SuperFault};
 use std::alloc::Global;
 use std::fs::File;
 use std::io::{Read, Seek, Write};
@@ -135,7 +135,7 @@ fn dump_placed<'a, S: Start, T: Start, R: Files<File = File> + AllocGlobal, I: R
         journal,
         extents,
         Opening::Read,
-        checksums_of(options.checksums),
+        sought(options),
         input,
     ) {
         Ok(opened) => dump_disk(rt.alloc(), opened.disk, choice_of(options), out),
@@ -166,6 +166,17 @@ fn choice_of(options: DumpOptions<'_>) -> DumpFilter
         superblock: options.superblock,
         summary: options.summary,
         checksums: options.checksums,
+    }
+}
+
+/// Which journals are looked for: those of any features, where the superblock alone is shown.
+fn sought(options: DumpOptions<'_>) -> Checksums
+    ensures { result ≡ sums_sought (dump_said options.entry) }
+{
+    if options.superblock && !options.summary {
+        Checksums::Unjudged
+    } else {
+        checksums_of(options.checksums)
     }
 }
 
