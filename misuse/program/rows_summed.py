@@ -1,7 +1,7 @@
 """Rows of journals with checksums, from docs/FORMAT.md alone (not from jb's code)."""
 import struct
 
-from images import BS, ESCAPE, LAST_TAG, UUID, be32, commit, data, image, padded, revoke, superblock
+from images import BS, ESCAPE, LAST_TAG, UUID, be32, commit, data, image, padded, revoke, shown, superblock
 from images import DESCRIPTOR, MAGIC
 from rows import BLOCK_5, DUMP, ONE, row
 from rows_places import parted, within, xxd
@@ -119,9 +119,22 @@ row("cat a 9 --checksums", 0, data(b"nine").decode(), files={"a": made(V3, chang
 # a count that is too large, of a block that is right
 row("recover a --checksums", 1, err="jb: BadRevoke 1\n", files={"a": made(V3, [summed_revoke(V3, 2, [7], BS - 3), *LOG[1:]])})
 # the superblock
+SHOWN = []
 for content, fault in [(over(front(V3), 0x20, b"\1"), "Checksum"), (front(V3, kind=1), "ChecksumType 1"), (front(24 | 1), "Feature 2 24"), (front(48 | 1), "Feature 2 32")]:
     for words in ASKED:
         row(words, 1, err="jb: Super %s\n" % fault, files={"a": image(content, LOG)})
+    SHOWN.append((content, "--checksums", fault))
+# it is shown all the same, wherever the journal is; and so is one with other features, with checksums and without
+for content, more, fault in [*SHOWN, (front(V3), "", "Feature 2 16"), (front(V3), "--checksums", ""), (front(48 | 1), "", "Feature 2 48"),
+                             *((superblock(2, 1, **bits), more, fault) for more in ("", "--checksums") for bits, fault in
+                               ((dict(compat=1), "Feature 1 1"), (dict(incompat=4), "Feature 2 4"), (dict(incompat=0x21), "Feature 2 32"), (dict(rocompat=1), "Feature 3 1")))]:
+    full, words = image(content, LOG), ("dump a --super %s" % more).rstrip()
+    for more, files in (("", {"a": full}), ("", ext(full)), (" --extents (0-32):20-52", ext(full)), (" --extents (0-32):20-52", within(full, [(20, 33)])),
+                        (" --journal j", parted(full))):
+        row(words + more, bool(fault), shown(content), fault and "jb: Super %s%s\n" % (fault, " j" * ("j" in files)), files=files)
+# a journal in a file system is found by its sizes: where these are refused nothing is shown
+for bits, fault in ((dict(said=512), "BlockSize 512"), (dict(maxlen=8), "Geometry"), (dict(kind=3), "NotVersion2 3")):
+    row("dump a --super", 1, err="jb: Super %s\n" % fault, files=ext(image(superblock(2, 1, **bits), LOG)))
 # no other command takes them
 for words in ("renumber a", "widen a"):
     row(words, 1, err="jb: Super Feature 2 16\n", files={"a": made(V3, start=0)})
