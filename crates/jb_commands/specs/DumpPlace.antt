@@ -2,10 +2,12 @@
 use Rattle.std.specs.Prelude.{◌≡◌, ◌⊎◌, ◌&&◌, ℕ, Bool, true, false, not, if◌then◌else◌, List, Option, Some, None, Result, Ok, Err, codes}
 use Rattle.std.specs.Str.{bytes_eq}
 use Rattle.jb_args.specs.PlainCommand.{DumpWords}
+use Rattle.jb_args.specs.declared.option_name.OptionName.TheVariants as option
 use Rattle.jb_disk.specs.declared.file.FileDisk.{FileDisk}
 use Rattle.jb_disk.specs.declared.start.Start.{Ghosts as Starts}
 use Rattle.jb_ext.specs.declared.choosing.MapSource.{MapSource}
 use Rattle.jb_ext.specs.declared.system.FileSystem.{FileSystem}
+use Rattle.jb_image.specs.Files.{as_files}
 use Rattle.jb_image.specs.declared.image.ImageDisk.{ImageDisk}
 use Rattle.jb_super.specs.declared.checked.Checksums.{Checksums}
 use Rattle.jb_super.specs.declared.checked.Checksums.TheVariants.{Unjudged}
@@ -13,7 +15,8 @@ use Rattle.jb_commands.specs.Dump.{DumpsOn, IsUnopened, choice_of, is_placed, is
 use Rattle.jb_commands.specs.FoundWithin.{IsReadOf}
 use Rattle.jb_commands.specs.JournalPlace.{IsOpenedAt, IsShutAt, sums_of}
 use Rattle.jb_commands.specs.declared.fault.CommandFault.{CommandFault}
-use Rattle.jb_commands.specs.declared.fault.CommandFault.TheVariants.{Memory}
+use Rattle.jb_commands.specs.Searched.{DumpsDisk}
+use Rattle.jb_commands.specs.declared.fault.CommandFault.TheVariants.{BadOption, Memory}
 
 -- which journals are looked for: those of any features, where the superblock alone is shown
 abbrev pub sums_sought : DumpWords → Checksums
@@ -24,7 +27,7 @@ module _ {S T : Type 0} (start : Starts S) (other : Starts T) where
   abbrev pub DumpsPlaced : DumpWords → List ℕ → Option (List ℕ) → Option (List ℕ) → Option (List ℕ) → Result ℕ CommandFault → Type 0
   DumpsPlaced words name input out_old out_new end =
       ((disk : ImageDisk (FileDisk S start) (FileDisk T other)) × (homes : ℕ) × (found : Option MapSource) × IsOpenedAt (sums_sought words) input words.journal words.extents disk homes found
-      × DumpsOn (choice_of words) None None out_old out_new end)
+      × DumpsDisk as_files words disk out_old out_new end)
       ⊎ ((fault : CommandFault) × (end ≡ Err fault) × IsShutAt (sums_sought words) start other name input words.journal words.extents fault × (out_new ≡ out_old))
 
   -- no journal begins in the bytes of a file, of which nothing was written; and it is a file system, and is dumped as an image, or there
@@ -51,8 +54,17 @@ module _ {S T : Type 0} (start : Starts S) (other : Starts T) where
   DumpsFrom false false words name before after out_old out_new end = DumpsFile words name before out_old out_new end
 
   -- the journal after this name was dumped, where the words say it is, or that of standard input after `-`, or else that of a file
+  abbrev pub DumpsChosen : DumpWords → List ℕ → Option (List ℕ) → Option (List ℕ) → Option (List ℕ) → Option (List ℕ) → Result ℕ CommandFault → Type 0
+  DumpsChosen words name = DumpsFrom (is_placed words) (bytes_eq name (codes "-")) words name
+
+  -- the same, unless the ring is to be searched of a journal that may have no checksums
+  abbrev pub DumpsUnless : Bool → DumpWords → List ℕ → Option (List ℕ) → Option (List ℕ) → Option (List ℕ) → Option (List ℕ) → Result ℕ CommandFault → Type 0
+  DumpsUnless true words name before after out_old out_new end = (end ≡ Err (BadOption option.Ring)) × (out_new ≡ out_old)
+  DumpsUnless false words name before after out_old out_new end = DumpsChosen words name before after out_old out_new end
+
+  -- the journal after this name was dumped, or an option is bad
   abbrev pub DumpsNamed : DumpWords → List ℕ → Option (List ℕ) → Option (List ℕ) → Option (List ℕ) → Option (List ℕ) → Result ℕ CommandFault → Type 0
-  DumpsNamed words name = DumpsFrom (is_placed words) (bytes_eq name (codes "-")) words name
+  DumpsNamed words name before after out_old out_new end = DumpsUnless (words.ring && not words.checksums) words name before after out_old out_new end
 
   -- the same, where standard input is known as it was before alone
   abbrev pub EndsOfDump : DumpWords → List ℕ → Option (List ℕ) → Option (List ℕ) → Option (List ℕ) → Result ℕ CommandFault → Type 0

@@ -42,6 +42,8 @@ mod joined;
 #[cfg(test)]
 mod logs;
 #[cfg(test)]
+mod lost;
+#[cfg(test)]
 mod maps;
 #[cfg(test)]
 mod mixtures;
