@@ -48,6 +48,8 @@ mod laid_crashes;
 #[cfg(test)]
 mod logs;
 #[cfg(test)]
+mod lost;
+#[cfg(test)]
 mod maps;
 #[cfg(test)]
 mod mixtures;
