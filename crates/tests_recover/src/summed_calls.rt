@@ -4,30 +4,39 @@ use crate::checks::By;
 use crate::small::{BLOCKS, small};
 use crate::summed::peeked;
 use crate::summed_logs::V3;
-use jb_block::Sums;
-use jb_disk::{FuseDisk, MemoryDisk};
+use jb_block::{BlockSize, Sums};
+use jb_disk::{Disk, FuseDisk, MemoryDisk};
 use jb_format::{clean_checked, read_checked, sync_checked};
 use jb_recover::foresee_checked;
 use tests_support::{Bench, check_row, crashed, read_at, write_at};
 
+/// Whether block 0 of a disk of blocks of 1 KiB is read.
+fn reads<D: Disk>(disk: &mut D) -> bool {
+    if disk.block_size() != BlockSize::OneKib {
+        return false;
+    }
+    read_checked(disk, &mut [0; 1024]).is_ok()
+}
+
+/// Whether it is read after a sync.
+fn syncs<D: Disk>(disk: &mut D) -> bool {
+    if disk.block_size() != BlockSize::OneKib {
+        return false;
+    }
+    sync_checked(disk, &mut [0; 1024]).is_ok()
+}
+
+/// Whether its journal is cleaned.
+fn cleans<D: Disk>(disk: &mut D) -> bool {
+    if disk.block_size() != BlockSize::OneKib || disk.blocks() == 0 {
+        return false;
+    }
+    clean_checked(disk, Sums::Whole, 2, &mut [0; 1024]).is_ok()
+}
+
 /// A journal with checksums, of which so many calls succeed.
 fn fused(test: &impl Bench, calls: u64) -> FuseDisk<MemoryDisk> {
     FuseDisk::of(small(test, &V3, &[]), calls)
-}
-
-/// Whether block 0 is read by so many calls.
-fn is_read(test: &impl Bench, calls: u64) -> bool {
-    read_checked(&mut fused(test, calls), &mut [0; 1024]).is_ok()
-}
-
-/// Whether it is synced and read by so many.
-fn is_synced(test: &impl Bench, calls: u64) -> bool {
-    sync_checked(&mut fused(test, calls), &mut [0; 1024]).is_ok()
-}
-
-/// Whether the journal is cleaned by so many.
-fn is_cleaned(test: &impl Bench, calls: u64) -> bool {
-    clean_checked(&mut fused(test, calls), Sums::Whole, 2, &mut [0; 1024]).is_ok()
 }
 
 /// Whether home 5, of which the log has a copy, is peeked at by so many.
@@ -40,13 +49,13 @@ fn is_foreseen(test: &impl Bench, calls: u64) -> bool {
     foresee_checked(test.alloc(), &mut fused(test, calls)).is_ok()
 }
 
-/// Checks that a call ends by so many calls of the disk, and not by one less.
-fn check_calls(test: &impl Bench) {
-    let are_read = !is_read(test, 0) && is_read(test, 1);
+/// Checks that each ends by so many calls of the disk, and not by one less.
+fn check_counts(test: &impl Bench) {
+    let are_read = !reads(&mut fused(test, 0)) && reads(&mut fused(test, 1));
     check_row(test, are_read, "read_checked", "its calls");
-    let are_synced = !is_synced(test, 1) && is_synced(test, 2);
+    let are_synced = !syncs(&mut fused(test, 1)) && syncs(&mut fused(test, 2));
     check_row(test, are_synced, "sync_checked", "its calls");
-    let are_cleaned = !is_cleaned(test, 2) && is_cleaned(test, 3);
+    let are_cleaned = !cleans(&mut fused(test, 2)) && cleans(&mut fused(test, 3));
     check_row(test, are_cleaned, "clean_checked", "its calls");
     let are_peeked = !is_peeked(test, 10) && is_peeked(test, 11);
     check_row(test, are_peeked, "peek_checked", "its calls");
@@ -59,8 +68,7 @@ fn check_order(test: &impl Bench) {
     let mut disk = small(test, &V3, &[]);
     write_at(test, &mut disk, BLOCKS - 1, &[7; 1024]);
     let mut fuse = FuseDisk::of(disk, 1);
-    let answer = sync_checked(&mut fuse, &mut [0; 1024]);
-    check_row(test, answer.is_err(), "sync_checked", "a read that fails");
+    check_row(test, !syncs(&mut fuse), "sync_checked", "a read that fails");
     let mut block = [0; 1024];
     let mut left = crashed(test, &fuse.into_inner(), &[]);
     read_at(test, &mut left, BLOCKS - 1, &mut block);
@@ -69,6 +77,6 @@ fn check_order(test: &impl Bench) {
 
 #[test]
 fn calls_with_checksums_are_counted(rt: HostRuntime) {
-    check_calls(&By(&rt, rt.alloc()));
+    check_counts(&By(&rt, rt.alloc()));
     check_order(&By(&rt, rt.alloc()))
 }
