@@ -1,5 +1,5 @@
 //! Journals whose text is written.
-ghost use Rattle.std.specs.Prelude.{◌≡◌, IfOk, None, Some, codes, false, option_map, true};
+ghost use Rattle.std.specs.Prelude.{◌≡◌, ◌&&◌, IfOk, None, Some, codes, false, not, option_map, true};
 ghost use Rattle.jb_args.specs.PlainCommand.{dump_said};
 ghost use Rattle.jb_ext.specs.declared.system.FileSystem.{FileSystem};
 ghost use Rattle.jb_commands.specs.Dump.{DumpsOn, choice_of, is_given as is_told, is_placed as is_said};
@@ -53,7 +53,7 @@ pub(crate) fn dump_named<
         (I.remaining input.new) (O.contents out.old) (O.contents out.new) result }
     ensures unread { reads_dump name.entry.now (dump_said options.entry) ≡ false → input.new ≡ input.old }
 {
-    if options.ring && !options.checksums {
+    if is_bare(options) {
         return Err(CommandFault::BadOption(OptionName::Ring));
     }
     dump_chosen::<S, T, R, I, O>(rt, name, options, input, out)
@@ -188,6 +188,13 @@ fn sought(options: DumpOptions<'_>) -> Checksums
     } else {
         checksums_of(options.checksums)
     }
+}
+
+/// Whether the ring is to be searched of a journal that may have no checksums.
+fn is_bare(options: DumpOptions<'_>) -> bool
+    ensures { result ≡ ((dump_said options.entry).ring && not (dump_said options.entry).checksums) }
+{
+    options.ring && !options.checksums
 }
 
 /// Whether the file is opened as an image: where an option says where the journal is, or its ring is searched.

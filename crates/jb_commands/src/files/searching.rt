@@ -2,7 +2,7 @@
 ghost use Rattle.std.specs.Prelude.{◌≡◌, None};
 ghost use Rattle.jb_args.specs.PlainCommand.{dump_said};
 ghost use Rattle.jb_commands.specs.Dump.{DumpsOn, is_searched as is_sought};
-ghost use Rattle.jb_commands.specs.Searched.{DumpsDisk, DumpsSearched, end_unless_lost};
+ghost use Rattle.jb_commands.specs.Searched.{DumpsDisk, DumpsSearched, end_unless_lost, lost_fault as fault_of_lost};
 
 use crate::fault::CommandFault;
 use crate::files::journals::choice_of;
@@ -62,10 +62,22 @@ fn unless_lost<'a>(
 ) -> Result<u8, CommandFault<'a>>
     ensures { result ≡ end_unless_lost lost dumped.entry }
 {
-    match (lost, dumped) {
-        (Some(Lost::Commit(place)), Ok(_)) => Err(CommandFault::Lost(place)),
-        (Some(Lost::Wrong(what, place)), Ok(_)) => Err(CommandFault::BadChecksum(what, place)),
-        (_, dumped) => dumped,
+    let Some(lost) = lost else {
+        return dumped;
+    };
+    match dumped {
+        Ok(_) => Err(lost_fault(lost)),
+        Err(fault) => Err(fault),
+    }
+}
+
+/// What is reported of a transaction that is lost.
+fn lost_fault<'a>(lost: Lost) -> CommandFault<'a>
+    ensures { result ≡ fault_of_lost lost }
+{
+    match lost {
+        Lost::Wrong(what, place) => CommandFault::BadChecksum(what, place),
+        Lost::Commit(place) => CommandFault::Lost(place),
     }
 }
 
