@@ -2,7 +2,7 @@
 import random
 
 from checksums_changes import READABLE, changes
-from checksums_reference import Log, dump
+from checksums_reference import KINDS, Log, dump
 from jbref_read import Refused
 from own_image import Checked, Held, Image, log_of, put
 
@@ -15,10 +15,20 @@ def answered(read):
         return 1, "", "jb: %s" % fault
 
 
+def lost_in(log):
+    """What `dump --ring` refuses: the first wrong block of the unfinished transaction, or else the first commit block behind
+    the committed ones; nothing of a clean log, or of one without checksums."""
+    found = log.commits_behind() if log.form.version and log.sup.start else []
+    wrong = log.wrong(piece for piece in log.unfinished if piece.kind)
+    if found and wrong:
+        return "BadChecksum %s %d" % (KINDS[wrong[0].kind], wrong[0].place)
+    return "Lost %d" % found[0].place if found else None
+
+
 def searched(log):
     """The same of `dump --ring`: where a transaction is lost, that is told after the lines."""
     status, text, fault = answered(lambda: dump(log))
-    lost = None if status else Log(log).lost()
+    lost = None if status else lost_in(Log(log))
     return (1, text, "jb: %s" % lost) if lost else (status, text, fault)
 
 

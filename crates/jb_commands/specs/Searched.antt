@@ -41,10 +41,10 @@ module _ {D : Type 0} (G : Disks D) where
   DumpsSearched choice old out_old out_new end = (new : D) × (told : Result (Option Lost) CheckedPeekFault) × IsSearched old new told × DumpsBehind choice told out_old out_new end
 
   -- a disk's journal was dumped, and searched before or not
-  abbrev pub DumpsBy : Bool → DumpFilter → D → Option (List ℕ) → Option (List ℕ) → Result ℕ CommandFault → Type 0
-  DumpsBy true choice disk out_old out_new end = DumpsSearched choice disk out_old out_new end
-  DumpsBy false choice disk out_old out_new end = DumpsOn choice None None out_old out_new end
+  abbrev pub DumpsEither : Bool → DumpFilter → D → Option (List ℕ) → Option (List ℕ) → Result ℕ CommandFault → Type 0
+  DumpsEither true choice disk out_old out_new end = DumpsSearched choice disk out_old out_new end
+  DumpsEither false choice disk out_old out_new end = DumpsOn choice None None out_old out_new end
 
   -- the same by the words
   abbrev pub DumpsDisk : DumpWords → D → Option (List ℕ) → Option (List ℕ) → Result ℕ CommandFault → Type 0
-  DumpsDisk words disk out_old out_new end = DumpsBy (is_searched words) (choice_of words) disk out_old out_new end
+  DumpsDisk words disk out_old out_new end = DumpsEither (is_searched words) (choice_of words) disk out_old out_new end

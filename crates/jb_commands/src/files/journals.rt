@@ -1,11 +1,10 @@
 //! Journals whose text is written.
-ghost use Rattle.std.specs.Prelude.{◌≡◌, IfOk, None, Some, codes, false, option_map, true};
+ghost use Rattle.std.specs.Prelude.{◌≡◌, ◌&&◌, IfOk, None, Some, codes, false, not, option_map, true};
 ghost use Rattle.jb_args.specs.PlainCommand.{dump_said};
 ghost use Rattle.jb_ext.specs.declared.system.FileSystem.{FileSystem};
 ghost use Rattle.jb_commands.specs.Dump.{DumpsOn, choice_of, is_given as is_told, is_placed as is_said};
-ghost use Rattle.jb_commands.specs.Dump.{is_searched as is_sought, is_unbegun as begins_not, reads_dump};
+ghost use Rattle.jb_commands.specs.Dump.{is_unbegun as begins_not, reads_dump};
 ghost use Rattle.jb_commands.specs.DumpPlace.{DumpsChosen, DumpsFile, DumpsNamed, DumpsOpen, DumpsPlaced, sums_sought};
-ghost use Rattle.jb_commands.specs.Searched.{DumpsDisk, DumpsSearched, end_unless_lost};
 ghost use Rattle.jb_commands.specs.FoundWithin.{IsReadOf};
 ghost use Rattle.jb_commands.specs.ListText.{reads_list};
 
@@ -14,14 +13,14 @@ use crate::files::found::system_of;
 use crate::files::opening::Opening;
 use crate::files::placed::open_placed;
 use crate::files::recovered::checksums_of;
+use crate::files::searching::dump_opened;
 use crate::files::shut::FileFault;
 use crate::files::texts::unopened;
-use crate::streams::{DiskReader, dump_from};
+use crate::streams::dump_from;
 use jb_args::{DumpOptions, OptionName};
 use jb_block::Memory;
-use jb_disk::{Disk, Start};
+use jb_disk::Start;
 use jb_dump::DumpFilter;
-use jb_recover::{Lost, find_lost};
 use jb_super::{Checksums, SuperFault};
 use std::alloc::Global;
 use std::fs::File;
@@ -54,7 +53,7 @@ pub(crate) fn dump_named<
         (I.remaining input.new) (O.contents out.old) (O.contents out.new) result }
     ensures unread { reads_dump name.entry.now (dump_said options.entry) ≡ false → input.new ≡ input.old }
 {
-    if options.ring && !options.checksums {
+    if is_bare(options) {
         return Err(CommandFault::BadOption(OptionName::Ring));
     }
     dump_chosen::<S, T, R, I, O>(rt, name, options, input, out)
@@ -167,75 +166,8 @@ fn dump_placed<'a, S: Start, T: Start, R: Files<File = File> + AllocGlobal, I: R
     }
 }
 
-/// The same of a disk; where the ring is searched, a transaction that the log has lost is reported after its lines.
-///
-/// # Errors
-/// Those of `dump_from`, and of `dump_searched`.
-fn dump_opened<'a, D: Disk + Drop, O: Write>(
-    alloc: Global,
-    disk: D,
-    options: DumpOptions<'a>,
-    out: &mut O,
-) -> Result<u8, CommandFault<'a>>
-    ensures dumps { DumpsDisk D.Disk (dump_said options.entry) disk.entry (O.contents out.old) (O.contents out.new)
-        result }
-{
-    if is_searched(options) {
-        dump_searched(alloc, disk, choice_of(options), out)
-    } else {
-        dump_disk(alloc, disk, choice_of(options), out)
-    }
-}
-
-/// Writes the lines that a choice takes, and reports a transaction that the log has lost, if that is shown.
-///
-/// # Errors
-/// Those of [`find_lost`], before anything is written, and those of `dump_from`; `CommandFault::Lost` and
-/// `CommandFault::BadChecksum` where a transaction is lost, once all is written.
-fn dump_searched<'a, D: Disk + Drop, O: Write>(
-    alloc: Global,
-    disk: D,
-    choice: DumpFilter,
-    out: &mut O,
-) -> Result<u8, CommandFault<'a>>
-    ensures dumps { DumpsSearched D.Disk choice disk.entry (O.contents out.old) (O.contents out.new) result }
-{
-    let mut disk = disk;
-    match find_lost(&mut disk) {
-        Ok(lost) => unless_lost(lost, dump_disk(alloc, disk, choice, out)),
-        Err(fault) => Err(CommandFault::of_peek(fault, None)),
-    }
-}
-
-/// How a dump ends where a log has lost a transaction, or has not.
-fn unless_lost<'a>(
-    lost: Option<Lost>,
-    dumped: Result<u8, CommandFault<'a>>,
-) -> Result<u8, CommandFault<'a>>
-    ensures { result ≡ end_unless_lost lost dumped.entry }
-{
-    match (lost, dumped) {
-        (Some(Lost::Commit(place)), Ok(_)) => Err(CommandFault::Lost(place)),
-        (Some(Lost::Wrong(what, place)), Ok(_)) => Err(CommandFault::BadChecksum(what, place)),
-        (_, dumped) => dumped,
-    }
-}
-
-/// Writes those lines of the text of the journal at the front of a disk which a choice takes.
-fn dump_disk<'a, D: Disk + Drop, O: Write>(
-    alloc: Global,
-    disk: D,
-    choice: DumpFilter,
-    out: &mut O,
-) -> Result<u8, CommandFault<'a>>
-    ensures dumps { DumpsOn choice None None (O.contents out.old) (O.contents out.new) result }
-{
-    let mut journal = DiskReader::of(disk);
-    dump_from(alloc, &mut journal, choice, out)
-}
-
 /// The lines that the options ask for.
-fn choice_of(options: DumpOptions<'_>) -> DumpFilter
+pub(crate) fn choice_of(options: DumpOptions<'_>) -> DumpFilter
     ensures { result ≡ choice_of (dump_said options.entry) }
 {
     DumpFilter {
@@ -258,11 +190,11 @@ fn sought(options: DumpOptions<'_>) -> Checksums
     }
 }
 
-/// Whether the rest of the log is searched.
-fn is_searched(options: DumpOptions<'_>) -> bool
-    ensures { result ≡ is_sought (dump_said options.entry) }
+/// Whether the ring is to be searched of a journal that may have no checksums.
+fn is_bare(options: DumpOptions<'_>) -> bool
+    ensures { result ≡ ((dump_said options.entry).ring && not (dump_said options.entry).checksums) }
 {
-    options.ring && !(options.superblock && !options.summary)
+    options.ring && !options.checksums
 }
 
 /// Whether the file is opened as an image: where an option says where the journal is, or its ring is searched.

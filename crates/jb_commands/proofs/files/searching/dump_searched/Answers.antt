@@ -1,5 +1,5 @@
 use Rattle.std.proofs.Common.{Ok, Err, ap, refl}
-use Rattle.jb_commands.proofs.files.journals.dump_searched.Goals as goal
+use Rattle.jb_commands.proofs.files.searching.dump_searched.Goals as goal
 
 pub returns-in-Ok : goal.returns-in-Ok
 returns-in-Ok g c = (
