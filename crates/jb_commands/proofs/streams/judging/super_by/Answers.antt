@@ -15,4 +15,4 @@ returns-in-Allowed-clause-reads g c = λ held.
 
 pub returns-in-Unjudged-clause-reads : goal.returns-in-Unjudged-clause-reads
 returns-in-Unjudged-clause-reads g c = λ held.
-    rw c.in-Unjudged.is (reads-checked (g.D.Disk.size c.args.disk.now) (g.D.Disk.count c.args.disk.now) (g.D.Disk.newest c.args.disk.now) c.read_checked-2.result (c.read_checked-2.ensures.reads held))
+    rw c.in-Unjudged.is (reads-checked (g.D.Disk.size c.args.disk.now) (g.D.Disk.count c.args.disk.now) (g.D.Disk.newest c.args.disk.now) c.read_checked-in-Unjudged.result (c.read_checked-in-Unjudged.ensures.reads held))
