@@ -124,7 +124,7 @@ fn asked(rt: &impl Host, words: &[&str]) -> String {
 }
 
 /// Command lines, and what they ask for.
-static ROWS: [(&str, &str); 34] = [
+static ROWS: [(&str, &str); 36] = [
     ("cost queue.txt", "cost queue.txt"),
     ("cost -", "cost -"),
     ("cost -- -x", "cost -x"),
