@@ -3,7 +3,7 @@
 
 `rt` counts twice the memory that a prover of this repository takes, and leaves a processor in four idle for want of it. With RT_JOBS it
 counts none, and each prover has one processor. That is right where all is to be proved, so that there are always enough provers, and where
-there are 5 GB a processor (the largest takes 3.5). Where the kit has kept an earlier gate on this machine, few crates are left, and `rt`
+there are 5 GB a processor (the largest takes 3.5). Where the kit has kept a whole gate on this machine, few crates are left, and `rt`
 gives several processors to each: nothing is printed.
 """
 import os
@@ -36,10 +36,12 @@ def memory():
 
 
 def has_kept():
-    """Whether the kit has kept something on this machine: the folder beside that of the kit."""
+    """Whether the kit has kept something of each crate on this machine: in the folder beside that of the kit."""
     rt = shutil.which("rt")
     kept = os.path.join(os.path.dirname(os.path.dirname(os.path.dirname(os.path.realpath(rt)))), "rattle-kept") if rt else ""
-    return os.path.isdir(kept) and bool(os.listdir(kept))
+    names = " ".join(os.listdir(kept)) if os.path.isdir(kept) else ""
+    crates = os.listdir(os.path.join(os.path.dirname(os.path.abspath(__file__)), "..", "crates"))
+    return all(f"-{name}-" in names for name in crates)
 
 
 if not has_kept() and memory() >= EACH * processors():

@@ -94,6 +94,7 @@ static FAULTS: [(CommandFault<'static>, &str); 67] = [
     (CommandFault::Own(OwnFault::NoSuper(9)), ""),
     (CommandFault::Own(OwnFault::Short), ""),
     (CommandFault::BadChecksum(Summed::Commit, 2), ""),
+    (CommandFault::Lost(2), ""),
     (CommandFault::BadRevoke(2), ""),
     (CommandFault::HomeOutOfRange(20, 2, Some(16)), ": 16"),
     (CommandFault::HomeOutOfRange(20, 2, None), ""),

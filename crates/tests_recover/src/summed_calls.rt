@@ -1,0 +1,74 @@
+//! How many calls of the disk are made where checksums are allowed, and that a sync comes before block 0 is read.
+
+use crate::checks::By;
+use crate::small::{BLOCKS, small};
+use crate::summed::peeked;
+use crate::summed_logs::V3;
+use jb_block::Sums;
+use jb_disk::{FuseDisk, MemoryDisk};
+use jb_format::{clean_checked, read_checked, sync_checked};
+use jb_recover::foresee_checked;
+use tests_support::{Bench, check_row, crashed, read_at, write_at};
+
+/// A journal with checksums, of which so many calls succeed.
+fn fused(test: &impl Bench, calls: u64) -> FuseDisk<MemoryDisk> {
+    FuseDisk::of(small(test, &V3, &[]), calls)
+}
+
+/// Whether block 0 is read by so many calls.
+fn is_read(test: &impl Bench, calls: u64) -> bool {
+    read_checked(&mut fused(test, calls), &mut [0; 1024]).is_ok()
+}
+
+/// Whether it is synced and read by so many.
+fn is_synced(test: &impl Bench, calls: u64) -> bool {
+    sync_checked(&mut fused(test, calls), &mut [0; 1024]).is_ok()
+}
+
+/// Whether the journal is cleaned by so many.
+fn is_cleaned(test: &impl Bench, calls: u64) -> bool {
+    clean_checked(&mut fused(test, calls), Sums::Whole, 2, &mut [0; 1024]).is_ok()
+}
+
+/// Whether home 5, of which the log has a copy, is peeked at by so many.
+fn is_peeked(test: &impl Bench, calls: u64) -> bool {
+    peeked(&mut fused(test, calls), 5).0.is_ok()
+}
+
+/// Whether a recovery is foreseen by so many.
+fn is_foreseen(test: &impl Bench, calls: u64) -> bool {
+    foresee_checked(test.alloc(), &mut fused(test, calls)).is_ok()
+}
+
+/// Checks that a call ends by so many calls of the disk, and not by one less.
+fn check_calls(test: &impl Bench) {
+    let are_read = !is_read(test, 0) && is_read(test, 1);
+    check_row(test, are_read, "read_checked", "its calls");
+    let are_synced = !is_synced(test, 1) && is_synced(test, 2);
+    check_row(test, are_synced, "sync_checked", "its calls");
+    let are_cleaned = !is_cleaned(test, 2) && is_cleaned(test, 3);
+    check_row(test, are_cleaned, "clean_checked", "its calls");
+    let are_peeked = !is_peeked(test, 10) && is_peeked(test, 11);
+    check_row(test, are_peeked, "peek_checked", "its calls");
+    let are_foreseen = !is_foreseen(test, 15) && is_foreseen(test, 16);
+    check_row(test, are_foreseen, "foresee_checked", "its calls")
+}
+
+/// Checks that what was written before is durable where the read of block 0 fails.
+fn check_order(test: &impl Bench) {
+    let mut disk = small(test, &V3, &[]);
+    write_at(test, &mut disk, BLOCKS - 1, &[7; 1024]);
+    let mut fuse = FuseDisk::of(disk, 1);
+    let answer = sync_checked(&mut fuse, &mut [0; 1024]);
+    check_row(test, answer.is_err(), "sync_checked", "a read that fails");
+    let mut block = [0; 1024];
+    let mut left = crashed(test, &fuse.into_inner(), &[]);
+    read_at(test, &mut left, BLOCKS - 1, &mut block);
+    check_row(test, block == [7; 1024], "sync_checked", "its first call")
+}
+
+#[test]
+fn calls_with_checksums_are_counted(rt: HostRuntime) {
+    check_calls(&By(&rt, rt.alloc()));
+    check_order(&By(&rt, rt.alloc()))
+}
