@@ -20,8 +20,6 @@ pub enum OptionName {
     Extents,
     /// `--list` of `recover`.
     List,
-    /// `--ring` of `dump`.
-    Ring,
     /// `--threads` of `load`.
     Threads,
 }

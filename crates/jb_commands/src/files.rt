@@ -11,7 +11,6 @@ mod opening;
 mod own;
 mod placed;
 mod recovered;
-mod searching;
 mod shut;
 mod texts;
 
