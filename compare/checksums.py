@@ -10,8 +10,8 @@ others by debugfs (`jo -c`) and by jbref_write.py (checksums_systems.py), and ke
   changes  --changes N changed logs over some of them: JB answers as the reference does, with the same bytes; where it
            recovers one, the kernel leaves the same homes; where it refuses one, nothing is written. What e2fsck and the
            kernel do is counted by what is changed and what is answered (checksums_changes.py), --workers N at once.
-  texts    `JB dump --checksums` of some changed journals beside the reference, ` wrong` where a copy's data is, and
-           `JB cat --checksums` of one of their homes.
+  texts    `JB dump --checksums` of some changed journals beside the reference, ` wrong` where a copy's data is, with
+           --ring what is lost, and `JB cat --checksums` of one of their homes.
   time     a full log of --mib N (96) with checksums: JB, e2fsck, the same log without checksums, and hashing alone.
 Of --names a,b only these. A run of JB may take --seconds N (2) of the processor, and --memory KiB (0: any). Needs to be root, with loop devices, e2fsprogs and strace: else it says `skipped`, and ends
 with status 0. Prints a line for each file system; the last line has the number of faults."""
@@ -44,6 +44,8 @@ class Reference:
         name, *home = [word for word in words if not word.startswith("--")]
         data = whole(name)
         try:
+            if command == "dump" and "--ring" in words:
+                return checksums_texts.searched(data)
             if command == "dump":
                 return 0, checksums_reference.dump(data).strip(), ""
             if command == "cat":

@@ -105,6 +105,15 @@ class Changes:
         put = self.with_sum if is_right else self.write
         return "descriptor, flags" + ", sum right" * is_right, [put(piece, at + 4, struct.pack(">I", new))]
 
+    def last_tag(self):
+        """The last descriptor of the log claims more blocks than it has, the commit block behind them among these."""
+        piece = self.log.pieces(DESCRIPTOR)[-1]
+        tags, at = list(self.form.tags(piece.block)), 12
+        for _, flags, _ in tags[:-1]:
+            at += self.form.tag + (0 if flags & SAME_UUID else 16)
+        new = u32(piece.block, at + 4) ^ LAST_TAG
+        return "the last descriptor, LAST_TAG", [self.write(piece, at + 4, struct.pack(">I", new))]
+
     def torn(self):
         """The first sectors are new, and those behind them are not; or the other way round."""
         piece = self.one(self.chance.choice([DESCRIPTOR, REVOKE, COMMIT, COMMIT]))
@@ -210,7 +219,7 @@ WAYS = [Changes.super_bit, Changes.super_field, Changes.features, Changes.other_
         Changes.body, Changes.own_sum, Changes.rest, Changes.flags, Changes.torn, Changes.torn, Changes.whole_block,
         Changes.whole_block, Changes.swapped, Changes.earlier, Changes.count, Changes.body_right, Changes.header_right,
         Changes.data, Changes.data, Changes.tag_sum, Changes.suspect, Changes.suspect, Changes.wrong_earlier,
-        Changes.unfinished, Changes.anywhere, Changes.anywhere]
+        Changes.unfinished, Changes.last_tag, Changes.anywhere, Changes.anywhere]
 # those after which much of a log can still be read
 READABLE = [Changes.data, Changes.whole_block, Changes.tag_sum, Changes.data, Changes.anywhere, Changes.suspect,
             Changes.swapped, Changes.torn, Changes.rest]

@@ -113,8 +113,19 @@ def choice_of(rng):
     return choice, words + ["--super"] * choice["alone"]
 
 
+def shown_of(journal):
+    """What `jb dump --super` says of a journal, by jbref.py."""
+    try:
+        jbref.Super(journal)
+        return 0, jbref.shown(journal).encode(), b""
+    except jbref.Refused as refused:
+        return 1, jbref.shown(journal).encode(), b"jb: %s\n" % str(refused).encode()
+
+
 def dump_of(journal, choice):
     """What `jb dump` says of a journal, by jbref.py."""
+    if choice.pop("alone", False):
+        return shown_of(journal)
     try:
         return 0, jbref.dump(journal, **choice).encode(), b""
     except jbref.Refused as refused:

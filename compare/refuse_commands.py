@@ -41,6 +41,8 @@ ROWS = [
     ("format", FORMAT, {}, b""),
     ("dump", "dump a", {"a": FULL}, b""),
     ("dump, at a glance", "dump a --summary", {"a": FULL}, b""),
+    ("dump, the superblock", "dump a --super", {"a": FULL}, b""),
+    ("dump, its ring", "dump a --checksums --ring", {"a": FULL}, b""),
     ("recover", "recover a", {"a": FULL}, b""),
     ("cat, in rows", "cat a 5 --hex", {"a": FULL}, b""),
     ("cat, of two files", "cat h 5 --journal j", {"j": FULL[:33 * BS], "h": FULL[33 * BS:]}, b""),

@@ -1,5 +1,5 @@
 #!/usr/bin/env python3
-"""Writes a queue text for `jb plan`: queues.py LOAD [HANDLES]. The loads are those of compare/README.md."""
+"""Writes a queue text for `jb plan`: queues.py LOAD [HANDLES]. LOAD is one of LOADS."""
 import random
 import sys
 

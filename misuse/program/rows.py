@@ -1,7 +1,7 @@
 """The table: what is run, and what it must say and leave. The texts are those of docs/TEXTS.md. Further rows: rows_places.py, rows_load.py,
 rows_images.py and rows_words.py."""
 from images import BS, COMMIT, ESCAPE, LAST_TAG, MAGIC, SAME_UUID, SUPER1
-from images import be32, commit, data, descriptor, image, padded, revoke, superblock
+from images import be32, commit, data, descriptor, image, padded, revoke, shown, superblock
 
 ROWS = []
 
@@ -157,8 +157,8 @@ TOLD = DUMP % (2, 1, 1) + """1 descriptor number=2 tags=1
 5 commit number=3 sec=0 nsec=0
 end transactions=2 expected=4
 """
-for words, numbers in [("", range(8)), (" --home 5", [2, 3, 5]), (" --home=7", []), (" --last 1", [0, 1, 5, 6, 7]), (" --last 0", [0, 1, 7]), (" --super", [0, 1]),
-                       (" --last 1 --home 5", [5]), (" --super --last 1", [0, 1])]:
+for words, numbers in [("", range(8)), (" --home 5", [2, 3, 5]), (" --home=7", []), (" --last 1", [0, 1, 5, 6, 7]), (" --last 0", [0, 1, 7]),
+                       (" --last 1 --home 5", [5])]:
     row("dump a" + words, 0, "".join(TOLD.splitlines(True)[n] for n in numbers), files={"a": image(superblock(2, 1), TWO_AND_REVOKED)})
 # at a glance, whatever the other options say
 GLANCE = """log transactions=2 used=5 usable=32 free=27
@@ -176,7 +176,20 @@ row("dump a --summary", 0, "log transactions=0 used=0 usable=32 free=32\nends ta
 row("dump a --summary", 1, err="jb: BadRevoke 1\n", files={"a": image(superblock(2, 1), [revoke(2, [], 1025), commit(2)])})
 row("dump a --summary", 1, err="jb: WriteFault\n", files={"a": FULL}, to="full")
 row("dump - --home 7", 0, DUMPED.splitlines(True)[2], stdin=FULL)
-row("dump a --super", 1, err="jb: BadRevoke 1\n", files={"a": image(superblock(2, 1), [revoke(2, [], 1025), commit(2)])})
+# the superblock alone, whatever the log and the file are, and whatever lines the other options ask for; also of one that is refused
+for words in ["", " --home 5", " --last 1 --home=7", " --checksums"]:
+    row("dump a --super" + words, 0, shown(superblock(2, 1)), files={"a": image(superblock(2, 1), TWO_AND_REVOKED)})
+row("dump a --super", 0, shown(superblock(2, 1)), files={"a": image(superblock(2, 1), [revoke(2, [], 1025), commit(2)])})
+row("dump a --super", 0, shown(SMALL), files={"a": image(SMALL)[:20 * BS]})
+row("dump - --super", 0, shown(SMALL), stdin=SMALL)
+row("dump a --super", 1, err="jb: WriteFault\n", files={"a": FULL}, to="full")
+row("dump a --super", 1, err="jb: ReadFault\n", files={"a": None})
+row("dump a --super", 2, err="jb: cannot read a\n", beside=MISSING)
+for content, name in BAD_SUPERS:
+    if content != image(SMALL)[:20 * BS]:
+        row("dump a --super", 1, shown(content), "jb: Super %s\n" % name, files={"a": content})
+        row("dump - --super", 1, shown(content), "jb: Super %s\n" % name, stdin=content)
+row("dump a --super", 1, err="jb: WriteFault\n", files={"a": image(superblock(compat=1))}, to="full")
 row("dump a --last 1", 1, err="jb: WriteFault\n", files={"a": FULL}, to="full")
 row("dump a", 1, err="jb: BadRevoke 1\n", files={"a": image(superblock(2, 1), [revoke(2, [], 1025), commit(2)])})
 row("dump a", 2, err="jb: cannot read a\n", beside=MISSING)

@@ -111,7 +111,7 @@ for content, out, err in [(JOURNAL, DUMPED, ""), (image(superblock(2, 32), [*ONE
     row("dump a", 1 if err else 0, out, err, files={"a": content})
     row("dump -", 1 if err else 0, out, err, stdin=content)
 LINES = DUMPED.splitlines(True)
-for words, numbers in [("a --home 5", [3, 4]), ("--home=7 a --last 1", [2]), ("--super a", [0, 1]), ("--last 0 a", [0, 1, 6])]:
+for words, numbers in [("a --home 5", [3, 4]), ("--home=7 a --last 1", [2]), ("--last 0 a", [0, 1, 6])]:
     row("dump " + words, 0, "".join(LINES[n] for n in numbers), files={"a": JOURNAL})
 row("dump .", 1, err="jb: ReadFault\n")
 

@@ -1,5 +1,5 @@
 """Rows of the table: file systems, whose own journal is found by their superblock."""
-from images import BS, commit, data, image, revoke, superblock
+from images import BS, commit, data, image, revoke, shown, superblock
 from rows import CLEAN, CLEARED, DUMPED, FULL, GLANCE, MISSING, OLD, ONE, OUT_OF_RANGE, RECOVERED, SMALL, TWO_AND_REVOKED, WIDENED, row
 from rows_load import LOADED  # noqa: F401  (the rows of loads come before)
 from rows_places import LINE, NINE, parted, within
@@ -114,10 +114,13 @@ for given in dict(stdin=b"20-29,\n30-52\n"), dict(list=b"20-29, 30-52"):
         row(words + word, 0, line, files={**ext(before), **lists}, stdin=stdin, after=ext(after))
     row("dump a" + word, 0, DUMPED, files={**ext(FULL), **lists}, stdin=stdin)
 # what is dumped of a journal within its file system, or in a file of its own, is what is dumped of the journal alone
-for words, numbers in ((" --home 7", [2]), (" --super", [0, 1]), (" --last 0", [0, 1, 6])):
+for words, numbers in ((" --home 7", [2]), (" --last 0", [0, 1, 6])):
     row("dump a" + words, 0, "".join(DUMPED.splitlines(True)[n] for n in numbers), files=ext(FULL))
     row("dump a --extents 20-52" + words, 0, "".join(DUMPED.splitlines(True)[n] for n in numbers), files=ext(FULL))
     row("dump a --journal j" + words, 0, "".join(DUMPED.splitlines(True)[n] for n in numbers), files=parted(FULL))
+row("dump a --super", 0, shown(FULL), files=ext(FULL))
+row("dump a --super --extents 20-52", 0, shown(FULL), files=ext(FULL))
+row("dump a --super --journal j", 0, shown(FULL), files=parted(FULL))
 row("dump a", 0, DUMPED, files=ext(FULL, inode=((0x1A, "H", 0),)))
 row("dump a", 0, DUMPED, files=ext(FULL, uuid=bytes(16)))
 row("dump a --journal j", 0, DUMPED, files=parted(FULL))

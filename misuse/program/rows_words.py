@@ -90,11 +90,12 @@ Arguments:
 Options:
       --home <N>           Only the lines that speak of home block N
       --last <N>           Of the transactions only the last N
-      --super              Only the lines of the superblock
+      --super              Every field of the superblock alone, also of one that is refused
       --summary            The journal at a glance, in place of its lines
       --journal <JOURNAL>  The file with the journal; FILE has the home blocks alone then
       --extents <LIST>     Where the journal stands within FILE, as debugfs lists its blocks; - or @FILE has it
       --checksums          Takes a journal with checksums, too, and judges it by them
+      --ring               Searches the rest of the log for a lost transaction; for --checksums alone
   -h, --help               Print help (see more with '--help')
 """,
     "cat -h": """Writes home blocks of an image as recovery would leave them

@@ -4,7 +4,7 @@ use crate::journals::{HOME_5, committed, formatted, put_word, read_block, word_a
 use crate::met::{Met, ample, met_if, refusing, tried};
 use jb_block::{BlockSize, MAGIC, Memory};
 use jb_disk::{Disk, MemoryDisk};
-use jb_dump::{DumpFault, dump};
+use jb_dump::{DumpFault, DumpFilter, dump, dump_chosen};
 use jb_recover::{RecoverFault, Recovered, recover};
 use std::alloc::Global;
 use std::fs::File;
@@ -28,6 +28,14 @@ uuid 00000000000000000000000000000000
 3 copy home=5 flags=9 head=0000000001020304
 4 commit number=2 sec=0 nsec=0
 end transactions=1 expected=3
+";
+
+/// Its superblock, shown alone.
+const SHOWN: &str =
+    "super bs=1024 maxlen=33 first=1 sequence=2 start=1 errno=0 compat=00000000 incompat=00000001 \
+     rocompat=00000000 max=0 limit=8
+uuid 00000000000000000000000000000000
+more number=0 nr_users=1 dynsuper=0 max_trans_data=0 checksum_type=0 num_fc_blks=0 head=0 checksum=00000000
 ";
 
 /// Whether a new disk has blocks of zeros.
@@ -128,6 +136,28 @@ fn is_dumped(alloc: Global, bytes: &[u8], text: &mut Vec<u8>) -> Result<bool, Me
         Err(DumpFault::Memory) if text.is_empty() => Err(Memory),
         Err(_) => Ok(false),
     }
+}
+
+/// Whether its superblock is shown, with the same text.
+fn is_shown(alloc: Global, bytes: &[u8], text: &mut Vec<u8>) -> Result<bool, Memory> {
+    let mut reader = bytes;
+    let choice = DumpFilter {
+        superblock: true,
+        ..DumpFilter::every_line()
+    };
+    match dump_chosen(alloc, &mut reader, text, choice) {
+        Ok(()) => Ok(text.as_slice() == SHOWN.as_bytes()),
+        Err(DumpFault::Memory) if text.is_empty() => Err(Memory),
+        Err(_) => Ok(false),
+    }
+}
+
+/// The superblock of a journal, shown.
+pub fn shown_row(rt: &impl Files<File = File>, alloc: Global) -> Option<Met> {
+    let bytes = journal(alloc);
+    let mut text = Vec::new(alloc);
+    let _refused = text.reserve(1024);
+    tried(rt, || is_shown(alloc, &bytes, &mut text))
 }
 
 /// The dump of a journal.

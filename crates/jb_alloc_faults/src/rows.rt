@@ -45,6 +45,7 @@ pub fn row<R: Files<File = File> + Threads + Wait + Clock + Sync>(
         "MemoryDisk::crash" => disks::crash_row(rt, alloc),
         "recover" => disks::recover_row(rt, alloc),
         "dump" => disks::dump_row(rt, alloc),
+        "dump_chosen" => disks::shown_row(rt, alloc),
         _ => shared_row(rt, alloc, name),
     }
 }

@@ -39,6 +39,7 @@ pub record DumpWords : Type 0 where
   pub journal : Option Text
   pub extents : Option Text
   pub checksums : Bool
+  pub ring : Bool
 
 -- the options of `recover` as they were given
 pub record RecoverWords : Type 0 where
@@ -73,7 +74,7 @@ cat_said o =
 -- the same of `dump`
 abbrev pub dump_said : DumpOptions → DumpWords
 dump_said o =
-    record { home = o.home; last = o.last; superblock = o.superblock; summary = o.summary; journal = option_map (λ word. word.now) o.journal; extents = option_map (λ word. word.now) o.extents; checksums = o.checksums }
+    record { home = o.home; last = o.last; superblock = o.superblock; summary = o.summary; journal = option_map (λ word. word.now) o.journal; extents = option_map (λ word. word.now) o.extents; checksums = o.checksums; ring = o.ring }
 
 -- the same of `recover`
 abbrev pub recover_said : RecoverOptions → RecoverWords
@@ -131,9 +132,9 @@ extents_asked rows = first_of (codes "extents") rows
 -- `dump FILE ..`
 abbrev pub dump_in : List Row → Option Asked
 dump_in rows =
-    option_and_then (λ file. option_and_then (λ alone. option_and_then (λ sum.
-    option_map (λ checksums. AsksDump file (record { home = number_in (codes "home") rows; last = number_in (codes "last") rows; superblock = alone; summary = sum; journal = journal_asked rows; extents = extents_asked rows; checksums = checksums }))
-    (flag_in (codes "checksums") rows)) (flag_in (codes "summary") rows)) (flag_in (codes "super") rows)) (file_in rows)
+    option_and_then (λ file. option_and_then (λ alone. option_and_then (λ sum. option_and_then (λ checksums.
+    option_map (λ ring. AsksDump file (record { home = number_in (codes "home") rows; last = number_in (codes "last") rows; superblock = alone; summary = sum; journal = journal_asked rows; extents = extents_asked rows; checksums = checksums; ring = ring }))
+    (flag_in (codes "ring") rows)) (flag_in (codes "checksums") rows)) (flag_in (codes "summary") rows)) (flag_in (codes "super") rows)) (file_in rows)
 
 -- the options of `format`
 abbrev pub options_in : List Row → Option Options

@@ -122,6 +122,8 @@ pub enum Hint {
     Geometry,
     /// A block of the journal has a wrong checksum.
     BadChecksum,
+    /// A commit block of a later transaction is behind the end of a log.
+    Lost,
     /// A revoke block is damaged.
     BadRevoke,
     /// A copy is for a home block that the image has not; how many it has, where that is known.

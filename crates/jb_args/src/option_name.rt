@@ -20,6 +20,8 @@ pub enum OptionName {
     Extents,
     /// `--list` of `recover`.
     List,
+    /// `--ring` of `dump`.
+    Ring,
     /// `--threads` of `load`.
     Threads,
 }

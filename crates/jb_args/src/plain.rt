@@ -70,7 +70,7 @@ pub struct DumpOptions<'a> {
     pub home: Option<u64>,
     /// `--last`: how many last transactions alone have their lines printed.
     pub last: Option<u64>,
-    /// `--super`: whether the lines of the superblock alone are printed.
+    /// `--super`: whether the superblock alone is shown.
     pub superblock: bool,
     /// `--summary`: whether the journal at a glance is printed in place of all lines.
     pub summary: bool,
@@ -80,6 +80,8 @@ pub struct DumpOptions<'a> {
     pub extents: Option<&'a str>,
     /// `--checksums`: whether a journal with checksums is taken, too.
     pub checksums: bool,
+    /// `--ring`: whether the rest of its log is searched for a transaction that it has lost.
+    pub ring: bool,
 }
 
 /// The words and options of `jb cat` after the image, as they were given, not checked yet.

@@ -152,6 +152,10 @@ macro_rules! diagnostics {
                 BadChecksum, "BadChecksum ", "NAME #",
                     "this block of the journal is damaged, by its checksum; the image is as it was: e2fsck recovers \
                      what is before it, and throws the rest away";
+                Lost, "Lost ", "#",
+                    "this block of the journal commits a transaction behind the end of its log, so what that committed \
+                     is lost: a header between them is damaged; nothing was written: copy the journal out, before \
+                     e2fsck or a mount empties it";
                 BadRevoke, "BadRevoke ", "#", "this block of the journal is damaged; the image is as it was";
                 HomeOutOfRange, "HomeOutOfRange ", "# #",
                     "the image is as it was; it is to be made whole, or its journal given by --journal, and now has so \
@@ -203,6 +207,7 @@ macro_rules! diagnostics {
                     "a list as debugfs prints it, as (0-1023):8193-9216, (1024):9300, or - or @FILE for its text; not \
                      with --journal";
                 List, "--list", "for --dry-run alone";
+                Ring, "--ring", "for --checksums alone";
                 Threads, "--threads", "1 to 64";
             }
         }

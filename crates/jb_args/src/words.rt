@@ -151,6 +151,7 @@ fn dump_of<'a>(found: &ArgMatches<'a>) -> Option<Plain<'a>>
             journal: word_of(found, "journal"),
             extents: word_of(found, "extents"),
             checksums: flag_of(found, "checksums")?,
+            ring: flag_of(found, "ring")?,
         },
     })
 }

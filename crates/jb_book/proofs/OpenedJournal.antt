@@ -1,7 +1,8 @@
--- A journal that was just opened stands as it must.
-use Rattle.std.proofs.Common.{◌≡◌, ◌⊎◌, ℕ, ◌+◌, ◌≤◌, List, [], length, Option, Some, None, Result, Ok, Err, IfOk, MatchResult, inl, ⊎_elim, refl, ap, sym, subst, ◌∙◌, arith}
+-- A journal that was just opened stands as it must, and what was asked of the disk of one that is closed.
+use Rattle.std.proofs.Common.{◌≡◌, ◌⊎◌, ℕ, ◌+◌, ◌<◌, ◌≤◌, List, [], length, Option, Some, None, Result, Ok, Err, IfOk, MatchResult, inl, ⊎_elim, refl, ap, sym, subst, ◌∙◌, arith}
 use Rattle.std.proofs.lemmas.List.Elements.{All-nil}
 use Rattle.jb_disk.specs.Image.{Image}
+use Rattle.jb_disk.specs.Faults.{most_faults}
 use Rattle.jb_disk.specs.KeptOn.{KeptOn}
 use Rattle.jb_disk.specs.declared.disk.Disk.{Ghosts}
 use Rattle.jb_disk.specs.Time.{LeavesOnly}
@@ -24,7 +25,7 @@ use Rattle.jb_log.specs.declared.log.Log.{Log}
 use Rattle.jb_deck.specs.Since.{LiveOf, deck_homes}
 use Rattle.jb_book.specs.Origin.{Begun, own_on, revoking_in}
 use Rattle.jb_book.specs.OpenDisk.{WasOpened}
-use Rattle.jb_book.specs.Since.{IsBegunOn, IsCosted, IsSince}
+use Rattle.jb_book.specs.Since.{IsBegunOn, IsCosted, IsSince, NoneAfterAtDesk}
 use Rattle.jb_book.proofs.MarksLast.{first-none}
 use Rattle.jb_deck.proofs.OpenedJournal.{revoking-same}
 
@@ -77,6 +78,11 @@ module _ {D : Type 0} (G : Ghosts D) (disk : D) where
           numbers = rw new.trail tt;
           next = omega (arith, none);
         };
+        asked = λ none few.
+            let (well, go) = begun.asked none in
+            let stayed : G.faults deck.disk ≡ G.faults disk = kept.counted in
+            let before : G.faults disk < most_faults = omega (arith, few, stayed) in
+            (kept.asked before go well, λ up. kept.going before go stayed);
         since = λ known_start held.
             let honest_on = kept.was_honest held in
             let op = opens held in
@@ -103,3 +109,9 @@ module _ {D : Type 0} (G : Ghosts D) (disk : D) where
             };
       }
   open-since counts_now b begun (Err refused) kept new opens leaves now stands = tt
+
+-- ---- the disk of a desk that was closed
+
+pub none-after : {D : Type 0} (G : Ghosts D) (b : Begun) → NoneAfterAtDesk G b
+none-after G b disk trail ends none few =
+    subst G.well_asked ends.same_disk (ends.since.asked none (subst (λ d. G.faults d < most_faults) (sym ends.same_disk) few)).0

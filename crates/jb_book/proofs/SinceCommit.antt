@@ -24,6 +24,7 @@ use Rattle.jb_handle.specs.Tickets.{TicketsFrom}
 use Rattle.jb_handle.proofs.Tickets.{tickets-append}
 use Rattle.jb_deck.specs.Calls.{IsCall}
 use Rattle.jb_deck.specs.CommitBatch.{AnswersBatch, CommitsBatch, CommitsOnDisk, FindsLive, LeavesGroups, RefusesBatch, SettlesSome, TakesBatch}
+use Rattle.jb_deck.specs.Conduct.{HasCalled, commit_batch}
 use Rattle.jb_deck.specs.Deck.{OpenDeck}
 use Rattle.jb_deck.specs.Done.{entries_of, past_after, start_of}
 use Rattle.jb_deck.specs.GroupByGroup.{FollowsSome}
@@ -32,6 +33,7 @@ use Rattle.jb_deck.specs.declared.done.Done.{Done}
 use Rattle.jb_super.specs.Journal.{SameJournal}
 use Rattle.jb_log.proofs.OwnSuperblock.{same-then}
 use Rattle.jb_deck.specs.Since.{LiveOf, committed, deck_homes}
+use Rattle.jb_deck.proofs.Conduct.{asked-on}
 use Rattle.jb_deck.proofs.EndedMakes.{ended-is-call}
 use Rattle.jb_deck.proofs.HomesStand.{call-stood}
 use Rattle.jb_book.specs.Journal.{EndsRound, RefusesRound}
@@ -200,10 +202,10 @@ module _ {D : Type 0} (G : Ghosts D) (b : Begun) (known : Stopped → Type 0) (p
           ever = ever-on G b given (given ++ hs) (past_after 0 old.trail) old new (first-longer b given hs) s first-leaves;
         }
 
-    more-marked : (ms : List (OpenDeck D)) → (b.faults ≤ G.faults old.disk → b.faults < 18446744073709551615 → G.faults new.disk ≡ b.faults → new.aborted ≡ false)
+    more-marked : (ms : List (OpenDeck D)) → HasCalled G old new → (b.faults ≤ G.faults old.disk → b.faults < 18446744073709551615 → G.faults new.disk ≡ b.faults → new.aborted ≡ false)
         → (G.honest new.disk → (given : List Stopped) → LiveOf given old.groups → new.aborted ≡ false → IsCall given (deck_homes G.newest old) hs (deck_homes G.newest new) × LiveOf (given ++ hs) new.groups)
         → (most : ℕ) → most ≤ groups_in p.groups → (G.honest new.disk → (x : Image) → G.may_leave new.disk x → Left k most x) → Leaves → IsMarkedOf G b known ms old → IsMarkedOf G b known ms new
-    more-marked ms fails called most few now leaves is =
+    more-marked ms call fails called most few now leaves is =
         let given = is.since.given in
         let has = is.since.has in
         let before = λ (known_start : b.is_known) (held : G.honest new.disk). is.since.since known_start (kept.was_honest held) in
@@ -212,6 +214,7 @@ module _ {D : Type 0} (G : Ghosts D) (b : Begun) (known : Stopped → Type 0) (p
           since = record {
             given = given ++ hs;
             has = given-more given has;
+            asked = asked-on G call is.since.asked;
             since = λ known_start held. (let s = before known_start held in since-more given has s (leaves takes.up held) (fails s.no_fewer) (called held given (s.live takes.up)) most few (now held));
           };
           marks_last = kept-all G b given (given ++ hs) old new st.shape kept.was_honest (omega (arith, ends)) (first-longer b given hs) (λ known_start held. first-leaves given has (before known_start held) (leaves takes.up held)) ms is.marks_last;
@@ -225,7 +228,7 @@ module _ {D : Type 0} (G : Ghosts D) (b : Begun) (known : Stopped → Type 0) (p
   pub commit-marked : (ms : List (OpenDeck D)) (r : Result Done BatchFault) → AnswersBatch (G.faults old.disk) (G.faults new.disk) p stamp old new r → (G.honest new.disk → OnOk r (CommitsOnDisk G.newest p stamp old new)) → Leaves → Now r → IsMarkedOf G b known ms old → IsMarkedOf G b known ms new
   commit-marked ms (Ok done) answers on_disk leaves now is =
       let commits = answers.2 in
-      more-marked answers.0 (groups_in p.groups) (entries_of done) (all-settled done answers.1 commits) ms (λ low few none. commits.up)
+      more-marked answers.0 (groups_in p.groups) (entries_of done) (all-settled done answers.1 commits) ms (commit_batch p stamp (Ok done) kept answers) (λ low few none. commits.up)
       (λ held given live on. ended-is-call G.newest given old hs new live (committed p stamp done new planned commits (on_disk held)))
       (groups_in p.groups) (omega arith) (now answers.0.up) leaves is
   commit-marked ms (Err (batch.Aborted back)) answers on_disk leaves now is = subst (IsMarkedOf G b known ms) (sym answers.2) is
@@ -236,7 +239,7 @@ module _ {D : Type 0} (G : Ghosts D) (b : Begun) (known : Stopped → Type 0) (p
   commit-marked ms (Err (batch.DeviceFault settled)) answers on_disk leaves now is =
       let some = answers.2 in
       let st = some-settled settled answers.1.no_fewer some in
-      more-marked answers.0 some.groups (entries_of settled) st ms
+      more-marked answers.0 some.groups (entries_of settled) st ms (commit_batch p stamp (Err (batch.DeviceFault settled)) kept answers)
       (λ low few none. absurd (more-counted b.faults (G.faults old.disk) (G.faults new.disk) low answers.1 few none))
       (λ held given live on. cc (some.aborted, on))
       (some.groups + 1) (omega arith) (λ held x may. subst (λ n. Left n (n + 1) x) (long answers.0 some.groups (entries_of settled) st) (now answers.0.up held x may)) leaves is

@@ -3,7 +3,7 @@ use Rattle.std.proofs.Common.{◌≡◌, ℕ, zero, suc, Bool, true, false, ◌+
 use Rattle.std.proofs.lemmas.List.Elements.{All-weaker}
 use Rattle.jb_disk.specs.Faults.{MoreFaults, CountsAny}
 use Rattle.jb_disk.specs.Image.{Image}
-use Rattle.jb_disk.specs.KeptOn.{KeptOn}
+use Rattle.jb_disk.specs.KeptOn.{KeptOn, ReadsOn}
 use Rattle.jb_disk.specs.declared.disk.Disk.{Ghosts}
 use Rattle.jb_disk.specs.Time.{LeavesOnly}
 use Rattle.jb_disk.proofs.CallRuns.{weaken}
@@ -25,6 +25,8 @@ use Rattle.jb_deck.specs.declared.checked.CheckpointFault.TheVariants as checkpo
 use Rattle.jb_deck.specs.declared.done.Entry.{Entry}
 use Rattle.jb_log.proofs.OwnSuperblock.{same-then}
 use Rattle.jb_deck.specs.Since.{LiveOf, checkpointed, deck_homes}
+use Rattle.jb_deck.specs.Conduct.{HasCalled, checkpoint_up_to, read_home}
+use Rattle.jb_deck.proofs.Conduct.{asked-on}
 use Rattle.jb_deck.proofs.EndedMakes.{ended-is-call}
 use Rattle.jb_book.specs.Journal.{blocks_in_use, most_at_once, ChecksAt, ChecksRound, ReadsHome}
 use Rattle.jb_book.specs.declared.checkpoint.CheckpointRound.{CheckpointRound}
@@ -72,7 +74,7 @@ given-as known less given d stopped has = record {
 
 -- the same journal, where less is known of each of the handles
 abbrev pub is-weaker : {D : Type 0} (G : Ghosts D) (b : Begun) (known less : Stopped → Type 0) → ((h : Stopped) → known h → less h) → (d : OpenDeck D) → IsSinceOf G b known d → IsSinceOf G b less d
-is-weaker G b known less weaker d is = record { given = is.given; has = given-as known less is.given d (All-weaker known less weaker is.given is.has.stopped) is.has; since = is.since }
+is-weaker G b known less weaker d is = record { given = is.given; has = given-as known less is.given d (All-weaker known less weaker is.given is.has.stopped) is.has; since = is.since; asked = is.asked }
 
 -- where no more is known than that the handle stopped with words that a handle may stop with
 abbrev pub plain-is : {D : Type 0} (G : Ghosts D) (b : Begun) (known : Stopped → Type 0) → ((h : Stopped) → known h → b.stops h.words) → (d : OpenDeck D) → IsSinceOf G b known d → IsSince G b d
@@ -145,8 +147,8 @@ module _ {D : Type 0} (G : Ghosts D) (counts_now : CountsNow G) (b : Begun) (kno
         ever = ever-on G b given given (past_after 0 old.trail) old new (λ least c f. f) s first-still;
       }
 
-    pub still-marked : (ms : List (OpenDeck D)) → (b.faults ≤ G.faults old.disk → b.faults < 18446744073709551615 → G.faults new.disk ≡ b.faults → new.aborted ≡ false) → (G.honest new.disk → Stays) → LeavesNone → IsMarkedOf G b known ms old → IsMarkedOf G b known ms new
-    still-marked ms fails stays leaves is =
+    pub still-marked : (ms : List (OpenDeck D)) → HasCalled G old new → (b.faults ≤ G.faults old.disk → b.faults < 18446744073709551615 → G.faults new.disk ≡ b.faults → new.aborted ≡ false) → (G.honest new.disk → Stays) → LeavesNone → IsMarkedOf G b known ms old → IsMarkedOf G b known ms new
+    still-marked ms call fails stays leaves is =
         let given = is.since.given in
         let past : past_after 0 new.trail ≡ past_after 0 old.trail = ap (past_after 0) still.trail in
         let before = λ (known_start : b.is_known) (held : G.honest new.disk). is.since.since known_start (kept.was_honest held) in
@@ -154,6 +156,7 @@ module _ {D : Type 0} (G : Ghosts D) (counts_now : CountsNow G) (b : Begun) (kno
           since = record {
             given = given;
             has = given-still given is.since.has;
+            asked = asked-on G call is.since.asked;
             since = λ known_start held. (let s = before known_start held in since-still leaves given is.since.has.settled s held (fails s.no_fewer) (stays held));
           };
           marks_last = kept-all G b given given old new still.shape kept.was_honest (omega (arith, past)) (λ least c f. f) (λ known_start held. first-still leaves given is.since.has.settled (before known_start held) held) ms is.marks_last;
@@ -171,13 +174,13 @@ module _ {D : Type 0} (G : Ghosts D) (counts_now : CountsNow G) (b : Begun) (kno
         same = subst (λ l. SameJournal old.log.sb l.sb) (sym takes.log) refl;
         no_fewer = omega arith;
       } in
-      still-marked answers.0 still ms (λ low few none. takes.live)
+      still-marked answers.0 still ms (checkpoint_up_to most (Ok run) kept answers) (λ low few none. takes.live)
       (λ held given live on. ((checkpoints held).standing, subst (λ hs. LiveOf hs new.groups) (append-nil given) (ended-is-call G.newest given old [] new live (checkpointed most run new takes (checkpoints held))).1))
       leaves is
   checkpoint-marked ms most (Err checkpoint.Aborted) answers checkpoints leaves is = subst (IsMarkedOf G b known ms) (sym answers.1) is
   checkpoint-marked ms most (Err checkpoint.Nothing) answers checkpoints leaves is = subst (IsMarkedOf G b known ms) (sym answers.2) is
   checkpoint-marked ms most (Err checkpoint.DeviceFault) answers checkpoints leaves is =
-      still-marked answers.0 (still-as G old new true answers.3 answers.2.no_fewer) ms
+      still-marked answers.0 (still-as G old new true answers.3 answers.2.no_fewer) ms (checkpoint_up_to most (Err checkpoint.DeviceFault) kept answers)
       (λ low few none. absurd (more-counted b.faults (G.faults old.disk) (G.faults new.disk) low answers.2 few none))
       (λ held given live on. cc (answers.3, on))
       leaves is
@@ -195,9 +198,9 @@ module _ {D : Type 0} (G : Ghosts D) (counts_now : CountsNow G) (b : Begun) (kno
   Content = G.honest new.disk → G.newest new.disk ≡ G.newest old.disk
 
   -- the home was read, or the disk did not read it
-  called : (ms : List (OpenDeck D)) → old.aborted ≡ false → new ≡ on_disk old new.disk → G.faults old.disk ≤ G.faults new.disk → Content → LeavesAs → IsMarkedOf G b known ms old → IsMarkedOf G b known ms new
-  called ms up same more content leaves is =
-      still-marked up (still-as G old new old.aborted same more) ms
+  called : (ms : List (OpenDeck D)) → HasCalled G old new → old.aborted ≡ false → new ≡ on_disk old new.disk → G.faults old.disk ≤ G.faults new.disk → Content → LeavesAs → IsMarkedOf G b known ms old → IsMarkedOf G b known ms new
+  called ms call up same more content leaves is =
+      still-marked up (still-as G old new old.aborted same more) ms call
       (λ low few none. ap (λ (d : OpenDeck D). d.aborted) same ∙ up)
       (λ held given live on. (
         λ home. ap (λ (d : OpenDeck D). deck_homes G.newest d home) same ∙ ap (λ image. standing old.log old.groups image home) (content held),
@@ -206,12 +209,12 @@ module _ {D : Type 0} (G : Ghosts D) (counts_now : CountsNow G) (b : Begun) (kno
       (λ on held. weaken G.moment G.left_since old.disk new.disk As None (λ c was. was.follows) (leaves on held))
       is
 
-  pub read-marked : (ms : List (OpenDeck D)) (home bytes : ℕ) (r : Result (Unit {0}) ReadHomeFault) → AnswersRead (G.size old.disk) (G.faults old.disk) (G.faults new.disk) old new home bytes r → Content → LeavesAs → IsMarkedOf G b known ms old → IsMarkedOf G b known ms new
-  read-marked ms home bytes (Ok done) answers content leaves is = called ms answers.0 answers.4 (omega arith) content leaves is
-  read-marked ms home bytes (Err Aborted) answers content leaves is = subst (IsMarkedOf G b known ms) (sym answers.1) is
-  read-marked ms home bytes (Err OutOfRange) answers content leaves is = subst (IsMarkedOf G b known ms) (sym answers.2) is
-  read-marked ms home bytes (Err Length) answers content leaves is = subst (IsMarkedOf G b known ms) (sym answers.3) is
-  read-marked ms home bytes (Err DeviceFault) answers content leaves is = called ms answers.0 answers.4 answers.3.no_fewer content leaves is
+  pub read-marked : (ms : List (OpenDeck D)) → ReadsOn G old.disk new.disk → (home bytes : ℕ) (r : Result (Unit {0}) ReadHomeFault) → AnswersRead (G.size old.disk) (G.faults old.disk) (G.faults new.disk) old new home bytes r → Content → LeavesAs → IsMarkedOf G b known ms old → IsMarkedOf G b known ms new
+  read-marked ms reads home bytes (Ok done) answers content leaves is = called ms (read_home (G.size old.disk) home bytes (Ok done) (record { kept = kept; unsynced = reads }) answers) answers.0 answers.4 (omega arith) content leaves is
+  read-marked ms reads home bytes (Err Aborted) answers content leaves is = subst (IsMarkedOf G b known ms) (sym answers.1) is
+  read-marked ms reads home bytes (Err OutOfRange) answers content leaves is = subst (IsMarkedOf G b known ms) (sym answers.2) is
+  read-marked ms reads home bytes (Err Length) answers content leaves is = subst (IsMarkedOf G b known ms) (sym answers.3) is
+  read-marked ms reads home bytes (Err DeviceFault) answers content leaves is = called ms (read_home (G.size old.disk) home bytes (Err DeviceFault) (record { kept = kept; unsynced = reads }) answers) answers.0 answers.4 answers.3.no_fewer content leaves is
 
 pub read-home : {D : Type 0} (G : Ghosts D) (b : Begun) (known : Stopped → Type 0) (old new : OpenDeck D) → KeptOn G CountsAny old.disk new.disk
     → (log : List WordMap) (marks marks_after : List (OpenDeck D)) (at : ℕ) (home bytes : ℕ) (found : List ℕ) (r : Result (Unit {0}) ReadHomeFault) → ((h : Stopped) → known h → IsStop b log h) → All (HasSettledOf old) marks → StandsIn marks_after (at, new)

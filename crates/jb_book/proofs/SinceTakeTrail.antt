@@ -12,6 +12,8 @@ use Rattle.jb_book.specs.Since.{NumberedFrom, HasFirst, IsCosted, Since, WasGive
 use Rattle.jb_disk.specs.declared.disk.Disk.{Ghosts}
 use Rattle.jb_handle.specs.declared.stopped.Stopped.{Stopped}
 use Rattle.jb_deck.specs.Deck.{OpenDeck}
+use Rattle.jb_deck.specs.Conduct.{take_trail}
+use Rattle.jb_deck.proofs.Conduct.{asked-on}
 use Rattle.jb_deck.proofs.TakeEntries.{next-rest}
 use Rattle.jb_book.specs.Journal.{GivesTrail}
 use Rattle.jb_book.specs.Origin.{Begun}
@@ -111,6 +113,7 @@ module _ {D : Type 0} (G : Ghosts D) (b : Begun) (known : Stopped → Type 0) (p
       since = record {
         given = is.since.given;
         has = subst (WasGiven known is.since.given) (sym takes.same) (left-given is.since.given is.since.has);
+        asked = asked-on G (take_trail past taken takes) is.since.asked;
         since = λ known_start held. subst (Since G b is.since.given) (sym takes.same) (left-stands is.since.given (is.since.since known_start (subst (λ (d : OpenDeck D). G.honest d.disk) takes.same held)));
       };
       marks_last = subst (λ (d : OpenDeck D). All (Lasts G b is.since.given d) ms) (sym takes.same) (All-weaker (Lasts G b is.since.given old) (Lasts G b is.since.given left) (left-lasts is.since.given) ms is.marks_last);

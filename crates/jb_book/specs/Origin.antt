@@ -12,6 +12,8 @@ use Rattle.jb_super.specs.declared.fault.SuperFault.{SuperFault}
 pub record Begun : Type 1 where
   -- whether anything is known of the start; where it is not, nothing is said of the disk
   pub is_known : Type 0
+  -- what is known of the calls before the start: where it holds, no write and no sync of the disk had failed then
+  pub none_failed : Type 0
   -- of the disk at the start: the size of a block, how many there are, and how many calls have failed
   pub size : ℕ
   pub count : ℕ
@@ -37,7 +39,7 @@ own_on size count c = revoking_in (super_on size count c)
 
 -- nothing is known of the start, and handles stop with any words
 abbrev pub unknown : Begun
-unknown = record { is_known = ⊥; size = 0; count = 0; faults = 0; own = new_super 0 0 0 []; homes = λ home. []; since = 0; left = λ c. ⊥; stops = λ words. Unit {0} }
+unknown = record { is_known = ⊥; none_failed = ⊥; size = 0; count = 0; faults = 0; own = new_super 0 0 0 []; homes = λ home. []; since = 0; left = λ c. ⊥; stops = λ words. Unit {0} }
 
 -- each of the handles stopped with words that a handle may stop with
 abbrev pub AreStops : Begun → List Stopped → Type 0

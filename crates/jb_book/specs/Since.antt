@@ -1,6 +1,7 @@
 -- How a journal stands since its desk was started: which handles it was given, what its homes hold, and what a crash leaves.
 use Rattle.std.specs.Prelude.{◌≡◌, ◌⊎◌, ℕ, ◌+◌, ◌-◌, ◌<◌, ◌≤◌, ◌^◌, false, List, [], ◌∷◌, All, length, take}
 use Rattle.jb_disk.specs.Image.{Image}
+use Rattle.jb_disk.specs.Faults.{most_faults}
 use Rattle.jb_disk.specs.declared.disk.Disk.{Ghosts}
 use Rattle.jb_plan.specs.Costs.{cost_in}
 use Rattle.jb_handle.specs.Tickets.{TicketsFrom}
@@ -8,6 +9,7 @@ use Rattle.jb_handle.specs.Words.{word}
 use Rattle.jb_handle.specs.declared.shape.Shape.{Shape}
 use Rattle.jb_handle.specs.declared.stopped.Stopped.{Stopped}
 use Rattle.jb_super.specs.Journal.{SameJournal}
+use Rattle.jb_deck.specs.Conduct.{DeckIsWellAsked}
 use Rattle.jb_deck.specs.Deck.{OpenDeck}
 use Rattle.jb_deck.specs.Done.{past_after, start_of}
 use Rattle.jb_log.specs.Follows.{StandsBy}
@@ -75,11 +77,13 @@ pub record Since {D : Type 0} (G : Ghosts D) (b : Begun) (given : List Stopped) 
   pub later : b.since ≤ G.moment d.disk
   pub ever : (c : Image) → G.left_since d.disk b.since c → b.left c ⊎ HasFirst b given 0 c
 
--- the journal was given handles, each as `is` says (`WasGiven`), and where the start is known and the disk is honest now, `Since` holds of it
+-- The journal was given handles, each as `is` says (`WasGiven`), and where the start is known and the disk is honest now, `Since` holds of it. Where no write and no sync of
+-- the disk had failed at the start, no call came after one that has: the count of faults says so while it is not at its top
 pub record IsSinceOf {D : Type 0} (G : Ghosts D) (b : Begun) (is : Stopped → Type 0) (d : OpenDeck D) : Type 0 where
   pub given : List Stopped
   pub has : WasGiven is given d
   pub since : b.is_known → G.honest d.disk → Since G b given d
+  pub asked : b.none_failed → G.faults d.disk < most_faults → DeckIsWellAsked G d
 
 -- the same of handles that each stopped with words that a handle may stop with
 abbrev pub IsSince : {D : Type 0} → Ghosts D → Begun → OpenDeck D → Type 0
@@ -92,12 +96,18 @@ pub record EndsSince {D : Type 0} (G : Ghosts D) (b : Begun) (disk : D) (trail :
   pub same_trail : deck.trail ≡ trail
   pub since : IsSince G b deck
 
+-- Of the disk that a desk, or a run, gives back: where no write and no sync of it had failed at the start, no call came after one that has failed since (reads of homes that failed
+-- aside, after which calls may follow). Its count of faults says so while it is not at its top
+abbrev pub NoneAfterAtDesk : {D : Type 0} → Ghosts D → Begun → Type 0
+NoneAfterAtDesk {D} G b = (disk : D) (trail : List Entry) → EndsSince G b disk trail → b.none_failed → G.faults disk < most_faults → G.well_asked disk
+
 -- The start is that of the journal on this disk, once it is opened: its homes stood as recovery leaves them, and what a crash might
--- have left has what it might leave before the journal is opened and meanwhile.
+-- have left has what it might leave before the journal is opened and meanwhile. Where it says that no write and no sync had failed, none has.
 pub record IsBegunOn {D : Type 0} (G : Ghosts D) (b : Begun) (disk : D) : Type 0 where
   pub same_size : G.size disk ≡ b.size
   pub same_count : G.count disk ≡ b.count
   pub same_faults : G.faults disk ≡ b.faults
+  pub asked : b.none_failed → G.well_asked disk × G.may_go_on disk
   pub own : own_on (G.size disk) (G.count disk) (G.newest disk) ≡ b.own
   pub homes : (home : ℕ) → recovered_home (G.size disk) (G.count disk) (G.newest disk) home ≡ b.homes home
   pub later : b.since ≤ G.moment disk

@@ -3,7 +3,9 @@ ghost use Rattle.jb_core.specs.Steps.{MachineSteps};
 ghost use Rattle.jb_book.specs.Calls.{TakesLeast};
 ghost use Rattle.jb_book.specs.Events.{Shadowed, StepsShadow};
 ghost use Rattle.jb_book.specs.MachineTie.{BookIsTied, CommitTells, EveryRun};
+ghost use Rattle.jb_book.specs.Since.{NoneAfterAtDesk};
 
+use crate::Origin;
 use jb_core::{CoreFault, Event, Reply, State, step};
 use jb_disk::Disk;
 
@@ -57,4 +59,10 @@ pub fn takes_least()
 #[tactic(auto, using(crate::proofs::CommitEntries::commit_tells))]
 pub fn commit_tells<D: Disk>()
     ensures { CommitTells D }
+{}
+
+/// Of the disk that a desk or a run gives back (the word `EndsSince` of its clauses): no call came after a write or a
+/// sync that failed, where none had failed at the start. (A call may come after a read of a home that failed.)
+pub fn none_after_at_desk<D: Disk, H: Origin>()
+    ensures { NoneAfterAtDesk D.Disk H.begun }
 {}

@@ -1,4 +1,4 @@
--- The calls of a recovery, of a journal that has checksums only where these are allowed.
+-- The calls of a recovery, of a journal that has checksums only where these are allowed; what is not judged where it is looked for is judged here.
 use Rattle.std.specs.Prelude.{◌≡◌, ◌⊎◌, ℕ, ⊤, List, Option, Some, None, Result, Ok, Err, OnOk}
 use Rattle.std.specs.Option.{option_map}
 use Rattle.jb_disk.specs.Image.{Image, Only}
@@ -6,7 +6,7 @@ use Rattle.jb_disk.specs.KeptOn.{KeptOn}
 use Rattle.jb_disk.specs.Time.{LeavesOnly}
 use Rattle.jb_disk.specs.declared.disk.Disk.{Ghosts as Disks}
 use Rattle.jb_super.specs.declared.checked.Checksums.{Checksums}
-use Rattle.jb_super.specs.declared.checked.Checksums.TheVariants.{Allowed, Refused}
+use Rattle.jb_super.specs.declared.checked.Checksums.TheVariants.{Allowed, Refused, Unjudged}
 use Rattle.jb_recover.specs.CheckedFaults.{CheckedPassFaults, checked_of, checked_peek_of}
 use Rattle.jb_recover.specs.CheckedForesees.{CheckedForesees}
 use Rattle.jb_recover.specs.CheckedOutcomes.{CheckedRecoversAs}
@@ -52,6 +52,7 @@ pub record RecoversWithSums {D : Type 0} (G : Disks D) (old new : D) (answer : R
 abbrev pub RecoversBy : {D : Type 0} → Checksums → Disks D → D → D → Result Recovered CheckedFault → Type 0
 RecoversBy Refused G old new answer = (plain : Result Recovered RecoverFault) × RecoversPlain G old new plain × (answer ≡ as_checked plain)
 RecoversBy Allowed G old new answer = RecoversWithSums G old new answer
+RecoversBy Unjudged G old new answer = RecoversWithSums G old new answer
 
 -- ---- what a recovery would do
 
@@ -70,6 +71,7 @@ pub record ForetellsWithSums {D : Type 0} (G : Disks D) (old new : D) (answer : 
 abbrev pub ForetellsBy : {D : Type 0} → Checksums → Disks D → D → D → Result Foreseen CheckedFault → Type 0
 ForetellsBy Refused G old new answer = (plain : Result Foreseen RecoverFault) × Foretells G old new plain × (answer ≡ as_checked plain)
 ForetellsBy Allowed G old new answer = ForetellsWithSums G old new answer
+ForetellsBy Unjudged G old new answer = ForetellsWithSums G old new answer
 
 -- ---- a peek
 
@@ -77,11 +79,13 @@ ForetellsBy Allowed G old new answer = ForetellsWithSums G old new answer
 abbrev pub unpeeked_for : Checksums → ℕ → ℕ → Image → ℕ → Option CheckedPeekFault
 unpeeked_for Refused size count c home = option_map checked_peek_of (peek_refusal size count c home)
 unpeeked_for Allowed size count c home = checked_peek_refusal size count c home
+unpeeked_for Unjudged size count c home = checked_peek_refusal size count c home
 
 -- the bytes are what the committed transactions make of the home
 abbrev pub IsPeekedBy : Checksums → ℕ → ℕ → Image → ℕ → List ℕ → Type 0
 IsPeekedBy Refused size count c home bytes = IsPeeked size count c home bytes
 IsPeekedBy Allowed size count c home bytes = IsCheckedPeek size count c home bytes
+IsPeekedBy Unjudged size count c home bytes = IsCheckedPeek size count c home bytes
 
 -- a peek at the home is refused for this
 abbrev pub IsUnpeeked : Checksums → ℕ → ℕ → Image → ℕ → CheckedPeekFault → Type 0

@@ -1,5 +1,5 @@
 -- How `jb dump` ends over any reader, and what it reads.
-use Rattle.std.specs.Prelude.{◌≡◌, ℕ, List, Option, None, Some, Result, Ok, Err, codes, Bool, true, false, if◌then◌else◌}
+use Rattle.std.specs.Prelude.{◌≡◌, ℕ, List, Option, None, Some, Result, Ok, Err, codes, Bool, true, false, not, ◌&&◌, ◌||◌, if◌then◌else◌}
 use Rattle.std.specs.Str.{bytes_eq}
 use Rattle.jb_dump.specs.Dumps.{Dumps}
 use Rattle.jb_dump.specs.declared.dump_filter.DumpFilter.{DumpFilter}
@@ -37,9 +37,13 @@ is_given None None = false
 is_given None (Some extents) = true
 is_given (Some journal) extents = true
 
--- whether the words say where the journal is
+-- whether the file is opened as an image: where the words say where the journal is, or its ring is to be searched
 abbrev pub is_placed : DumpWords → Bool
-is_placed words = is_given words.journal words.extents
+is_placed words = words.ring || is_given words.journal words.extents
+
+-- whether the rest of the log is searched: not where the superblock alone is shown
+abbrev pub is_searched : DumpWords → Bool
+is_searched words = words.ring && not (words.superblock && not words.summary)
 
 -- whether standard input is read for a dump: for the list of extents where that is given so, and where no word says where the journal is,
 -- as the journal after `-`

@@ -2,7 +2,7 @@
 use Rattle.std.specs.Prelude.{ℕ, List, [], ◌∷◌, Option, None, Some, codes, decimal}
 use Rattle.jb_commands.specs.Lines.{Names, image_named, journal_named}
 use Rattle.jb_commands.specs.declared.fault.CommandFault.{CommandFault}
-use Rattle.jb_commands.specs.declared.fault.CommandFault.TheVariants.{CannotRead, InUse, MountsUnknown, NoLinks, SameFile, CannotMake, TooLong, Super, ChecksumType, SuperChecksum, BadChecksum, JournalLength, FileSystem, BadRevoke, HomeOutOfRange, NoHome, NeedsRecovery, NumbersSpent}
+use Rattle.jb_commands.specs.declared.fault.CommandFault.TheVariants.{CannotRead, InUse, MountsUnknown, NoLinks, SameFile, CannotMake, TooLong, Super, ChecksumType, SuperChecksum, BadChecksum, JournalLength, FileSystem, Lost, BadRevoke, HomeOutOfRange, NoHome, NeedsRecovery, NumbersSpent}
 use Rattle.jb_commands.specs.declared.streams.fault_line.Numbers.{Numbers}
 use Rattle.jb_commands.specs.declared.streams.fault_line.Numbers.TheVariants as numbers
 
@@ -26,6 +26,7 @@ named names (JournalLength blocks maxlen) = journal_named names
 named names (ChecksumType kind) = journal_named names
 named names SuperChecksum = journal_named names
 named names (BadChecksum what place) = journal_named names
+named names (Lost place) = journal_named names
 named names (BadRevoke place) = journal_named names
 named names NeedsRecovery = journal_named names
 named names NumbersSpent = journal_named names

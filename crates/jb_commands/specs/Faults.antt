@@ -27,7 +27,7 @@ use Rattle.jb_super.specs.declared.fault.SuperFault.TheVariants as super
 use Rattle.jb_commands.specs.Lines.{Names, image_named, journal_named, line_naming}
 use Rattle.jb_commands.specs.OwnLines.{own_fault_line}
 use Rattle.jb_commands.specs.declared.fault.CommandFault.{CommandFault}
-use Rattle.jb_commands.specs.declared.fault.CommandFault.TheVariants.{CannotRead, InUse, MountsUnknown, NoLinks, SameFile, CannotMake, BadOption, TooLong, ReadFault, Super, JournalLength, FileSystem, Extents, BadRevoke, HomeOutOfRange, NoHome, NeedsRecovery, NumbersSpent, BlockSize, Accounts, Geometry, DeviceFault, Memory, WriteFault, Own, ChecksumType, SuperChecksum, BadChecksum}
+use Rattle.jb_commands.specs.declared.fault.CommandFault.TheVariants.{CannotRead, InUse, MountsUnknown, NoLinks, SameFile, CannotMake, BadOption, TooLong, ReadFault, Super, JournalLength, FileSystem, Extents, BadRevoke, HomeOutOfRange, NoHome, NeedsRecovery, NumbersSpent, BlockSize, Accounts, Geometry, DeviceFault, Memory, WriteFault, Own, ChecksumType, SuperChecksum, BadChecksum, Lost}
 
 -- the exit status
 abbrev pub status_of : CommandFault → ℕ
@@ -48,6 +48,7 @@ status_of (Own fault) = 1
 status_of (ChecksumType kind) = 1
 status_of SuperChecksum = 1
 status_of (BadChecksum what place) = 1
+status_of (Lost place) = 1
 status_of (BadRevoke place) = 1
 status_of (HomeOutOfRange home number homes) = 1
 status_of (NoHome home homes) = 1
@@ -119,6 +120,7 @@ line_of names (Own fault) = own_fault_line fault
 line_of names (ChecksumType kind) = line_naming (codes "jb: Super ChecksumType " ∷ decimal kind ∷ []) (journal_named names)
 line_of names SuperChecksum = line_naming (codes "jb: Super Checksum" ∷ []) (journal_named names)
 line_of names (BadChecksum what place) = line_naming (sum_words what ∷ decimal place ∷ []) (journal_named names)
+line_of names (Lost place) = line_naming (codes "jb: Lost " ∷ decimal place ∷ []) (journal_named names)
 line_of names (BadRevoke place) = line_naming (codes "jb: BadRevoke " ∷ decimal place ∷ []) (journal_named names)
 line_of names (HomeOutOfRange home number homes) =
     line_naming (codes "jb: HomeOutOfRange " ∷ decimal home ∷ codes " " ∷ decimal number ∷ []) (image_named names)
@@ -198,6 +200,7 @@ hint_of (Own fault) = own_hint fault
 hint_of (ChecksumType kind) = hint.SuperChecksumType
 hint_of SuperChecksum = hint.SuperChecksum
 hint_of (BadChecksum what place) = hint.BadChecksum
+hint_of (Lost place) = hint.Lost
 hint_of (BadRevoke place) = hint.BadRevoke
 hint_of (HomeOutOfRange home number homes) = hint.HomeOutOfRange homes
 hint_of (NoHome home homes) = hint.NoHome homes

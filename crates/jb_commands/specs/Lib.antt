@@ -29,4 +29,5 @@ pub mod QueueFaults
 pub mod Recover
 pub mod Reports
 pub mod Runs
+pub mod Searched
 pub mod Texts

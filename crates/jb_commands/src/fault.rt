@@ -52,6 +52,9 @@ pub enum CommandFault<'a> {
     Own(OwnFault),
     /// The block at this place of the journal, of a committed transaction, has a wrong checksum.
     BadChecksum(Summed, u64),
+    /// The block at this place of the journal, behind the end of its log, is the commit block of the next transaction
+    /// or of a later one.
+    Lost(u64),
     /// The block at this place of the journal, of a committed transaction, is a revoke block whose `r_count` is above
     /// the block size.
     BadRevoke(u64),
@@ -161,6 +164,7 @@ impl<'a> CommandFault<'a> {
             CommandFault::MountsUnknown(_) | CommandFault::NoLinks(_) => 2,
             CommandFault::BadOption(_) => 2,
             CommandFault::ReadFault | CommandFault::Super(_) | CommandFault::BadRevoke(_) => 1,
+            CommandFault::Lost(_) => 1,
             CommandFault::ChecksumType(_)
             | CommandFault::SuperChecksum
             | CommandFault::BadChecksum(_, _) => 1,
@@ -237,6 +241,7 @@ impl<'a> CommandFault<'a> {
             CommandFault::ChecksumType(_) => Hint::SuperChecksumType,
             CommandFault::SuperChecksum => Hint::SuperChecksum,
             CommandFault::BadChecksum(_, _) => Hint::BadChecksum,
+            CommandFault::Lost(_) => Hint::Lost,
             CommandFault::BadRevoke(_) => Hint::BadRevoke,
             CommandFault::HomeOutOfRange(_, _, homes) => Hint::HomeOutOfRange(homes),
             CommandFault::NoHome(_, homes) => Hint::NoHome(homes),

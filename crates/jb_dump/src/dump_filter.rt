@@ -6,7 +6,8 @@ pub struct DumpFilter {
     pub home: Option<u64>,
     /// Where there is a number, no line of a transaction before so many last ones.
     pub last: Option<u64>,
-    /// Whether the lines of the superblock alone.
+    /// Whether the superblock alone is shown, whatever the lines are that the two before let stay: that of any journal
+    /// of version 2, also of one that is refused.
     pub superblock: bool,
     /// Whether in place of all lines those of the journal at a glance are written. The others change nothing then.
     pub summary: bool,
@@ -17,6 +18,7 @@ pub struct DumpFilter {
 impl DumpFilter {
     ghost use Rattle.std.specs.Prelude.{◌≡◌, ◌||◌};
     ghost use Rattle.jb_dump.specs.Choices.{every_line, takes_end};
+    ghost use Rattle.jb_dump.specs.Shown.{is_shown};
 
     /// Every line, of a journal without checksums.
     pub fn every_line() -> DumpFilter
@@ -29,6 +31,13 @@ impl DumpFilter {
             summary: false,
             checksums: false,
         }
+    }
+
+    /// Whether the superblock alone is shown.
+    pub(crate) fn is_shown(self) -> bool
+        ensures { result ≡ is_shown self }
+    {
+        self.superblock && !self.summary
     }
 
     /// Whether the last line is written: it speaks of no home block, and is not the superblock's.

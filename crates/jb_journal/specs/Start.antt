@@ -8,6 +8,7 @@ use Rattle.jb_disk.specs.declared.disk.Disk.{Ghosts}
 abbrev pub started_on : {D : Type 0} → Ghosts D → D → Begun
 started_on G disk = record {
   is_known = Unit {0};
+  none_failed = G.well_asked disk × G.may_go_on disk;
   size = G.size disk;
   count = G.count disk;
   faults = G.faults disk;

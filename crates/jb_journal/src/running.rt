@@ -1,5 +1,6 @@
 //! A journal is run.
-ghost use Rattle.std.specs.Prelude.{◌≡◌, ◌+◌, ◌^◌, ◌≤◌, [], false, IfErr, IfOk, IfSome};
+ghost use Rattle.std.specs.Prelude.{◌≡◌, ◌+◌, ◌^◌, ◌<◌, ◌≤◌, [], false, IfErr, IfOk, IfSome};
+ghost use Rattle.jb_disk.specs.Faults.{most_faults};
 ghost use Rattle.jb_desk.specs.Desks.{shape_in};
 ghost use Rattle.jb_desk.specs.History.{history_in};
 ghost use Rattle.jb_book.specs.Since.{EndsSince, IsBegunOn, IsSince};
@@ -36,7 +37,7 @@ const PARTS: u64 = (1 << 61) + 1;
 /// Opens the journal on a disk, runs the workers, commits what they stopped, and closes the journal. The disk is
 /// given back with what the workers answered. With `Options::checkpoint` all that is committed is written home
 /// (tested); otherwise what is still in the log is left to [`recover`](crate::recover), which is called before the
-/// journal is opened again.
+/// journal is opened again. No call of the disk comes after a write or a sync that failed, if none had failed before.
 ///
 /// # Errors
 /// - `Open` where the journal was not opened, and nothing ran. The disk is lost: what is said of it holds of some disk
@@ -58,6 +59,8 @@ pub fn run<
         (W.answers worker.now (started_on D.Disk disk)) options.workers) }
     ensures ends { IfOk result (EndsRun options.checkpoint) }
     ensures since { IfOk result (λ ran. EndsSince D.Disk (started_on D.Disk disk) ran.disk ran.trail.items) }
+    ensures asked { IfOk result (λ ran. D.well_asked disk → D.may_go_on disk → D.faults ran.disk < most_faults
+        → D.well_asked ran.disk) }
     ensures refused { IfErr result (RefusesRun D.Disk disk) }
     ensures threads { IfErr result (λ fault. fault ≡ NoThread → options.commits ≡ Meanwhile) }
 {

@@ -179,7 +179,7 @@ module _ (bounds : Vec ℕ Global) (are : bounds.items ≡ (0 ∷ 2 ∷ [])) whe
         same_disk = refl;
         same_shape = refl;
         same_trail = refl;
-        since = record { given = given; has = was; since = λ known honest. absurd known };
+        since = record { given = given; has = was; since = λ known honest. absurd known; asked = λ none few. absurd none };
         journal = λ known honest. absurd known;
       };
       knows = (history, refl);

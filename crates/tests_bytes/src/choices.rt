@@ -10,44 +10,31 @@ use jb_super::{CheckedSuperFault, SuperFault};
 use std::alloc::Global;
 use tests_support::{Must, Test, check_in};
 
-/// The home block and the number of last transactions that are asked for, and whether the superblock alone; and the
-/// lines of a text that this takes.
-struct Taken(Option<u64>, Option<u64>, bool, &'static [usize]);
+/// The home block and the number of last transactions that are asked for, and the lines of a text that this takes.
+struct Taken(Option<u64>, Option<u64>, &'static [usize]);
 
 /// Choices of lines of SESSION's text: 0 and 1 are the superblock's, and line N + 1 is that of the block at place N.
-static OF_SESSION: [Taken; 16] = [
-    Taken(Some(3001), None, false, &[2, 3, 6]),
-    Taken(Some(3002), None, false, &[2, 4, 6, 8, 9]),
-    Taken(Some(3003), None, false, &[8, 10, 15]),
-    Taken(Some(3006), None, false, &[15]),
-    Taken(Some(3000), None, false, &[]),
-    Taken(None, Some(0), false, &[0, 1, 17]),
-    Taken(None, Some(1), false, &[0, 1, 12, 13, 14, 15, 16, 17]),
-    Taken(
-        None,
-        Some(2),
-        false,
-        &[0, 1, 8, 9, 10, 11, 12, 13, 14, 15, 16, 17],
-    ),
-    Taken(None, Some(4), false, &EVERY_LINE),
-    Taken(None, Some(u64::MAX), false, &EVERY_LINE),
-    Taken(None, None, false, &EVERY_LINE),
-    Taken(Some(3002), Some(2), false, &[8, 9]),
-    Taken(Some(3002), Some(1), false, &[]),
-    Taken(None, None, true, &[0, 1]),
-    Taken(None, Some(3), true, &[0, 1]),
-    Taken(Some(3002), None, true, &[]),
+static OF_SESSION: [Taken; 13] = [
+    Taken(Some(3001), None, &[2, 3, 6]),
+    Taken(Some(3002), None, &[2, 4, 6, 8, 9]),
+    Taken(Some(3003), None, &[8, 10, 15]),
+    Taken(Some(3006), None, &[15]),
+    Taken(Some(3000), None, &[]),
+    Taken(None, Some(0), &[0, 1, 17]),
+    Taken(None, Some(1), &[0, 1, 12, 13, 14, 15, 16, 17]),
+    Taken(None, Some(2), &[0, 1, 8, 9, 10, 11, 12, 13, 14, 15, 16, 17]),
+    Taken(None, Some(4), &EVERY_LINE),
+    Taken(None, Some(u64::MAX), &EVERY_LINE),
+    Taken(None, None, &EVERY_LINE),
+    Taken(Some(3002), Some(2), &[8, 9]),
+    Taken(Some(3002), Some(1), &[]),
 ];
 
 /// Choices of lines of a clean journal's text.
-static OF_CLEAN: [Taken; 3] = [
-    Taken(None, Some(0), false, &[0, 1, 2]),
-    Taken(Some(0), None, false, &[]),
-    Taken(None, None, true, &[0, 1]),
-];
+static OF_CLEAN: [Taken; 2] = [Taken(None, Some(0), &[0, 1, 2]), Taken(Some(0), None, &[])];
 
 /// The last transaction of a log that wraps, which is its only one.
-static OF_WRAPPED: [Taken; 1] = [Taken(None, Some(1), false, &[0, 1, 2, 3, 4, 5, 6, 7, 8])];
+static OF_WRAPPED: [Taken; 1] = [Taken(None, Some(1), &[0, 1, 2, 3, 4, 5, 6, 7, 8])];
 
 /// Words that leave a journal without a text, and why.
 static REFUSED: [(&str, DumpFault); 2] = [
@@ -92,7 +79,7 @@ fn choice_of(taken: &Taken) -> DumpFilter {
     DumpFilter {
         home: taken.0,
         last: taken.1,
-        superblock: taken.2,
+        superblock: false,
         summary: false,
         checksums: false,
     }
@@ -110,7 +97,7 @@ fn check_lines(
 ) {
     let (answer, written) = told_of(alloc, journal, choice_of(taken));
     check_in(test, answer.is_ok(), name, "what is answered in row", row);
-    let is_wanted = is_lines(test, alloc, &written, text, taken.3);
+    let is_wanted = is_lines(test, alloc, &written, text, taken.2);
     check_in(test, is_wanted, name, "what is written in row", row)
 }
 

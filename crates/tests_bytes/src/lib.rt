@@ -27,6 +27,8 @@ mod readers;
 #[cfg(test)]
 mod revokes;
 #[cfg(test)]
+mod shown;
+#[cfg(test)]
 mod stepped;
 #[cfg(test)]
 mod summaries;

@@ -123,14 +123,14 @@ static HANDLES: [&str; 3] = ["h w0=11 w1=12\n", "h w1=22\nh w2=23\n", "h w3=34 r
 /// A batch of two handles, of which the second frees a home.
 const TWO_HANDLES: &str = "h w0=41 w1=42\nh w1=43 r2\n";
 
-/// A life: after how many calls of its disk it ends, after how many the recovery after it is cut short, and whether it
-/// checkpoints a transaction.
-type LifeRow = (u64, u64, bool);
+/// A life: after how many calls of its disk it ends, and with which version of each sector that was not synced then;
+/// after how many calls the recovery after it is cut short; and whether it checkpoints a transaction.
+type LifeRow = (u64, u32, u64, bool);
 
 /// A life that ends by itself, and one that ends before its first call; neither recovery is cut short.
-const WHOLE: LifeRow = (1000, 1000, false);
+const WHOLE: LifeRow = (1000, 0, 1000, false);
 
-const AT_ONCE: LifeRow = (0, 1000, false);
+const AT_ONCE: LifeRow = (0, 0, 1000, false);
 
 /// Lives one after the other, of each whether its handles are reported as committed, and the first bytes of the homes
 /// after all of them.
@@ -143,49 +143,65 @@ const TWO: [u8; 4] = [0x11, 0x22, 0x23, 0];
 
 const NONE: [u8; 4] = [0; 4];
 
-static LIVES: [LivesRow; 11] = [
+static LIVES: [LivesRow; 14] = [
     (&[], &[], NONE),
     (&[WHOLE], &[true], ONE),
     (&[WHOLE, WHOLE], &[true, true], TWO),
     // the power fails in the recovery too: before anything is written, and after a home is
-    (&[(1000, 0, false), (1000, 0, false)], &[true, true], TWO),
-    (&[(1000, 9, false), (1000, 9, false)], &[true, true], TWO),
+    (
+        &[(1000, 0, 0, false), (1000, 0, 0, false)],
+        &[true, true],
+        TWO,
+    ),
+    (
+        &[(1000, 0, 9, false), (1000, 0, 9, false)],
+        &[true, true],
+        TWO,
+    ),
     (&[WHOLE, AT_ONCE], &[true, false], ONE),
     // while the second batch is committed
-    (&[WHOLE, (38, 1000, false)], &[true, false], ONE),
-    (&[(0, 0, false), (0, 0, false)], &[false, false], NONE),
+    (&[WHOLE, (38, 0, 1000, false)], &[true, false], ONE),
+    // before the sync of the first batch's commit block: the block is lost, or left; and after it
+    (&[(41, 0, 1000, false)], &[false], NONE),
+    (&[(41, 1, 1000, false)], &[false], ONE),
+    (&[(42, 0, 1000, false)], &[true], ONE),
+    (&[(0, 0, 0, false), (0, 0, 0, false)], &[false, false], NONE),
     // a life that ends at once between two others, the last of which frees a home that the first has written
     (
-        &[(1000, 1000, true), AT_ONCE, WHOLE],
+        &[(1000, 0, 1000, true), AT_ONCE, WHOLE],
         &[true, false, true],
         [0x11, 0x12, 0, 0x34],
     ),
     (
-        &[(1000, 9, true), (1000, 0, true), (1000, 9, true)],
+        &[(1000, 0, 9, true), (1000, 0, 0, true), (1000, 0, 9, true)],
         &[true, true, true],
         [0x11, 0x22, 0x23, 0x34],
     ),
     // while the only transaction is checkpointed
-    (&[(46, 1000, true)], &[true], ONE),
+    (&[(46, 0, 1000, true)], &[true], ONE),
 ];
 
-/// A power failure after so many calls, after which all that was not synced is lost.
-fn failure(test: &impl Bench, calls: u64) -> Failure {
-    Failure {
-        calls,
-        choice: Vec::new(test.alloc()),
+/// How many sectors a disk of the tests has.
+const SECTORS: usize = 66;
+
+/// A power failure after so many calls, with this version of each sector that was not synced.
+fn failure(test: &impl Bench, calls: u64, version: u32) -> Failure {
+    let mut choice = Vec::new(test.alloc());
+    for _ in 0..SECTORS {
+        choice.push(version).must(test, "memory");
     }
+    Failure { calls, choice }
 }
 
 /// A further life, by its row, with the handles of these lines.
 fn push_life(test: &impl Bench, lives: &mut Vec<Life>, of: &LifeRow, lines: &str) {
-    let (end, again, checkpoint) = *of;
+    let (end, version, again, checkpoint) = *of;
     let life = Life {
         handles: handles_of(test, lines, 0),
         stamp: STAMP,
         checkpoint,
-        end: failure(test, end),
-        again: failure(test, again),
+        end: failure(test, end, version),
+        again: failure(test, again, 0),
     };
     lives.push(life).must(test, "memory");
 }

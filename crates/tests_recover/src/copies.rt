@@ -2,7 +2,7 @@
 //! the log has the copies still, so a recovery of anything else in a home ends in the same image.
 
 use crate::checks::By;
-use crate::crashes::{CASES, Case, MOST, after, before, recovers};
+use crate::crash_cases::{CASES, Case, MOST, after, before, recovers};
 use crate::mixtures::SECTORS;
 use crate::small::{BLOCKS, HOMES};
 use jb_disk::{FuseDisk, MemoryDisk};

@@ -12,6 +12,8 @@ mod checks;
 #[cfg(test)]
 mod copies;
 #[cfg(test)]
+mod crash_cases;
+#[cfg(test)]
 mod crashes;
 #[cfg(test)]
 mod dates;
@@ -40,7 +42,13 @@ mod images;
 #[cfg(test)]
 mod joined;
 #[cfg(test)]
+mod laid;
+#[cfg(test)]
+mod laid_crashes;
+#[cfg(test)]
 mod logs;
+#[cfg(test)]
+mod lost;
 #[cfg(test)]
 mod maps;
 #[cfg(test)]
@@ -64,9 +72,13 @@ mod small;
 #[cfg(test)]
 mod summed;
 #[cfg(test)]
+mod summed_calls;
+#[cfg(test)]
 mod summed_logs;
 #[cfg(test)]
 mod summed_peeks;
+#[cfg(test)]
+mod summed_refusals;
 #[cfg(test)]
 mod widens;
 #[cfg(test)]

@@ -14,7 +14,7 @@ use jb_super::SuperFault;
 use jb_tool::{CommandFault, LoadDone, LoadReport, Loaded, QueueHandleFault, Refused};
 
 /// Each fault of a command, with what the second line says beside the words of its row.
-static FAULTS: [(CommandFault<'static>, &str); 67] = [
+static FAULTS: [(CommandFault<'static>, &str); 68] = [
     (
         CommandFault::CannotRead("a", Some(2)),
         ": No such file or directory (os error 2)",
@@ -94,6 +94,7 @@ static FAULTS: [(CommandFault<'static>, &str); 67] = [
     (CommandFault::Own(OwnFault::NoSuper(9)), ""),
     (CommandFault::Own(OwnFault::Short), ""),
     (CommandFault::BadChecksum(Summed::Commit, 2), ""),
+    (CommandFault::Lost(2), ""),
     (CommandFault::BadRevoke(2), ""),
     (CommandFault::HomeOutOfRange(20, 2, Some(16)), ": 16"),
     (CommandFault::HomeOutOfRange(20, 2, None), ""),

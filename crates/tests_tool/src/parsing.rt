@@ -53,7 +53,7 @@ fn put_dump(rt: &impl Host, text: &mut String, file: &str, of: DumpOptions) {
     put_flags(rt, text, &[of.superblock, of.summary]);
     put(rt, text, of.journal.unwrap_or("-"));
     put(rt, text, of.extents.unwrap_or("-"));
-    put_flags(rt, text, &[of.checksums])
+    put_flags(rt, text, &[of.checksums, of.ring])
 }
 
 /// Adds the words and options of `jb format`, in the order of `FormatOptions`.
@@ -124,7 +124,7 @@ fn asked(rt: &impl Host, words: &[&str]) -> String {
 }
 
 /// Command lines, and what they ask for.
-static ROWS: [(&str, &str); 34] = [
+static ROWS: [(&str, &str); 36] = [
     ("cost queue.txt", "cost queue.txt"),
     ("cost -", "cost -"),
     ("cost -- -x", "cost -x"),
@@ -142,31 +142,39 @@ static ROWS: [(&str, &str); 34] = [
         "format a.img --bs +1024 --journal 033 --homes 16",
         "format a.img 1024 33 16 0 00000000000000000000000000000000 false",
     ),
-    ("dump a", "dump a - - false false - - false"),
-    ("dump --home 5 a", "dump a 5 - false false - - false"),
-    ("dump --journal j a", "dump a - - false false j - false"),
+    ("dump a", "dump a - - false false - - false false"),
+    ("dump --home 5 a", "dump a 5 - false false - - false false"),
+    (
+        "dump --journal j a",
+        "dump a - - false false j - false false",
+    ),
     (
         "dump a --extents=1-33",
-        "dump a - - false false - 1-33 false",
+        "dump a - - false false - 1-33 false false",
     ),
     (
         "dump a --last=18446744073709551615",
-        "dump a - 18446744073709551615 false false - - false",
+        "dump a - 18446744073709551615 false false - - false false",
     ),
-    ("dump --super a", "dump a - - true false - - false"),
-    ("dump --summary a", "dump a - - false true - - false"),
+    ("dump --super a", "dump a - - true false - - false false"),
+    ("dump --summary a", "dump a - - false true - - false false"),
     (
         "dump a --summary --last 2",
-        "dump a - 2 false true - - false",
+        "dump a - 2 false true - - false false",
     ),
     (
         "dump --last 0 --super a --home=+07",
-        "dump a 7 0 true false - - false",
+        "dump a 7 0 true false - - false false",
     ),
     (
         "dump a --checksums --super",
-        "dump a - - true false - - true",
+        "dump a - - true false - - true false",
     ),
+    (
+        "dump --ring a --checksums",
+        "dump a - - false false - - true true",
+    ),
+    ("dump a --ring", "dump a - - false false - - false true"),
     ("cat a.img 5", "cat a.img 5 1 false - - false"),
     (
         "cat --hex a.img -n 3 18446744073709551615",

@@ -114,7 +114,7 @@ pub(super) static DUMP: CommandRow = CommandRow {
         Word {
             name: "super",
             kind: Kind::Flag,
-            help: "Only the lines of the superblock",
+            help: "Every field of the superblock alone, also of one that is refused",
         },
         Word {
             name: "summary",
@@ -124,6 +124,11 @@ pub(super) static DUMP: CommandRow = CommandRow {
         DUMP_JOURNAL,
         DUMP_EXTENTS,
         CHECKSUMS,
+        Word {
+            name: "ring",
+            kind: Kind::Flag,
+            help: "Searches the rest of the log for a lost transaction; for --checksums alone",
+        },
     ],
 };
 

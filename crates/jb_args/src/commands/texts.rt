@@ -78,8 +78,11 @@ Example:
 pub(crate) const DUMP: &str =
     "With --home N these lines alone are printed: each copy of home block N, each descriptor block with a tag of
 it, and each revoke block that names it; the last two say the transaction's number. With --last N the lines
-of all transactions before the last N are left out, with --super all lines but the first two. Of several
-options each leaves out its lines. The whole journal is read, and refused, whatever is printed.
+of all transactions before the last N are left out. Of several options each leaves out its lines. The whole
+journal is read, and refused, whatever is printed.
+
+With --super every field of the superblock alone is printed, also of a journal that is refused, as it then is:
+the two lines of the dump, and a third one. The log is not read.
 
 Where FILE begins with no journal, and is a file system of ext2, ext3 or ext4, its own journal is found. With
 --extents LIST or --journal JOURNAL the journal is where jb recover has it.
@@ -92,6 +95,11 @@ With --checksums a journal with checksums (CSUM_V2 or CSUM_V3) is taken, too. It
 revoke or commit block of a committed transaction has a wrong one (jb: BadChecksum); the line of a copy ends in
 the word wrong where its data has.
 
+With --checksums --ring the rest of the log is searched, too, for a commit block of the next transaction or a
+later one: it shows that a transaction was committed, and is lost. Then the journal is refused after its lines,
+by that block (jb: Lost), or by the wrong block of the transaction that ends the log (jb: BadChecksum). FILE is
+a regular file or a block device then.
+
 Status: 0 where they are printed, 1 where the journal is refused, by the name of its fault, or a read
 fails, 2 where a file cannot be opened, or is in use.
 
@@ -99,7 +107,8 @@ Examples:
   jb dump journal.bin
   jb dump journal.bin --home 5 --last 2     # what the last two transactions do to home block 5
   jb dump journal.bin --summary
-  jb dump fs.img --super";
+  jb dump fs.img --super
+  jb dump fs.img --checksums --ring";
 
 /// Of `jb cat`.
 pub(crate) const CAT: &str =

@@ -1,10 +1,10 @@
 //! Journals whose text is written.
-ghost use Rattle.std.specs.Prelude.{◌≡◌, IfOk, None, Some, codes, false, true};
+ghost use Rattle.std.specs.Prelude.{◌≡◌, ◌&&◌, IfOk, None, Some, codes, false, not, option_map, true};
 ghost use Rattle.jb_args.specs.PlainCommand.{dump_said};
 ghost use Rattle.jb_ext.specs.declared.system.FileSystem.{FileSystem};
-ghost use Rattle.jb_commands.specs.Dump.{DumpsOn, choice_of, is_placed as is_said, is_unbegun as begins_not};
-ghost use Rattle.jb_commands.specs.Dump.{reads_dump};
-ghost use Rattle.jb_commands.specs.DumpPlace.{DumpsFile, DumpsNamed, DumpsOpen, DumpsPlaced};
+ghost use Rattle.jb_commands.specs.Dump.{DumpsOn, choice_of, is_given as is_told, is_placed as is_said};
+ghost use Rattle.jb_commands.specs.Dump.{is_unbegun as begins_not, reads_dump};
+ghost use Rattle.jb_commands.specs.DumpPlace.{DumpsChosen, DumpsFile, DumpsNamed, DumpsOpen, DumpsPlaced, sums_sought};
 ghost use Rattle.jb_commands.specs.FoundWithin.{IsReadOf};
 ghost use Rattle.jb_commands.specs.ListText.{reads_list};
 
@@ -13,14 +13,15 @@ use crate::files::found::system_of;
 use crate::files::opening::Opening;
 use crate::files::placed::open_placed;
 use crate::files::recovered::checksums_of;
+use crate::files::searching::dump_opened;
 use crate::files::shut::FileFault;
 use crate::files::texts::unopened;
-use crate::streams::{DiskReader, dump_from};
-use jb_args::DumpOptions;
+use crate::streams::dump_from;
+use jb_args::{DumpOptions, OptionName};
 use jb_block::Memory;
-use jb_disk::{Disk, Start};
+use jb_disk::Start;
 use jb_dump::DumpFilter;
-use jb_super::SuperFault;
+use jb_super::{Checksums, SuperFault};
 use std::alloc::Global;
 use std::fs::File;
 use std::io::{Read, Seek, Write};
@@ -31,8 +32,9 @@ use std::rt::Files;
 /// of extents may be read from `input`.
 ///
 /// # Errors
-/// Those of `dump_placed` where an option says where the journal is, and else those of `dump_file`, or for `-` those of
-/// `dump_from`.
+/// `CommandFault::BadOption` where the ring is to be searched, and checksums are not allowed; those of `dump_placed`
+/// where an option says where the journal is, or the ring is searched, and else those of `dump_file`, or for `-` those
+/// of `dump_from`.
 pub(crate) fn dump_named<
     'a,
     S: Start,
@@ -48,6 +50,27 @@ pub(crate) fn dump_named<
     out: &mut O,
 ) -> Result<u8, CommandFault<'a>>
     ensures ends { DumpsNamed S.Start T.Start (dump_said options.entry) name.entry.now (I.remaining input.old)
+        (I.remaining input.new) (O.contents out.old) (O.contents out.new) result }
+    ensures unread { reads_dump name.entry.now (dump_said options.entry) ≡ false → input.new ≡ input.old }
+{
+    if is_bare(options) {
+        return Err(CommandFault::BadOption(OptionName::Ring));
+    }
+    dump_chosen::<S, T, R, I, O>(rt, name, options, input, out)
+}
+
+/// The same where its options are good.
+///
+/// # Errors
+/// Those of `dump_named`, but for a bad option.
+fn dump_chosen<'a, S: Start, T: Start, R: Files<File = File> + AllocGlobal, I: Read, O: Write>(
+    rt: &R,
+    name: &'a str,
+    options: DumpOptions<'a>,
+    input: &mut I,
+    out: &mut O,
+) -> Result<u8, CommandFault<'a>>
+    ensures ends { DumpsChosen S.Start T.Start (dump_said options.entry) name.entry.now (I.remaining input.old)
         (I.remaining input.new) (O.contents out.old) (O.contents out.new) result }
     ensures unread { reads_dump name.entry.now (dump_said options.entry) ≡ false → input.new ≡ input.old }
 {
@@ -135,29 +158,16 @@ fn dump_placed<'a, S: Start, T: Start, R: Files<File = File> + AllocGlobal, I: R
         journal,
         extents,
         Opening::Read,
-        checksums_of(options.checksums),
+        sought(options),
         input,
     ) {
-        Ok(opened) => dump_disk(rt.alloc(), opened.disk, choice_of(options), out),
+        Ok(opened) => dump_opened(rt.alloc(), opened.disk, options, out),
         Err(fault) => Err(fault),
     }
 }
 
-/// Writes those lines of the text of the journal at the front of a disk which a choice takes.
-fn dump_disk<'a, D: Disk + Drop, O: Write>(
-    alloc: Global,
-    disk: D,
-    choice: DumpFilter,
-    out: &mut O,
-) -> Result<u8, CommandFault<'a>>
-    ensures dumps { DumpsOn choice None None (O.contents out.old) (O.contents out.new) result }
-{
-    let mut journal = DiskReader::of(disk);
-    dump_from(alloc, &mut journal, choice, out)
-}
-
 /// The lines that the options ask for.
-fn choice_of(options: DumpOptions<'_>) -> DumpFilter
+pub(crate) fn choice_of(options: DumpOptions<'_>) -> DumpFilter
     ensures { result ≡ choice_of (dump_said options.entry) }
 {
     DumpFilter {
@@ -169,11 +179,37 @@ fn choice_of(options: DumpOptions<'_>) -> DumpFilter
     }
 }
 
-/// Whether an option says where the journal is.
+/// Which journals are looked for: those of any features, where the superblock alone is shown.
+fn sought(options: DumpOptions<'_>) -> Checksums
+    ensures { result ≡ sums_sought (dump_said options.entry) }
+{
+    if options.superblock && !options.summary {
+        Checksums::Unjudged
+    } else {
+        checksums_of(options.checksums)
+    }
+}
+
+/// Whether the ring is to be searched of a journal that may have no checksums.
+fn is_bare(options: DumpOptions<'_>) -> bool
+    ensures { result ≡ ((dump_said options.entry).ring && not (dump_said options.entry).checksums) }
+{
+    options.ring && !options.checksums
+}
+
+/// Whether the file is opened as an image: where an option says where the journal is, or its ring is searched.
 fn is_placed(options: DumpOptions<'_>) -> bool
     ensures { result ≡ is_said (dump_said options.entry) }
 {
-    match (options.journal, options.extents) {
+    options.ring || is_given(options.journal, options.extents)
+}
+
+/// Whether one of these says where the journal is.
+fn is_given(journal: Option<&str>, extents: Option<&str>) -> bool
+    ensures { result ≡ is_told (option_map (λ word. word.now) journal.entry)
+        (option_map (λ word. word.now) extents.entry) }
+{
+    match (journal, extents) {
         (None, None) => false,
         (None, Some(_)) => true,
         (Some(_), _) => true,

@@ -64,6 +64,7 @@ fn words_of(fault: CommandFault<'_>) -> (&'static str, Numbers)
         }
         CommandFault::SuperChecksum => ("jb: Super Checksum", Numbers::None),
         CommandFault::BadChecksum(what, place) => (words_of_sum(what), Numbers::One(place)),
+        CommandFault::Lost(place) => ("jb: Lost ", Numbers::One(place)),
         CommandFault::BadRevoke(place) => ("jb: BadRevoke ", Numbers::One(place)),
         CommandFault::HomeOutOfRange(home, number, _) => {
             ("jb: HomeOutOfRange ", Numbers::Two(home, u64::from(number)))
@@ -180,6 +181,7 @@ fn name_after<'a>(fault: CommandFault<'a>, files: Option<TwoFiles<'a>>) -> Optio
         | CommandFault::ChecksumType(_)
         | CommandFault::SuperChecksum
         | CommandFault::BadChecksum(_, _)
+        | CommandFault::Lost(_)
         | CommandFault::BadRevoke(_)
         | CommandFault::NeedsRecovery
         | CommandFault::NumbersSpent => journal_of(files),

@@ -16,7 +16,7 @@ invariant_of-self g c =
     let b = g.S.Origin.begun in
     let known = IsStop b c.self.inside.sight in
     let after = read-marked g.D.Disk g.met.D.Disk.counts_now b known
-    c.self.inside.deck c.read_home-result.new.self c.read_home-result.ensures.kept.kept c.self.inside.appender _ _
+    c.self.inside.deck c.read_home-result.new.self c.read_home-result.ensures.kept.kept c.self.inside.appender c.read_home-result.ensures.kept.unsynced _ _
     c.read_home-result.result c.read_home-result.ensures.answers c.read_home-result.ensures.newest c.read_home-result.ensures.leaves c.self.invariant in
     let tiles = rw c.trail-trail.ensures.value at c.trail-trail.ensures.tiles in
     let now = marked-now g.D.Disk g.met.D.Disk.only_now b known c.self.inside.appender c.read_home-result.new.self tiles after in
@@ -32,7 +32,7 @@ returns-clause-home g c =
     let new = c.read_home-result.new.self in
     let seen = subst (λ (ms : List (OpenDeck g.row.D.Denot)). IsPrefix ms c.self.inside.appender) c.again-marks.ensures.sight c.check.ensures.sight in
     let after = read-marked g.D.Disk g.met.D.Disk.counts_now b known
-    deck new c.read_home-result.ensures.kept.kept c.self.inside.appender _ _
+    deck new c.read_home-result.ensures.kept.kept c.self.inside.appender c.read_home-result.ensures.kept.unsynced _ _
     c.read_home-result.result c.read_home-result.ensures.answers c.read_home-result.ensures.newest c.read_home-result.ensures.leaves c.self.invariant in
     let at = length c.check.new.appender in
     let last : StandsIn c.mark-shown.result (at, new) = subst (λ (ms : List (OpenDeck g.row.D.Denot)). StandsIn ms (at, new)) (sym c.mark-shown.ensures.whole ∙ sym c.mark-shown.ensures.sight) (get_last c.check.new.appender new) in

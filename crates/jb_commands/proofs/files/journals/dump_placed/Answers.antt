@@ -3,7 +3,7 @@ use Rattle.jb_commands.proofs.files.journals.dump_placed.Goals as goal
 
 pub returns-in-Ok-clause-ends : goal.returns-in-Ok-clause-ends
 returns-in-Ok-clause-ends g c =
-    inl (c.in-Ok.opened.disk, c.in-Ok.opened.homes, c.in-Ok.opened.found, rw c.checksums_of.ensures at c.in-Ok.ensures.opened, rw c.choice_of.ensures at c.dump_disk.ensures.dumps)
+    inl (c.in-Ok.opened.disk, c.in-Ok.opened.homes, c.in-Ok.opened.found, rw c.sought.ensures at c.in-Ok.ensures.opened, c.dump_opened.ensures.dumps)
 
 pub returns-in-Err-clause-ends : goal.returns-in-Err-clause-ends
-returns-in-Err-clause-ends g c = inr (c.in-Err.fault, refl, rw c.checksums_of.ensures at c.in-Err.ensures.shut, refl)
+returns-in-Err-clause-ends g c = inr (c.in-Err.fault, refl, rw c.sought.ensures at c.in-Err.ensures.shut, refl)

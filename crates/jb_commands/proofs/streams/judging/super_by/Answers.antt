@@ -12,3 +12,7 @@ returns-in-Err-Super-clause-reads g c = λ held. rw c.in-Refused.is (ap without_
 pub returns-in-Allowed-clause-reads : goal.returns-in-Allowed-clause-reads
 returns-in-Allowed-clause-reads g c = λ held.
     rw c.in-Allowed.is (reads-checked (g.D.Disk.size c.args.disk.now) (g.D.Disk.count c.args.disk.now) (g.D.Disk.newest c.args.disk.now) c.read_checked.result (c.read_checked.ensures.reads held))
+
+pub returns-in-Unjudged-clause-reads : goal.returns-in-Unjudged-clause-reads
+returns-in-Unjudged-clause-reads g c = λ held.
+    rw c.in-Unjudged.is (reads-checked (g.D.Disk.size c.args.disk.now) (g.D.Disk.count c.args.disk.now) (g.D.Disk.newest c.args.disk.now) c.read_checked-in-Unjudged.result (c.read_checked-in-Unjudged.ensures.reads held))
