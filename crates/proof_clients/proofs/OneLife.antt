@@ -1,5 +1,5 @@
 -- One life of a journal: from what stands before it to what is recovered after it.
-use Rattle.std.proofs.Common.{◌≡◌, ℕ, ◌+◌, ◌%◌, ◌^◌, ◌⊎◌, Bool, true, false, nat_eq, List, [], ◌∷◌, ◌++◌, Ok, inl, inr, ⊎_elim, refl, ap, ap₂, sym, subst, ◌∙◌, arith, add-zero}
+use Rattle.std.proofs.Common.{◌≡◌, ℕ, ◌+◌, ◌%◌, ◌^◌, ◌⊎◌, Bool, true, false, nat_eq, List, [], ◌∷◌, ◌++◌, Ok, inl, inr, ⊎_elim, refl, ap, ap₂, sym, subst, ◌∙◌, arith, add-zero, eq-eqb}
 use Rattle.std.proofs.lemmas.Bool.{false≢true}
 use Rattle.jb_block.specs.Size.{bytes_of}
 use Rattle.jb_disk.specs.History.{History, IsHistorySound, MayLeave, newest_of}
@@ -17,7 +17,7 @@ use Rattle.jb_recover.specs.Outcomes.{KeepsJournal, recovered}
 use Rattle.jb_recover.proofs.RecoveredImage.{own-clean_refusal}
 use Rattle.jb_log.proofs.FrameKeeps.{frame-start}
 use Rattle.jb_log.proofs.OwnSuperblock.{same-then}
-use Rattle.jb_deck.specs.Calls.{IsCleanAt}
+use Rattle.jb_deck.specs.Calls.{IsCleanAt, RecoversAt}
 use Rattle.jb_deck.specs.Changes.{Change}
 use Rattle.jb_deck.specs.Deck.{IsShapeOf}
 use Rattle.jb_deck.specs.GroupsOfBatch.{groups_in}
@@ -25,7 +25,7 @@ use Rattle.jb_deck.specs.Open.{home_by, recovered_home}
 use Rattle.jb_deck.specs.Since.{HoldsOn}
 use Rattle.jb_deck.proofs.Lives.{one-super, revoking-twice, same-revoking}
 use Rattle.jb_deck.proofs.OpenedJournal.{revoking-same}
-use Rattle.proof_clients.specs.Lives.{HasLives, HoldsChanges, HoldsLife, IsAtRest, IsBatchOf, IsPartOfLife, LeftByLife, no_life, nothing, of_batch, one_life}
+use Rattle.proof_clients.specs.Lives.{CountsOn, HasLives, HoldsChanges, HoldsLife, IsAtRest, IsBatchOf, IsPartOfLife, LeftByLife, no_life, nothing, of_batch, one_life}
 use Rattle.proof_clients.proofs.Programs.{Left, Runs}
 use Rattle.proof_clients.specs.Programs.{HasChanges, IsPartOf, LeftByProgram, Part, after_batch, all_changes, commits, no_more}
 
@@ -114,8 +114,13 @@ module _ (on : HoldsOn) (size count : ℕ) (own : Superblock) (last : ℕ) (befo
     stood : (home : ℕ) → recovered_home size count base home ≡ block base (own.maxlen + home)
     stood home = rw (l.has.was, still, own-maxlen sb owned) refl
 
-    clean-more : (x : Superblock) → Own x → IsCleanAt x (sb.sequence + 1 + l.groups) size count r → HoldsLife own last size count before done handles committed r
-    clean-more x is after =
+    -- the number of the recovered journal counts the groups
+    counts-on : (was_clean : Bool) (sequence last groups now : ℕ) → sequence ≡ last → RecoversAt was_clean (sequence + 1 + groups) now → CountsOn last groups now
+    counts-on true sequence last groups now same at = inl (omega (arith, same, at))
+    counts-on false sequence last groups now same at = inr (at ∙ ap (λ n. n % 2 ^ 32) (ap (λ n. n + 1 + groups) same))
+
+    clean-more : (x : Superblock) (was_clean : Bool) → Own x → IsCleanAt x was_clean (sb.sequence + 1 + l.groups) size count r → HoldsLife own last size count before done handles committed r
+    clean-more x was_clean is after =
         let at : sb.sequence ≡ last = ap (λ (s : Superblock). s.sequence) is_own ∙ entry.number in
         record {
           changes = l.changes;
@@ -123,10 +128,7 @@ module _ (on : HoldsOn) (size count : ℕ) (own : Superblock) (last : ℕ) (befo
           part = part-own sb owned l.changes l.groups l.part;
           all = λ yes. (let whole = l.all yes in record { batch = whole.batch; is = batch-own sb owned whole.batch whole.is; all = whole.all; every = whole.every });
           now = after.sb.sequence;
-          counts = ⊎_elim
-              (λ early. inl (let e : after.sb.sequence ≡ last + l.groups = omega (arith, early, at) in e))
-              (λ late. inr (late ∙ ap (λ n. n % 2 ^ 32) (ap (λ n. n + 1 + l.groups) at)))
-              after.number;
+          counts = counts-on was_clean sb.sequence last l.groups after.sb.sequence at after.number;
           holds = record {
             sb = after.sb;
             same = own-then x after.sb is after.same;
@@ -140,8 +142,8 @@ module _ (on : HoldsOn) (size count : ℕ) (own : Superblock) (last : ℕ) (befo
 
     has-more : HoldsLife own last size count before done handles committed r
     has-more = elim l.has.recovered_to [
-      | inl is ↦ clean-more sb owned is.after
-      | inr is ↦ clean-more (revoking sb) (inr (same-journal sb owned)) is.after
+      | inl is ↦ clean-more sb (nat_eq is.sb.start 0) owned is.after
+      | inr is ↦ clean-more (revoking sb) (nat_eq is.sb.start 0) (inr (same-journal sb owned)) is.after
     ]
 
   -- nothing was changed
@@ -156,7 +158,7 @@ module _ (on : HoldsOn) (size count : ℕ) (own : Superblock) (last : ℕ) (befo
           same = refl;
           taken = entry.taken;
           not_refused = own-clean_refusal size count entry.sb base entry.taken (ap (λ n. nat_eq n 0) entry.clean);
-          after = record { sb = entry.sb; same = refl; taken = ap (super_on size count) still ∙ entry.taken; clean = entry.clean; number = inl (let n : entry.sb.sequence + 1 ≡ entry.sb.sequence + 1 + 0 = omega arith in n) };
+          after = record { sb = entry.sb; same = refl; taken = ap (super_on size count) still ∙ entry.taken; clean = entry.clean; number = rw (eq-eqb entry.sb.start 0 entry.clean) (let n : entry.sb.sequence + 1 ≡ entry.sb.sequence + 1 + 0 = omega arith in n) };
           each = stands;
         });
         holds = stands;

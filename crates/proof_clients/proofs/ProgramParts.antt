@@ -5,14 +5,14 @@ use Rattle.jb_deck.specs.Changes.{Change, HoldsAfter, fills, settles, torn_by}
 use Rattle.jb_deck.specs.GroupsOfBatch.{groups_in}
 use Rattle.jb_deck.specs.declared.freed.FreeFault.{FreeFault}
 use Rattle.jb_deck.specs.declared.freed.FreeFault.TheVariants.{Aborted, NotFree, Length, DeviceFault}
-use Rattle.jb_deck.proofs.HomeChanges.{holds-append}
 use Rattle.proof_clients.specs.Programs.{IsPartOf, Part, after_batch, after_write, all_changes, all_groups, commits, in_write, no_more, writes}
 
 -- a home that was written last holds these bytes
-pub filled : (done : List Change) (home : ℕ) (bytes : List ℕ) (held : List ℕ → Type 0) (found : List ℕ) → HoldsAfter (done ++ fills home bytes ∷ []) home held found → found ≡ bytes
-filled done home bytes held found is =
+pub filled : (done : List Change) (home : ℕ) (bytes held found : List ℕ) → HoldsAfter (done ++ fills home bytes ∷ []) home held found → found ≡ bytes
+filled [] home bytes held found is =
     let here : nat_eq home home ≡ true = grind (arith, nat_tests) in
-    rw (holds-append done (fills home bytes ∷ []) home held, here) at is
+    is.2 ∙ rw here at is.1
+filled (c ∷ done) home bytes held found is = filled done home bytes is.0 found is.2
 
 -- whatever a write of a freed home answers, what is left of it is a part of it
 pub torn-part : (r : Result (Unit {0}) FreeFault) (home : ℕ) (bytes : List ℕ) (rest : List Part) → IsPartOf (writes home bytes ∷ rest) (torn_by r home bytes) 0

@@ -71,7 +71,7 @@ pub record HoldsChanges (own : Superblock) (last size count : ℕ) (before : ℕ
   pub taken : super_on size count c ≡ Ok sb
   pub clean : sb.start ≡ 0
   pub number : sb.sequence ≡ last
-  pub homes : (home : ℕ) → HoldsAfter changes home (λ bytes. bytes ≡ before home) (block c (own.maxlen + home))
+  pub homes : (home : ℕ) → HoldsAfter changes home (before home) (block c (own.maxlen + home))
 
 -- A crash left the image in a life that found the journal so and was to commit these handles: it has a part of that,
 -- and all of it once it is reported.

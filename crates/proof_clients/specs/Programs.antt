@@ -58,7 +58,7 @@ pub record HasChanges (size count : ℕ) (base : Image) (changes : List Change) 
       (settled_in changes) c
       ⊎ IsRecoveredTo (revoking own) (own.sequence + 1 + groups) size count (recovered_home size count base)
       (settled_in changes) c
-  pub holds : (home : ℕ) → HoldsAfter changes home (λ bytes. bytes ≡ recovered_home size count base home)
+  pub holds : (home : ℕ) → HoldsAfter changes home (recovered_home size count base home)
       (block (recovered size count c) (own.maxlen + home))
   pub keeps : KeepsFrame own count base c
 

@@ -60,7 +60,7 @@ returns-in-Ok-commit-2-clause-read g c = λ held.
     let is = so.is honest in
     let stood = before g.D.Disk c.args.disk in
     c.in-Ok-read_home.ensures.found read
-    ∙ filled (map settles c.args.first.batch.handles) c.args.home c.args.bytes.now (λ bytes. bytes ≡ stood c.args.home) _
+    ∙ filled (map settles c.args.first.batch.handles) c.args.home c.args.bytes.now (stood c.args.home) _
     (c.reads.ensures stood c.in-Ok.deck c.write_free.new.self _ is.new is.stands (so.calls honest) c.args.home)
 
 taken : (g : Over) (c : After-commit-2 g)
