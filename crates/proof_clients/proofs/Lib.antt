@@ -1,3 +1,4 @@
+pub mod Asking
 pub mod CutOfTwo
 pub mod ExampleCosts
 pub mod ExampleCrashes

@@ -29,7 +29,7 @@ pub(crate) fn give_up(batch: Prepared)
 }
 
 /// Gives up the batch that a refusal hands back.
-fn give_up_refused(fault: BatchFault) {
+pub(crate) fn give_up_refused(fault: BatchFault) {
     match fault {
         BatchFault::Aborted(batch)
         | BatchFault::WrongTicket(batch, _)

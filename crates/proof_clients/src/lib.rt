@@ -2,6 +2,7 @@
 //! one after another.
 #![tactic(auto)]
 
+mod asking;
 mod calls;
 mod closed;
 mod commit;
@@ -16,6 +17,7 @@ mod two;
 mod two_files;
 mod workers;
 
+pub use asking::{ask_file, run_in_file};
 pub use closed::commit_and_close;
 pub use lives::{Failure, Life, Lived, run_lives};
 pub use recovering::recover_file;
