@@ -1,5 +1,6 @@
 //! Calls whose memory is refused: each is made with ample inputs, and again with ample memory where it answers that
-//! memory ran out. `compare/refuse_memory` runs each row with one allocation of the call refused after the other.
+//! memory ran out. `tests/processes/refuse_memory` runs each row with one allocation of the call refused after the
+//! other.
 #![tactic(auto)]
 
 mod books;

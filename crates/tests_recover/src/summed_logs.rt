@@ -1,6 +1,6 @@
 //! Small logs with checksums, of the UUID 00010203-0405-0607-0809-0a0b0c0d0e0f: a revoke of home 7 and an escaped copy
 //! of home 5, of number 2, and its commit block. debugfs writes the same, and e2fsck replays it
-//! (`compare/checksums_vectors.py`).
+//! (`oracle/checksums_vectors.py`).
 
 use crate::images::Row;
 use crate::small::{HOMES, MAGIC};
