@@ -8,7 +8,7 @@ use Rattle.jb_disk.specs.declared.disk.Disk.{Ghosts as Disks}
 use Rattle.jb_super.specs.declared.checked.Checksums.{Checksums}
 use Rattle.jb_super.specs.declared.checked.Checksums.TheVariants.{Allowed, Refused, Unjudged}
 use Rattle.jb_recover.specs.CheckedFaults.{CheckedPassFaults, checked_of, checked_peek_of}
-use Rattle.jb_recover.specs.CheckedForesees.{CheckedForesees}
+use Rattle.jb_recover.specs.CheckedForesees.{CheckedForesees, ForeseesUnread}
 use Rattle.jb_recover.specs.CheckedOutcomes.{CheckedRecoversAs}
 use Rattle.jb_recover.specs.CheckedPeeks.{IsCheckedPeek, checked_peek_refusal}
 use Rattle.jb_recover.specs.CheckedRecovers.{CheckedRecovers}
@@ -72,6 +72,17 @@ abbrev pub ForetellsBy : {D : Type 0} → Checksums → Disks D → D → D → 
 ForetellsBy Refused G old new answer = (plain : Result Foreseen RecoverFault) × Foretells G old new plain × (answer ≡ as_checked plain)
 ForetellsBy Allowed G old new answer = ForetellsWithSums G old new answer
 ForetellsBy Unjudged G old new answer = ForetellsWithSums G old new answer
+
+-- the same but for the data of copies, with the clauses of `foresee_unread`
+pub record ForetellsUnread {D : Type 0} (G : Disks D) (old new : D) (answer : Result Foreseen CheckedFault) : Type 0 where
+  pub passed : PassedBy G (λ r. CheckedPassFaults r) answer old new
+  pub foresees : G.honest new → ForeseesUnread (G.size old) (G.count old) (G.newest old) answer
+
+-- it was foreseen but for the data of copies, where checksums are allowed or not
+abbrev pub ForetellsUnreadBy : {D : Type 0} → Checksums → Disks D → D → D → Result Foreseen CheckedFault → Type 0
+ForetellsUnreadBy Refused G old new answer = (plain : Result Foreseen RecoverFault) × Foretells G old new plain × (answer ≡ as_checked plain)
+ForetellsUnreadBy Allowed G old new answer = ForetellsUnread G old new answer
+ForetellsUnreadBy Unjudged G old new answer = ForetellsUnread G old new answer
 
 -- ---- a peek
 

@@ -29,7 +29,8 @@ use Rattle.jb_super.specs.declared.checked.Checksums.TheVariants.{Allowed, Refus
 use Rattle.jb_commands.specs.Cat.{ShowsOn}
 use Rattle.jb_commands.specs.Files.{IsImageOpened, IsShut, IsUnread, SaysSuper}
 use Rattle.jb_commands.specs.FoundWithin.{IsTried, IsFoundWithin, IsOtherSize}
-use Rattle.jb_commands.specs.Checking.{ForetellsBy}
+use Rattle.jb_commands.specs.Checking.{ForetellsBy, ForetellsUnreadBy}
+use Rattle.jb_commands.specs.Faults.{recover_fault}
 use Rattle.jb_commands.specs.Foresee.{foreseen_end, own_checked}
 use Rattle.jb_commands.specs.Judge.{JudgesOn}
 use Rattle.jb_commands.specs.ListText.{HasNoList, IsListOf}
@@ -179,11 +180,25 @@ module _ {D E : Type 0} (G : Disks (ImageDisk D E)) where
   abbrev pub ForeseesImage : Checksums → ℕ → Option MapSource → Bool → ImageDisk D E → ImageDisk D E → Result Report CommandFault → Type 0
   ForeseesImage sums homes found list old new end = (answer : Result Foreseen CheckedFault) × ForetellsBy sums G old new answer × (end ≡ foreseen_end new homes found list answer)
 
+  -- all was judged that a recovery judges, and whether a copy is for a home block that is the journal's own
+  abbrev pub JudgesOwn : Checksums → ℕ → ImageDisk D E → ImageDisk D E → Result Unit CommandFault → Type 0
+  JudgesOwn sums homes old new checked = (answer : Result Foreseen CheckedFault) × ForetellsBy sums G old new answer × (checked ≡ own_checked new homes answer)
+
+  -- no copy is for a home block that is the journal's own; or this one is, and all was judged, of which a recovery may refuse something first
+  abbrev pub ChecksApart : Checksums → ℕ → Option ℕ → ImageDisk D E → ImageDisk D E → Result Unit CommandFault → Type 0
+  ChecksApart sums homes None old new checked = (new ≡ old) × (checked ≡ Ok tt)
+  ChecksApart sums homes (Some home) old new checked = JudgesOwn sums homes old new checked
+
+  -- the same by the home blocks that would be written if all data is right, or why the log is refused before that is judged
+  abbrev pub ChecksListed : Checksums → ℕ → Result Foreseen CheckedFault → ImageDisk D E → ImageDisk D E → Result Unit CommandFault → Type 0
+  ChecksListed sums homes (Ok told) old new checked = ChecksApart sums homes (own_home old told.homes.items) old new checked
+  ChecksListed sums homes (Err fault) old new checked = (new ≡ old) × (checked ≡ Err (recover_fault (Some homes) fault))
+
   -- of a journal within its home blocks it was foreseen whether a copy is for one of its own
   abbrev pub ChecksOwn : Checksums → ℕ → ImageDisk D E → ImageDisk D E → Result Unit CommandFault → Type 0
   ChecksOwn sums homes old new checked =
       ((is_within old ≡ false) × (new ≡ old) × (checked ≡ Ok tt))
-      ⊎ ((is_within old ≡ true) × ((answer : Result Foreseen CheckedFault) × ForetellsBy sums G old new answer × (checked ≡ own_checked new homes answer)))
+      ⊎ ((is_within old ≡ true) × ((mid : ImageDisk D E) × (listed : Result Foreseen CheckedFault) × ForetellsUnreadBy sums G old mid listed × ChecksListed sums homes listed mid new checked))
 
   -- the image was recovered, or that is why not
   abbrev pub RecoversChecked : Checksums → ℕ → Option MapSource → Result Unit CommandFault → ImageDisk D E → ImageDisk D E → Result Report CommandFault → Type 0

@@ -21,7 +21,7 @@ mod telling;
 pub use catting::{ShownHomes, cat_on};
 pub use changing::{renumber_on, widen_on};
 pub(crate) use changing::{tell_renumbered, tell_widened};
-pub(crate) use checking::foresee_by;
+pub(crate) use checking::{foresee_by, foresee_unread_by};
 pub(crate) use disk_reader::DiskReader;
 pub use dumping::dump_from;
 pub(crate) use foreseeing::tell_foreseen;

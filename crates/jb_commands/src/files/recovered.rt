@@ -5,7 +5,7 @@ ghost use Rattle.jb_args.specs.PlainCommand.{recover_said};
 ghost use Rattle.jb_commands.specs.Foresee.{foreseen_end as foreseen_so, own_checked};
 ghost use Rattle.jb_commands.specs.ListText.{reads_list};
 ghost use Rattle.jb_commands.specs.JournalPlace.{EndsOfRecover, is_beside as stands_beside, sums_of, use_of as use_so};
-ghost use Rattle.jb_commands.specs.JournalPlace.{JudgesBeside, RecoversImage, RecoversOpened};
+ghost use Rattle.jb_commands.specs.JournalPlace.{ChecksOwn, JudgesBeside, JudgesOwn, RecoversImage, RecoversOpened};
 ghost use Rattle.jb_commands.specs.OpenRefusals.{opening_for};
 
 use crate::command_end::CommandEnd;
@@ -13,7 +13,7 @@ use crate::fault::CommandFault;
 use crate::files::opening::Opening;
 use crate::files::placed::open_placed;
 use crate::report::Report;
-use crate::streams::{foresee_by, judge_on, recover_on};
+use crate::streams::{foresee_by, foresee_unread_by, judge_on, recover_on};
 use jb_args::{OptionName, RecoverOptions};
 use jb_disk::{Disk, Start};
 use jb_ext::MapSource;
@@ -196,14 +196,45 @@ fn recover_image<'a, D: Disk, E: Disk>(
 ) -> Result<Report, CommandFault<'a>>
     ensures recovers { RecoversImage (as_disks D.Disk E.Disk) sums homes found disk.old disk.new result }
 {
-    if !disk.is_within() {
-        return recover_on(alloc, disk, Some(homes), found, sums);
-    }
-    let answer = foresee_by(alloc, disk, sums);
-    match own_end(disk, homes, answer) {
+    match check_own(alloc, disk, homes, sums) {
         Ok(()) => recover_on(alloc, disk, Some(homes), found, sums),
         Err(fault) => Err(fault),
     }
+}
+
+/// Whether a recovery of an image may write: no copy is for a home block that is the journal's own, where that stands
+/// within the home blocks. The data of copies is read only where one is; else the recovery itself judges it.
+fn check_own<'a, D: Disk, E: Disk>(
+    alloc: Global,
+    disk: &mut ImageDisk<D, E>,
+    homes: u64,
+    sums: Checksums,
+) -> Result<(), CommandFault<'a>>
+    ensures checks { ChecksOwn (as_disks D.Disk E.Disk) sums homes disk.old disk.new result }
+{
+    if !disk.is_within() {
+        return Ok(());
+    }
+    match foresee_unread_by(alloc, disk, sums) {
+        Ok(told) => match disk.first_own(told.homes.as_slice()) {
+            None => Ok(()),
+            Some(_) => judge_own(alloc, disk, homes, sums),
+        },
+        Err(fault) => Err(CommandFault::of_recovery(fault, Some(homes))),
+    }
+}
+
+/// The same by all that a recovery judges, which may refuse something before such a copy.
+fn judge_own<'a, D: Disk, E: Disk>(
+    alloc: Global,
+    disk: &mut ImageDisk<D, E>,
+    homes: u64,
+    sums: Checksums,
+) -> Result<(), CommandFault<'a>>
+    ensures judges { JudgesOwn (as_disks D.Disk E.Disk) sums homes disk.old disk.new result }
+{
+    let answer = foresee_by(alloc, disk, sums);
+    own_end(disk, homes, answer)
 }
 
 /// Whether a recovery of an image may write, by what was foreseen.
