@@ -65,9 +65,10 @@ fc:32a4e083
 bfc:2fb7103d
 1010:240377d2";
 
-/// The text of a journal, by its features, the bytes that its revoke block uses, and the end of its copy's line.
+/// The text of a journal, by its features, the bytes that its revoke block uses and the home there, and the end of its
+/// copy's line.
 macro_rules! text_of {
-    ($incompat:literal, $count:literal, $copy:literal) => {
+    ($incompat:literal, $count:literal, $revoked:literal, $copy:literal) => {
         concat!(
             "super bs=1024 maxlen=33 first=1 sequence=2 start=1 errno=0 compat=00000000 incompat=",
             $incompat,
@@ -75,7 +76,9 @@ macro_rules! text_of {
 uuid 000102030405060708090a0b0c0d0e0f
 1 revoke number=2 count=",
             $count,
-            " homes=7
+            " homes=",
+            $revoked,
+            "
 2 descriptor number=2 tags=1
 3 copy home=5 flags=9 head=",
             $copy,
@@ -97,21 +100,37 @@ end transactions=0 expected=2
 
 /// Journals of each form as they are.
 static FORMS: [Case; 4] = [
-    Case(V3, Ok(text_of!("00000011", "20", "0000000001020304"))),
-    Case(V3_WIDE, Ok(text_of!("00000013", "24", "0000000001020304"))),
-    Case(V2, Ok(text_of!("00000009", "20", "0000000001020304"))),
-    Case(V2_WIDE, Ok(text_of!("0000000b", "24", "0000000001020304"))),
+    Case(V3, Ok(text_of!("00000011", "20", "7", "0000000001020304"))),
+    Case(
+        V3_WIDE,
+        Ok(text_of!("00000013", "24", "7", "0000000001020304")),
+    ),
+    Case(V2, Ok(text_of!("00000009", "20", "7", "0000000001020304"))),
+    Case(
+        V2_WIDE,
+        Ok(text_of!("0000000b", "24", "7", "0000000001020304")),
+    ),
 ];
 
 /// What is put over the first of them, and what is answered then.
-static CHANGED: [Case; 12] = [
+static CHANGED: [Case; 13] = [
     // the data, of which the copy's line says so
     Case(
         "c04:1020305",
-        Ok(text_of!("00000011", "20", "0000000001020305 wrong")),
+        Ok(text_of!("00000011", "20", "7", "0000000001020305 wrong")),
+    ),
+    // the data of a revoked copy, which a recovery does not read
+    Case(
+        "410:5
+7fc:9338a446
+c04:1020305",
+        Ok(text_of!("00000011", "20", "5", "0000000001020305 wrong")),
     ),
     // behind the first 60 bytes of the commit block, which may be old
-    Case("1100:1", Ok(text_of!("00000011", "20", "0000000001020304"))),
+    Case(
+        "1100:1",
+        Ok(text_of!("00000011", "20", "7", "0000000001020304")),
+    ),
     Case("7fc:1", Err(DumpFault::BadChecksum(Summed::Revoke, 1))),
     Case("bfc:1", Err(DumpFault::BadChecksum(Summed::Descriptor, 2))),
     Case("1010:1", Err(DumpFault::BadChecksum(Summed::Commit, 4))),

@@ -7,7 +7,7 @@ use crate::summed_logs::V3;
 use jb_block::{BlockSize, Sums};
 use jb_disk::{Disk, FuseDisk, MemoryDisk};
 use jb_format::{clean_checked, read_checked, sync_checked};
-use jb_recover::foresee_checked;
+use jb_recover::{foresee_checked, foresee_unread};
 use tests_support::{Bench, check_row, crashed, read_at, write_at};
 
 /// Whether block 0 of a disk of blocks of 1 KiB is read.
@@ -49,6 +49,11 @@ fn is_foreseen(test: &impl Bench, calls: u64) -> bool {
     foresee_checked(test.alloc(), &mut fused(test, calls)).is_ok()
 }
 
+/// Whether that is so without the data of its copies.
+fn is_unread(test: &impl Bench, calls: u64) -> bool {
+    foresee_unread(test.alloc(), &mut fused(test, calls)).is_ok()
+}
+
 /// Checks that each ends by so many calls of the disk, and not by one less.
 fn check_counts(test: &impl Bench) {
     let are_read = !reads(&mut fused(test, 0)) && reads(&mut fused(test, 1));
@@ -60,7 +65,9 @@ fn check_counts(test: &impl Bench) {
     let are_peeked = !is_peeked(test, 10) && is_peeked(test, 11);
     check_row(test, are_peeked, "peek_checked", "its calls");
     let are_foreseen = !is_foreseen(test, 15) && is_foreseen(test, 16);
-    check_row(test, are_foreseen, "foresee_checked", "its calls")
+    check_row(test, are_foreseen, "foresee_checked", "its calls");
+    let are_unread = !is_unread(test, 11) && is_unread(test, 12);
+    check_row(test, are_unread, "foresee_unread", "its calls")
 }
 
 /// Checks that what was written before is durable where the read of block 0 fails.
