@@ -1,4 +1,5 @@
-//! What the crates of tests share: what ends a test that fails, blocks made of rows of words, blocks of a disk, and disks in files.
+//! What the crates of tests share: what ends a test that fails, blocks made of rows of words, blocks of a disk, and
+//! disks in files.
 //!
 //! A library has no function that may end the program. So each crate of tests says how its runtime ends a test (a
 //! [`Test`]), and what is here checks by that.
