@@ -104,7 +104,7 @@ module _ {T D H N : Type 0} {O : Ghosts H} {P : Places H} (G : Disks D) (may : T
         each at none unknown unseen d inside =
             let lt : at < length answers = omega (arith, inside, many) in
             let answered : get_or (map told ws) at (Some d) ≡ Some (get_or answers at d) = ap (λ l. get_or l at (Some d)) (sym same) ∙ get_or-map (λ (y : T). Some y) answers at d (Some d) lt in
-            rw answered (are-told.each at none unknown unseen (Some d) inside)
+            subst (λ (o : Option T). IfSome o (may (AreHonest G (get_or (map saw ws) at unseen)) workers at (get_or (map stops ws) at none) (get_or (map knew ws) at unknown))) answered (are-told.each at none unknown unseen (Some d) inside)
 
 -- ---- what a run leaves
 
@@ -137,7 +137,7 @@ module _ {T D H N : Type 0} {O : Ghosts H} {P : Places H} (G : Disks D) (b : Beg
         stopped = stopped;
         known = map (λ (w : Worked T D H N O P). known_of_worked G.moment w) ws;
         seen = map (λ (w : Worked T D H N O P). marks_of_worked w) ws;
-        answers = are-answers G may workers told.answers.items ws has.worked (ap (λ xs. xs.items) closed.answers ∙ gathered.answers) closed.number;
+        answers = are-answers G may workers told.answers.items ws has.worked (ap (λ xs. xs.items) closed.answers ∙ gathered.answers) (let number = closed.number in omega (arith, number));
         changes = closed.changes ∙ ap (sum_by changed_by) made;
         ends = ends.0;
         came = came-without G b _ stopped told.handles shape told.disk told.trail.items made closed.came;

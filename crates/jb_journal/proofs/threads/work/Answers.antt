@@ -1,5 +1,11 @@
+use Rattle.std.proofs.Common.{arith, subst}
+use Rattle.jb_journal.specs.Run.{HasWorked}
 use Rattle.jb_journal.proofs.threads.work.Goals as goal
 
-pub map_indices-ran-requires-after_bounds : goal.map_indices-ran-requires-after_bounds
-map_indices-ran-requires-after_bounds g c = λ _ i count inside.
-    (c.requires.shape, c.requires.work.0, c.requires.work.1, c.requires.work.2)
+pub returns : goal.returns
+returns g c = record {
+  number = omega arith;
+  each = λ at d inside.
+      let changes = (c.for_each_mut.ensures at d (omega (arith, inside))).1 in
+      subst (HasWorked g.D.Disk (g.W.Worker.answers c.args.worker.now g.H.Origin.begun c.args.shape) _ at) changes.left changes.call;
+}
