@@ -20,6 +20,7 @@ mod running;
 mod thread_results;
 mod threads;
 mod worker;
+mod working;
 
 pub use client::Client;
 pub use clock::SystemClock;
