@@ -4,7 +4,7 @@ use Rattle.jb_book.specs.Origin.{Begun}
 use Rattle.jb_deck.specs.Deck.{OpenDeck}
 use Rattle.jb_deck.specs.Open.{OpenFaults}
 use Rattle.jb_deck.specs.declared.fault.OpenFault.{OpenFault}
-use Rattle.jb_deck.specs.declared.fault.OpenFault.TheVariants as open
+use Rattle.jb_deck.specs.declared.fault.OpenFault.TheVariants as why_not
 use Rattle.jb_disk.specs.Faults.{most_faults}
 use Rattle.jb_disk.specs.declared.disk.Disk.{Ghosts}
 use Rattle.jb_handle.specs.declared.shape.Shape.{Shape}
@@ -18,11 +18,11 @@ use Rattle.jb_journal.specs.declared.options.Commits.{Commits}
 
 -- a journal that is not opened has counted no fault less
 few-before : (why : OpenFault) (before after : ℕ) → OpenFaults why before after → after < most_faults → before < most_faults
-few-before open.DeviceFault before after more few = omega (arith, more.no_fewer, few)
-few-before (open.Super fault) before after same few = omega (arith, same, few)
-few-before open.NeedsRecovery before after same few = omega (arith, same, few)
-few-before open.NumbersSpent before after same few = omega (arith, same, few)
-few-before open.Memory before after same few = omega (arith, same, few)
+few-before why_not.DeviceFault before after more few = omega (arith, more.no_fewer, few)
+few-before (why_not.Super fault) before after same few = omega (arith, same, few)
+few-before why_not.NeedsRecovery before after same few = omega (arith, same, few)
+few-before why_not.NumbersSpent before after same few = omega (arith, same, few)
+few-before why_not.Memory before after same few = omega (arith, same, few)
 
 module _ {D : Type 0} (G : Ghosts D) (b : Begun) (none : b.none_failed) where
   -- of the disk of a journal that was given handles
