@@ -8,6 +8,9 @@
 //! `IMAGE` is made where there is no such file. Without it the disk is in memory.
 #![tactic(auto)]
 
+ghost use Rattle.std.specs.Prelude.{IfOk};
+ghost use Rattle.example_store.specs.AcknowledgedPuts.{Keeps};
+
 mod command;
 mod failed;
 mod serving;
@@ -36,9 +39,6 @@ const SIZE: BlockSize = BlockSize::OneKib;
 
 /// How many blocks the journal has.
 const JOURNAL: u32 = 256;
-
-ghost use Rattle.std.specs.Prelude.{IfOk};
-ghost use Rattle.example_store.specs.AcknowledgedPuts.{Keeps};
 
 /// Runs the worker on a journal. What it has acknowledged stays, whenever a crash comes, where the disk that is given
 /// back is honest.

@@ -1,4 +1,9 @@
 //! The store: each key is in one home block, and each change of it is a handle.
+ghost use Rattle.std.specs.Prelude.{◌≡◌, ◌%◌};
+ghost use Rattle.jb_journal.specs.Client.{IsClient, client_known, client_stops};
+ghost use Rattle.jb_journal.specs.Notes.{KnowsMore};
+ghost use Rattle.example_store.specs.AcknowledgedPuts.{PutsHome, PutsBlock};
+
 use crate::failed::Failed;
 use crate::table::{BYTES, Block, Table};
 use jb_journal::{Client, Clock, Disk, Handle, JournalFault, Origin, TouchFault};
@@ -9,12 +14,7 @@ use std::time;
 /// How many home blocks there are.
 pub const HOMES: u64 = 32;
 
-ghost use Rattle.std.specs.Prelude.{◌≡◌, ◌%◌};
-ghost use Rattle.jb_journal.specs.Client.{IsClient, client_known, client_stops};
-ghost use Rattle.jb_journal.specs.Notes.{KnowsMore};
-ghost use Rattle.example_store.specs.AcknowledgedPuts.{PutsHome, PutsBlock};
-
-/// PutsHome a value at a key. Once this is done a crash at any time leaves it.
+/// Puts a value at a key. Once this is done a crash at any time leaves it.
 ///
 /// # Errors
 /// `NoRoom`, and those of the journal.

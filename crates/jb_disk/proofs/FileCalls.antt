@@ -4,7 +4,7 @@ use Rattle.std.proofs.lemmas.Result.{on_ok_weaker}
 use Rattle.jb_disk.specs.Image.{Image, block, Torn, HasShape}
 use Rattle.jb_disk.specs.Runs.{IsOutside, ReadsRun, WroteRun, TornRun, part}
 use Rattle.jb_disk.specs.Time.{Goes}
-use Rattle.jb_disk.specs.Events.{Event, InBlocks, Makes, Agree, LeftBy, Leaves, LeftFrom, IsHonestFile, NoneAfter, NoneFailed, IsUnfailed, read, write_event, sync_event}
+use Rattle.jb_disk.specs.Events.{Event, Asked, Gave, Flushed, Measured, InBlocks, Makes, Agree, LeftBy, Leaves, LeftFrom, IsHonestFile, NoneAfter, NoneFailed, IsUnfailed}
 use Rattle.jb_disk.specs.Faults.{CountsFault, CountsOne, most_faults}
 use Rattle.jb_disk.specs.Kept.{Kept, OnlyReads}
 use Rattle.jb_disk.specs.RecordLaws.{torn_of_wrote, newest_left}
@@ -46,7 +46,7 @@ wrote_one size place bytes old new long inside wrote =
 module _ {D : Type 0} (size : D → ℕ) (content : ℕ → Image) (events : D → List Event) where
   -- what a crash may leave goes on as the call lets it
   pub goes_event : (step : Image → Image → Type 0) (old new : D) (e : Event) → size new ≡ size old → events new ≡ e ∷ events old
-      → ((c : Image) → LeftBy (size old) e.0 e.1 e.2 e.3 (content (length (events old))) (Leaves (size old) content (events old)) c
+      → ((c : Image) → LeftBy (size old) e (content (length (events old))) (Leaves (size old) content (events old)) c
       → (d : Image) × Leaves (size old) content (events old) d × step d c)
       → Goes (λ d. Leaves (size d) content (events d)) (λ d. length (events d)) (λ d. LeftFrom (size d) content (events d)) step old new
   goes_event step old new e same noted comes = record {
@@ -56,28 +56,38 @@ module _ {D : Type 0} (size : D → ℕ) (content : ℕ → Image) (events : D �
     keeps = λ t c earlier left. rw (same, noted) (inr left);
   }
 
+-- whether a call of the system succeeded
+abbrev answer_of : Event → Bool
+answer_of (Asked at ok bytes) = ok
+answer_of (Gave at ok bytes) = ok
+answer_of (Flushed ok) = ok
+answer_of (Measured len) = true
+
 -- a call that succeeded was no write or sync that failed
-passed-ok : (kind : ℕ) (ok : Bool) (old new : ℕ) → CountsOne ok old new → old < most_faults → new ≡ old → IsUnfailed kind ok
-passed-ok zero ok old new counted few same = tt
-passed-ok (suc kind) true old new counted few same = tt
-passed-ok (suc kind) false old new counted few same = omega (arith, counted, few, same)
+passed-ok : (e : Event) (old new : ℕ) → CountsOne (answer_of e) old new → old < most_faults → new ≡ old → IsUnfailed e
+passed-ok (Asked at ok bytes) old new counted few same = tt
+passed-ok (Gave at true bytes) old new counted few same = tt
+passed-ok (Gave at false bytes) old new counted few same = omega (arith, counted, few, same)
+passed-ok (Flushed true) old new counted few same = tt
+passed-ok (Flushed false) old new counted few same = omega (arith, counted, few, same)
+passed-ok (Measured len) old new counted few same = tt
 
 -- what a call keeps, counts and leaves to be asked
-pub kept_event : {D : Type 0} (size count faults : D → ℕ) (content : ℕ → Image) (events : D → List Event) (old new : D) (r : Result Unit Fault) (kind at : ℕ) (ok : Bool) (bytes : List ℕ)
-    → size new ≡ size old → count new ≡ count old → events new ≡ (kind, at, ok, bytes) ∷ events old → CountsFault r (faults old) (faults new) → CountsOne ok (faults old) (faults new)
+pub kept_event : {D : Type 0} (size count faults : D → ℕ) (content : ℕ → Image) (events : D → List Event) (old new : D) (r : Result Unit Fault) (e : Event)
+    → size new ≡ size old → count new ≡ count old → events new ≡ e ∷ events old → CountsFault r (faults old) (faults new) → CountsOne (answer_of e) (faults old) (faults new)
     → Kept size count faults (λ d. IsHonestFile (size d) (count d) content (events d)) (λ d. NoneFailed (events d)) (λ d. NoneAfter (events d)) (CountsFault r) old new
-kept_event size count faults content events old new r kind at ok bytes same_size same_count noted counted one = record {
+kept_event size count faults content events old new r e same_size same_count noted counted one = record {
   same_size = same_size;
   same_count = same_count;
   was_honest = λ honest. let told = rw (same_size, same_count, noted) at honest in (told.0, told.1.0);
   counted = counted;
   asked = λ few go well. subst NoneAfter (sym noted) go;
-  going = λ few go same. subst NoneFailed (sym noted) (passed-ok kind ok (faults old) (faults new) one few same, go);
+  going = λ few go same. subst NoneFailed (sym noted) (passed-ok e (faults old) (faults new) one few same, go);
 }
 
 -- a read leaves all that could be left, and no write or sync fails by it
 pub reads_event : {D : Type 0} (size : D → ℕ) (content : ℕ → Image) (events : D → List Event) (old new : D) (at : ℕ) (ok : Bool) (bytes : List ℕ)
-    → size new ≡ size old → events new ≡ read at ok bytes ∷ events old
+    → size new ≡ size old → events new ≡ Asked at ok bytes ∷ events old
     → OnlyReads (λ d. Leaves (size d) content (events d)) (λ d. NoneFailed (events d)) old new
 reads_event size content events old new at ok bytes same_size noted = record {
   pending = λ c left. rw (same_size, noted) left;
@@ -100,42 +110,42 @@ module _ (size count : ℕ) (content : ℕ → Image) (older events : List Event
   new = content (length events)
 
   -- what the newest call made
-  made : (kind at : ℕ) (ok : Bool) (bytes : List ℕ) → events ≡ (kind, at, ok, bytes) ∷ older → IsHonestFile size count content events → Makes size kind at ok bytes old new
-  made kind at ok bytes are honest =
-      subst (λ es. Makes size kind at ok bytes old (content (length es))) (sym are) (subst (Agree size content) are honest.1).1
+  made : (e : Event) → events ≡ e ∷ older → IsHonestFile size count content events → Makes size e old new
+  made e are honest =
+      subst (λ es. Makes size e old (content (length es))) (sym are) (subst (Agree size content) are honest.1).1
 
   -- the record before it
   agreed : (e : Event) → events ≡ e ∷ older → IsHonestFile size count content events → Agree size content older
   agreed e are honest = (subst (Agree size content) are honest.1).0
 
-  tears : (at : ℕ) (ok : Bool) (bytes : List ℕ) → ((t : ℕ) → HasShape count size (content t)) → Makes size 1 at ok bytes old new → InBlocks size at bytes (λ place n. TornRun size n place bytes old new)
+  tears : (at : ℕ) (ok : Bool) (bytes : List ℕ) → ((t : ℕ) → HasShape count size (content t)) → Makes size (Gave at ok bytes) old new → InBlocks size at bytes (λ place n. TornRun size n place bytes old new)
   tears at true bytes shapes makes = λ place n here long. torn_of_wrote count size n place bytes old new (shapes (length older)) (shapes (length events)) (makes place n here long)
   tears at false bytes shapes makes = makes
 
   -- a call at a place
   module _ (place at : ℕ) (ok : Bool) (bytes : List ℕ) (here : at ≡ place * size) (honest : IsHonestFile size count content events) where
-    pub found_run : (n : ℕ) (r : Result Unit Fault) → is_ok r ≡ ok → length bytes ≡ size * n → events ≡ read at ok bytes ∷ older → OnOk r (ReadsRun size n place old bytes)
-    found_run n r is long are = on_ok (ReadsRun size n place old bytes) r ok is (λ yes. (rw yes at (made 0 at ok bytes are honest)).1 place n here long)
+    pub found_run : (n : ℕ) (r : Result Unit Fault) → is_ok r ≡ ok → length bytes ≡ size * n → events ≡ Asked at ok bytes ∷ older → OnOk r (ReadsRun size n place old bytes)
+    found_run n r is long are = on_ok (ReadsRun size n place old bytes) r ok is (λ yes. (rw yes at (made (Asked at ok bytes) are honest)).1 place n here long)
 
-    pub found_block : (r : Result Unit Fault) → is_ok r ≡ ok → length bytes ≡ size → events ≡ read at ok bytes ∷ older → OnOk r (bytes ≡ block old place)
+    pub found_block : (r : Result Unit Fault) → is_ok r ≡ ok → length bytes ≡ size → events ≡ Asked at ok bytes ∷ older → OnOk r (bytes ≡ block old place)
     found_block r is long are = on_ok_weaker r (read_one size place old bytes long) (found_run 1 r is (omega (arith, long)) are)
 
-    pub written_block : (r : Result Unit Fault) → is_ok r ≡ ok → length bytes ≡ size → place < count → events ≡ write_event at ok bytes ∷ older → OnOk r (new ≡ set old place bytes)
+    pub written_block : (r : Result Unit Fault) → is_ok r ≡ ok → length bytes ≡ size → place < count → events ≡ Gave at ok bytes ∷ older → OnOk r (new ≡ set old place bytes)
     written_block r is long inside are = on_ok (new ≡ set old place bytes) r ok is
-        (λ yes. wrote_one size place bytes old new long (omega (arith, inside, (honest.0 (length older)).blocks)) ((rw yes at (made 1 at ok bytes are honest)) place 1 here (omega (arith, long))))
+        (λ yes. wrote_one size place bytes old new long (omega (arith, inside, (honest.0 (length older)).blocks)) ((rw yes at (made (Gave at ok bytes) are honest)) place 1 here (omega (arith, long))))
 
-    pub torn_file : (n : ℕ) → length bytes ≡ size * n → events ≡ write_event at ok bytes ∷ older → TornRun size n place bytes old new
-    torn_file n long are = tears at ok bytes honest.0 (made 1 at ok bytes are honest) place n here long
+    pub torn_file : (n : ℕ) → length bytes ≡ size * n → events ≡ Gave at ok bytes ∷ older → TornRun size n place bytes old new
+    torn_file n long are = tears at ok bytes honest.0 (made (Gave at ok bytes) are honest) place n here long
 
-    pub torn_block : length bytes ≡ size → events ≡ write_event at ok bytes ∷ older → Torn place bytes old new
+    pub torn_block : length bytes ≡ size → events ≡ Gave at ok bytes ∷ older → Torn place bytes old new
     torn_block long are = torn_one size place bytes old new long (torn_file 1 (omega (arith, long)) are)
 
   -- what a sync leaves could be left before it
-  comes_synced : (ok : Bool) (before : Image → Type 0) (c : Image) → before old → LeftBy size 2 0 ok [] old before c → (d : Image) × before d × (c ≡ d)
+  comes_synced : (ok : Bool) (before : Image → Type 0) (c : Image) → before old → LeftBy size (Flushed ok) old before c → (d : Image) × before d × (c ≡ d)
   comes_synced true before c stays left = (old, stays, left)
   comes_synced false before c stays left = (c, left, refl)
 
-  pub synced_from : (ok : Bool) (c : Image) → events ≡ sync_event ok ∷ older → IsHonestFile size count content events
-      → LeftBy size 2 0 ok [] old (Leaves size content older) c → (d : Image) × Leaves size content older d × (c ≡ d)
+  pub synced_from : (ok : Bool) (c : Image) → events ≡ Flushed ok ∷ older → IsHonestFile size count content events
+      → LeftBy size (Flushed ok) old (Leaves size content older) c → (d : Image) × Leaves size content older d × (c ≡ d)
   synced_from ok c are honest left =
-      comes_synced ok (Leaves size content older) c (newest_left count size content honest.0 older (agreed (sync_event ok) are honest)) left
+      comes_synced ok (Leaves size content older) c (newest_left count size content honest.0 older (agreed (Flushed ok) are honest)) left

@@ -3,29 +3,27 @@ use Rattle.std.specs.Prelude.{◌≡◌, ◌≤◌, ◌⊎◌, ℕ, zero, suc, �
 use Rattle.jb_disk.specs.Image.{Image, block, HasShape}
 use Rattle.jb_disk.specs.Runs.{ReadsRun, WroteRun, TornRun}
 
--- A call with its answer: which call, an offset in bytes or a length, whether it succeeded, and the bytes that were read or given.
-abbrev pub Event : Type 0
-Event = ℕ × ℕ × Bool × List ℕ
+-- A call of the system with its answer.
+pub data Event : Type 0 where
+  -- bytes were asked for from this offset on, all came or not, and these are the buffer's then
+  Asked : ℕ → Bool → List ℕ → Event
+  -- these bytes were given from this offset on, and all were taken or not
+  Gave : ℕ → Bool → List ℕ → Event
+  -- a sync, which succeeded or not
+  Flushed : Bool → Event
+  -- the file's length in bytes
+  Measured : ℕ → Event
 
--- bytes were asked for from an offset on, and all came or not
-abbrev pub read : ℕ → Bool → List ℕ → Event
-read at ok bytes = (0, at, ok, bytes)
+-- the event of this kind, at an offset or with a length
+abbrev pub event_by : ℕ → ℕ → Bool → List ℕ → Event
+event_by zero at ok bytes = Asked at ok bytes
+event_by (suc zero) at ok bytes = Gave at ok bytes
+event_by (suc (suc zero)) at ok bytes = Flushed ok
+event_by (suc (suc (suc more))) at ok bytes = Measured at
 
--- these bytes were given, and all were taken or not
-abbrev pub write_event : ℕ → Bool → List ℕ → Event
-write_event at ok bytes = (1, at, ok, bytes)
-
--- a sync, which succeeded or not
-abbrev pub sync_event : Bool → Event
-sync_event ok = (2, 0, ok, [])
-
--- the place of the file's end
-abbrev pub measured : ℕ → Event
-measured len = (3, len, true, [])
-
--- the event that these numbers and bytes note
+-- the event that these numbers and bytes note: its kind, its offset or length, and 1 where it succeeded
 abbrev pub event_of : List ℕ → List ℕ → Event
-event_of numbers bytes = (slice_index numbers 0, slice_index numbers 1, slice_index numbers 2 == 1, bytes)
+event_of numbers bytes = event_by (slice_index numbers 0) (slice_index numbers 1) (slice_index numbers 2 == 1) bytes
 
 -- Bytes from an offset on are whole blocks from a place on. Of any other bytes nothing is said.
 abbrev pub InBlocks : ℕ → ℕ → List ℕ → (ℕ → ℕ → Type 0) → Type 0
@@ -38,25 +36,28 @@ pub record SameShape (old new : Image) : Type 0 where
 
 -- What an honest file makes of its content by one call. A read that succeeds gives the content; a write that fails leaves each
 -- sector of its blocks as it was or as it was given.
-abbrev pub Makes : ℕ → ℕ → ℕ → Bool → List ℕ → Image → Image → Type 0
-Makes size zero at true bytes old new = (new ≡ old) × InBlocks size at bytes (λ place n. ReadsRun size n place old bytes)
-Makes size zero at false bytes old new = new ≡ old
-Makes size (suc zero) at true bytes old new = InBlocks size at bytes (λ place n. WroteRun size n place bytes old new)
-Makes size (suc zero) at false bytes old new = InBlocks size at bytes (λ place n. TornRun size n place bytes old new)
-Makes size (suc (suc zero)) at ok bytes old new = new ≡ old
-Makes size (suc (suc (suc more))) at ok bytes old new = (new ≡ old) × (length old ≡ at / size)
+abbrev pub Makes : ℕ → Event → Image → Image → Type 0
+Makes size (Asked at true bytes) old new = (new ≡ old) × InBlocks size at bytes (λ place n. ReadsRun size n place old bytes)
+Makes size (Asked at false bytes) old new = new ≡ old
+Makes size (Gave at true bytes) old new = InBlocks size at bytes (λ place n. WroteRun size n place bytes old new)
+Makes size (Gave at false bytes) old new = InBlocks size at bytes (λ place n. TornRun size n place bytes old new)
+Makes size (Flushed ok) old new = new ≡ old
+Makes size (Measured len) old new = (new ≡ old) × (length old ≡ len / size)
 
--- a read, or a call that succeeded
-abbrev pub IsUnfailed : ℕ → Bool → Type 0
-IsUnfailed zero ok = Unit {0}
-IsUnfailed (suc kind) true = Unit {0}
-IsUnfailed (suc kind) false = ⊥
+-- no write or sync that failed
+abbrev pub IsUnfailed : Event → Type 0
+IsUnfailed (Asked at ok bytes) = Unit {0}
+IsUnfailed (Gave at true bytes) = Unit {0}
+IsUnfailed (Gave at false bytes) = ⊥
+IsUnfailed (Flushed true) = Unit {0}
+IsUnfailed (Flushed false) = ⊥
+IsUnfailed (Measured len) = Unit {0}
 
 -- No write and no sync has failed. After a sync that failed the system may have dropped what was written and still call the next sync a
 -- success, so nothing may be asked then.
 abbrev pub NoneFailed : List Event → Type 0
 NoneFailed [] = Unit {0}
-NoneFailed (e ∷ older) = IsUnfailed e.0 e.2 × NoneFailed older
+NoneFailed (e ∷ older) = IsUnfailed e × NoneFailed older
 
 -- no call came after a write or a sync that failed
 abbrev pub NoneAfter : List Event → Type 0
@@ -65,26 +66,26 @@ NoneAfter (e ∷ older) = NoneFailed older
 
 -- One call noted no more than one event of this kind, with this answer: where it failed it noted one. (A run of blocks is one call of the
 -- system, and the calls of its other blocks note nothing.)
-abbrev pub NotesAtMost : ℕ → Bool → List Event → List Event → Type 0
-NotesAtMost kind ok old new = ((at : ℕ) × (bytes : List ℕ) × (new ≡ (kind, at, ok, bytes) ∷ old)) ⊎ ((ok ≡ true) × (new ≡ old))
+abbrev pub NotesAtMost : (ℕ → Bool → List ℕ → Event) → Bool → List Event → List Event → Type 0
+NotesAtMost kind ok old new = ((at : ℕ) × (bytes : List ℕ) × (new ≡ kind at ok bytes ∷ old)) ⊎ ((ok ≡ true) × (new ≡ old))
 
 -- the answers are those of a file that had this content after each so many calls
 abbrev pub Agree : ℕ → (ℕ → Image) → List Event → Type 0
 Agree size content [] = Unit {0}
-Agree size content (e ∷ older) = Agree size content older × Makes size e.0 e.1 e.2 e.3 (content (length older)) (content (length (e ∷ older)))
+Agree size content (e ∷ older) = Agree size content older × Makes size e (content (length older)) (content (length (e ∷ older)))
 
 -- what a crash may leave after a call, from what it could leave before it and the content
-abbrev pub LeftBy : ℕ → ℕ → ℕ → Bool → List ℕ → Image → (Image → Type 0) → Image → Type 0
-LeftBy size zero at ok bytes now before c = before c
-LeftBy size (suc zero) at ok bytes now before c = (d : Image) × before d × SameShape d c × InBlocks size at bytes (λ place n. TornRun size n place bytes d c)
-LeftBy size (suc (suc zero)) at true bytes now before c = c ≡ now
-LeftBy size (suc (suc zero)) at false bytes now before c = before c
-LeftBy size (suc (suc (suc more))) at ok bytes now before c = before c
+abbrev pub LeftBy : ℕ → Event → Image → (Image → Type 0) → Image → Type 0
+LeftBy size (Asked at ok bytes) now before c = before c
+LeftBy size (Gave at ok bytes) now before c = (d : Image) × before d × SameShape d c × InBlocks size at bytes (λ place n. TornRun size n place bytes d c)
+LeftBy size (Flushed true) now before c = c ≡ now
+LeftBy size (Flushed false) now before c = before c
+LeftBy size (Measured len) now before c = before c
 
 -- What a crash may leave after these calls. At the first of them nothing was pending.
 abbrev pub Leaves : ℕ → (ℕ → Image) → List Event → Image → Type 0
 Leaves size content [] c = c ≡ content 0
-Leaves size content (e ∷ older) c = LeftBy size e.0 e.1 e.2 e.3 (content (length older)) (Leaves size content older) c
+Leaves size content (e ∷ older) c = LeftBy size e (content (length older)) (Leaves size content older) c
 
 -- what a crash may have left when t calls had been made, or later
 abbrev pub LeftFrom : ℕ → (ℕ → Image) → List Event → ℕ → Image → Type 0

@@ -2,7 +2,7 @@
 use Rattle.std.specs.Prelude.{◌≡◌, ◌/◌, ℕ, Bool, List, [], ◌∷◌, length}
 use Rattle.jb_block.specs.Size.{bytes_of}
 use Rattle.jb_block.specs.declared.size.BlockSize.{BlockSize}
-use Rattle.jb_disk.specs.Events.{Event, measured, sync_event, IsHonestFile, NotesAtMost, Leaves, LeftFrom, NoneAfter, NoneFailed}
+use Rattle.jb_disk.specs.Events.{Event, Asked, Gave, Flushed, Measured, IsHonestFile, NotesAtMost, Leaves, LeftFrom, NoneAfter, NoneFailed}
 use Rattle.jb_disk.specs.Faults.{CountsOne}
 use Rattle.jb_disk.specs.Image.{Image}
 use Rattle.jb_disk.specs.OneCall.{Called, Reads, Writes, Syncs}
@@ -17,9 +17,9 @@ UnknownFile = FileDisk Unknown unknown
 
 -- what one call of a disk notes of a file: a sync its one event, with the answer that it gives
 abbrev pub NotesCall : Called → Bool → List Event → List Event → Type 0
-NotesCall (Reads place) ok old new = NotesAtMost 0 ok old new
-NotesCall (Writes place bytes) ok old new = NotesAtMost 1 ok old new
-NotesCall Syncs ok old new = new ≡ sync_event ok ∷ old
+NotesCall (Reads place) ok old new = NotesAtMost Asked ok old new
+NotesCall (Writes place bytes) ok old new = NotesAtMost Gave ok old new
+NotesCall Syncs ok old new = new ≡ Flushed ok ∷ old
 
 module _ {S : Type 0} {start : Ghosts S} where
   -- the size of its blocks
@@ -40,7 +40,7 @@ module _ {S : Type 0} {start : Ghosts S} where
 
   -- the file was asked its length and nothing else, and the disk has the whole blocks of it
   abbrev pub IsMeasured : FileDisk S start → Type 0
-  IsMeasured f = (len : ℕ) × (events_of f ≡ measured len ∷ []) × (count_of f ≡ len / bytes_of (size_of_blocks f))
+  IsMeasured f = (len : ℕ) × (events_of f ≡ Measured len ∷ []) × (count_of f ≡ len / bytes_of (size_of_blocks f))
 
   -- its answers so far are those of an honest file that had the contents of `S`
   abbrev pub IsHonest : FileDisk S start → Type 0

@@ -1,10 +1,10 @@
 -- The laws of a disk, of a record of calls that agrees with some contents.
-use Rattle.std.proofs.Common.{◌≡◌, ◌≤◌, ℕ, zero, suc, Bool, true, false, List, [], ◌∷◌, length, refl, sym, ◌∙◌, subst, inl, inr, ⊎_elim, ap, arith}
+use Rattle.std.proofs.Common.{◌≡◌, ◌≤◌, ℕ, Bool, true, false, List, [], ◌∷◌, length, refl, sym, ◌∙◌, subst, inl, inr, ⊎_elim, ap, arith}
 use Rattle.std.proofs.lemmas.Bool.{cases_lt}
 use Rattle.std.proofs.lemmas.List.{get_or_past}
 use Rattle.jb_disk.specs.Image.{Image, block, sector, HasShape}
 use Rattle.jb_disk.specs.Runs.{WroteRun, TornRun}
-use Rattle.jb_disk.specs.Events.{Event, SameShape, Makes, Agree, LeftBy, Leaves, LeftFrom}
+use Rattle.jb_disk.specs.Events.{Event, Asked, Gave, Flushed, Measured, SameShape, Makes, Agree, LeftBy, Leaves, LeftFrom}
 
 -- ---- shapes
 
@@ -35,24 +35,24 @@ shape_same count size old new shape same = record {
 same_shapes : (count size : ℕ) (old new : Image) → HasShape count size old → HasShape count size new → SameShape old new
 same_shapes count size old new was is = record { count = is.blocks ∙ sym was.blocks; sizes = λ p. same_size count size old new p was is }
 
-newest_by : (count size kind at : ℕ) (ok : Bool) (bytes : List ℕ) (old new : Image) (before : Image → Type 0) → HasShape count size old → HasShape count size new
-    → before old → Makes size kind at ok bytes old new → LeftBy size kind at ok bytes old before new
-newest_by count size zero at true bytes old new before was is stays makes = subst before (sym makes.0) stays
-newest_by count size zero at false bytes old new before was is stays makes = subst before (sym makes) stays
-newest_by count size (suc zero) at true bytes old new before was is stays makes =
+newest_by : (count size : ℕ) (e : Event) (old new : Image) (before : Image → Type 0) → HasShape count size old → HasShape count size new
+    → before old → Makes size e old new → LeftBy size e old before new
+newest_by count size (Asked at true bytes) old new before was is stays makes = subst before (sym makes.0) stays
+newest_by count size (Asked at false bytes) old new before was is stays makes = subst before (sym makes) stays
+newest_by count size (Gave at true bytes) old new before was is stays makes =
     (old, stays, same_shapes count size old new was is, λ place n here long. torn_of_wrote count size n place bytes old new was is (makes place n here long))
-newest_by count size (suc zero) at false bytes old new before was is stays makes = (old, stays, same_shapes count size old new was is, makes)
-newest_by count size (suc (suc zero)) at true bytes old new before was is stays makes = makes
-newest_by count size (suc (suc zero)) at false bytes old new before was is stays makes = subst before (sym makes) stays
-newest_by count size (suc (suc (suc more))) at ok bytes old new before was is stays makes = subst before (sym makes.0) stays
+newest_by count size (Gave at false bytes) old new before was is stays makes = (old, stays, same_shapes count size old new was is, makes)
+newest_by count size (Flushed true) old new before was is stays makes = makes
+newest_by count size (Flushed false) old new before was is stays makes = subst before (sym makes) stays
+newest_by count size (Measured len) old new before was is stays makes = subst before (sym makes.0) stays
 
-shape_by : (count size kind at : ℕ) (ok : Bool) (bytes : List ℕ) (now : Image) (before : Image → Type 0) (c : Image) → HasShape count size now
-    → ((d : Image) → before d → HasShape count size d) → LeftBy size kind at ok bytes now before c → HasShape count size c
-shape_by count size zero at ok bytes now before c shape shapes left = shapes c left
-shape_by count size (suc zero) at ok bytes now before c shape shapes left = shape_same count size left.0 c (shapes left.0 left.1) left.2
-shape_by count size (suc (suc zero)) at true bytes now before c shape shapes left = subst (HasShape count size) (sym left) shape
-shape_by count size (suc (suc zero)) at false bytes now before c shape shapes left = shapes c left
-shape_by count size (suc (suc (suc more))) at ok bytes now before c shape shapes left = shapes c left
+shape_by : (count size : ℕ) (e : Event) (now : Image) (before : Image → Type 0) (c : Image) → HasShape count size now
+    → ((d : Image) → before d → HasShape count size d) → LeftBy size e now before c → HasShape count size c
+shape_by count size (Asked at ok bytes) now before c shape shapes left = shapes c left
+shape_by count size (Gave at ok bytes) now before c shape shapes left = shape_same count size left.0 c (shapes left.0 left.1) left.2
+shape_by count size (Flushed true) now before c shape shapes left = subst (HasShape count size) (sym left) shape
+shape_by count size (Flushed false) now before c shape shapes left = shapes c left
+shape_by count size (Measured len) now before c shape shapes left = shapes c left
 
 -- ---- the laws of a disk
 
@@ -61,14 +61,14 @@ module _ (count size : ℕ) (content : ℕ → Image) (shapes : (t : ℕ) → Ha
   pub newest_left : (events : List Event) → Agree size content events → Leaves size content events (content (length events))
   newest_left [] agree = refl
   newest_left (e ∷ older) agree =
-      newest_by count size e.0 e.1 e.2 e.3 (content (length older)) (content (length (e ∷ older))) (Leaves size content older)
+      newest_by count size e (content (length older)) (content (length (e ∷ older))) (Leaves size content older)
       (shapes (length older)) (shapes (length (e ∷ older))) (newest_left older agree.0) agree.1
 
   -- what a crash may leave has the shape of the disk
   pub left_shape : (events : List Event) (c : Image) → Leaves size content events c → HasShape count size c
   left_shape [] c left = subst (HasShape count size) (sym left) (shapes 0)
   left_shape (e ∷ older) c left =
-      shape_by count size e.0 e.1 e.2 e.3 (content (length older)) (Leaves size content older) c (shapes (length older)) (left_shape older) left
+      shape_by count size e (content (length older)) (Leaves size content older) c (shapes (length older)) (left_shape older) left
 
   -- and what any of the moments might have left
   pub from_shape : (events : List Event) (t : ℕ) (c : Image) → LeftFrom size content events t c → HasShape count size c

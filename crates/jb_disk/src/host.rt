@@ -1,6 +1,6 @@
 //! Each method makes one call of the system, and then notes it with its answer.
 ghost use Rattle.std.specs.Prelude.{◌≡◌, ◌↔◌, ◌==◌, [], ◌∷◌, IsTrue, Ok, IfOk};
-ghost use Rattle.jb_disk.specs.Events.{read, write_event, sync_event, measured};
+ghost use Rattle.jb_disk.specs.Events.{Asked, Gave, Flushed, Measured};
 
 use crate::record::Record;
 use std::fs::File;
@@ -8,11 +8,11 @@ use std::io;
 use std::io::{Seek, SeekFrom};
 use std::os::unix::fs::FileExt;
 
-const READ: u64 = 0;
+const ASKED: u64 = 0;
 
-const WRITTEN: u64 = 1;
+const GAVE: u64 = 1;
 
-const SYNCED: u64 = 2;
+const FLUSHED: u64 = 2;
 
 const MEASURED: u64 = 3;
 
@@ -26,7 +26,7 @@ pub(crate) struct Host {
 impl Host {
     /// Takes a file, and asks for its length: the place of its end.
     pub(crate) fn of(mut file: File) -> io::Result<(Host, u64)>
-        ensures { IfOk result (λ opened. opened.0.log.events ≡ measured opened.1 ∷ []) }
+        ensures { IfOk result (λ opened. opened.0.log.events ≡ Measured opened.1 ∷ []) }
     {
         let len = file.seek(SeekFrom::End(0))?;
         let mut log = Record::new();
@@ -36,32 +36,32 @@ impl Host {
 
     /// Fills the buffer from offset `at` on; tells whether there were as many bytes.
     pub(crate) fn read_at(&mut self, at: u64, buf: &mut [u8]) -> bool
-        ensures { self.new.log.events ≡ read at result buf.new ∷ self.old.log.events }
+        ensures { self.new.log.events ≡ Asked at result buf.new ∷ self.old.log.events }
     {
         let len = buf.len();
         let answer = self.file.read_at(buf, at);
         let whole = is_whole(&answer, len);
-        self.log.note(&[READ, at, as_number(whole)], buf);
+        self.log.note(&[ASKED, at, as_number(whole)], buf);
         whole
     }
 
     /// Writes the bytes from offset `at` on; tells whether all of them were written.
     pub(crate) fn write_at(&mut self, at: u64, bytes: &[u8]) -> bool
-        ensures { self.new.log.events ≡ write_event at result bytes.now ∷ self.old.log.events }
+        ensures { self.new.log.events ≡ Gave at result bytes.now ∷ self.old.log.events }
     {
         let answer = self.file.write_at(bytes, at);
         let whole = is_whole(&answer, bytes.len());
-        self.log.note(&[WRITTEN, at, as_number(whole)], bytes);
+        self.log.note(&[GAVE, at, as_number(whole)], bytes);
         whole
     }
 
     /// Syncs the file; tells whether that succeeded.
     pub(crate) fn sync(&mut self) -> bool
-        ensures { self.new.log.events ≡ sync_event result ∷ self.old.log.events }
+        ensures { self.new.log.events ≡ Flushed result ∷ self.old.log.events }
     {
         let answer = self.file.sync_data();
         let succeeded = answer.is_ok();
-        self.log.note(&[SYNCED, 0, as_number(succeeded)], &[]);
+        self.log.note(&[FLUSHED, 0, as_number(succeeded)], &[]);
         succeeded
     }
 }

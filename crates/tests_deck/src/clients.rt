@@ -10,8 +10,17 @@ use jb_block::{BlockSize, Width};
 use jb_deck::{Deck, Prepared, laws};
 use jb_disk::{Disk, MemoryDisk};
 use jb_handle::Shape;
-use proof_clients::{Failure, Life, Lived, commit_and_close, commit_three, reuse_home, run_lives};
-use tests_support::{Bench, Must, Test, check, check_at, read_at, write_at, zeros};
+use proof_clients::{
+    Failure, Life, Lived, ask_file, commit_and_close, commit_three, reuse_home, run_lives,
+};
+use std::alloc::Global;
+use std::fs;
+use std::fs::File;
+use std::process::Abort;
+use std::rt::Files;
+use tests_support::{
+    Bench, Must, Test, check, check_at, opened, read_at, write_at, write_blocks, zeros,
+};
 
 /// What the handles of a batch for the journal have to fit.
 const SHAPE: Shape = Shape {
@@ -264,4 +273,26 @@ fn check_reuse(test: &impl Bench) {
 #[test]
 fn a_freed_home_is_written_in_its_place(rt: HostRuntime) {
     check_reuse(&By(&rt, rt.alloc()))
+}
+
+/// The file of a journal.
+const NAME: &str = "asked.img";
+
+/// Checks a journal in a file: a batch is committed, a home of it is read, and it is written home.
+fn check_asked<R: Files<File = File> + Abort>(rt: &R, alloc: Global) {
+    let test = By(rt, alloc);
+    write_blocks(&test, rt, &mut new_disk(&test), NAME, 0, 49);
+    let mut buf = [9; 1024];
+    let file = opened(&test, rt, NAME);
+    let first = batch(&test, 0, HANDLES[0]);
+    let asked = ask_file(alloc, file, BlockSize::OneKib, first, STAMP, 1, &mut buf);
+    check(&test, buf[0] == 0x12, "the home that is read");
+    let mut disk = asked.must(&test, "a file is no disk");
+    check_homes(&test, &mut disk, [0x11, 0x12, 0, 0], 0);
+    let _none = fs::remove_file(rt, NAME);
+}
+
+#[test]
+fn a_journal_in_a_file_is_asked(rt: HostRuntime) {
+    check_asked(&rt, rt.alloc())
 }

@@ -1,15 +1,13 @@
 //! Journals in files are recovered where they are opened, and by the clients of proof_clients.
 use crate::checks::{By, FileHost, Host};
 use crate::files::{NAME, fresh};
-use crate::journals::by;
+use crate::journals::{CLOCK, by, formatted};
 use crate::workers::{PAIRS, run_new};
 use jb_disk::Unknown;
-use jb_journal::{BlockSize, Disk, MemoryDisk, RecoverFault, Recovered, open};
-use proof_clients::{recover_file, recover_files};
+use jb_journal::{BlockSize, Disk, MemoryDisk, RecoverFault, Recovered, open, recover};
+use proof_clients::{recover_file, recover_files, run_in_file};
 use std::fs;
-use std::fs::{File, OpenOptions};
-use std::io::Write;
-use tests_support::{Must, Test, check, crashed, read_at};
+use tests_support::{Must, Test, check, crashed, opened, read_at, write_blocks};
 
 /// The file of the homes alone.
 const HOMES: &str = "homes.img";
@@ -29,23 +27,6 @@ fn pending(rt: &impl Host) -> MemoryDisk {
     crashed(&test, &ran.disk, &[])
 }
 
-/// Writes blocks of a disk, from one place on, to a file of this name.
-fn write_blocks(rt: &impl FileHost, disk: &mut impl Disk, name: &str, from: u64, to: u64) {
-    let test = By(rt, rt.alloc());
-    let mut file = File::create(rt, name).must(&test, "a file");
-    let mut block = [0; 1024];
-    for place in from..to {
-        read_at(&test, disk, place, &mut block);
-        file.write_all(&block).must(&test, "a block of a file");
-    }
-}
-
-/// A file that may be read and written.
-fn opened(rt: &impl FileHost, name: &str) -> File {
-    let file = OpenOptions::new().read(true).write(true).open(rt, name);
-    file.must(&By(rt, rt.alloc()), "a file is not opened")
-}
-
 /// Checks the two homes that the worker wrote.
 fn check_homes(test: &impl Test, disk: &mut impl Disk) {
     let mut block = [0; 1024];
@@ -58,7 +39,7 @@ fn check_homes(test: &impl Test, disk: &mut impl Disk) {
 /// Checks that a journal is recovered where it is opened.
 fn check_door(rt: &impl FileHost, disk: &mut impl Disk) {
     let test = By(rt, rt.alloc());
-    write_blocks(rt, disk, NAME, 0, 49);
+    write_blocks(&test, rt, disk, NAME, 0, 49);
     let file = open(rt, NAME, BlockSize::OneKib);
     check_homes(&test, &mut file.must(&test, "a file is not opened"))
 }
@@ -66,8 +47,8 @@ fn check_door(rt: &impl FileHost, disk: &mut impl Disk) {
 /// Checks a journal with its homes in one file.
 fn check_one(rt: &impl FileHost, disk: &mut impl Disk) {
     let test = By(rt, rt.alloc());
-    write_blocks(rt, disk, NAME, 0, 49);
-    let ran = recover_file::<Unknown>(rt.alloc(), opened(rt, NAME), BlockSize::OneKib);
+    write_blocks(&test, rt, disk, NAME, 0, 49);
+    let ran = recover_file::<Unknown>(rt.alloc(), opened(&test, rt, NAME), BlockSize::OneKib);
     let (mut file, found) = ran.must(&test, "a file is no disk");
     check(&test, found == FOUND, "what is recovered of a file");
     check_homes(&test, &mut file)
@@ -76,9 +57,9 @@ fn check_one(rt: &impl FileHost, disk: &mut impl Disk) {
 /// Checks a journal in one file, with its homes in another.
 fn check_two(rt: &impl FileHost, disk: &mut impl Disk) {
     let test = By(rt, rt.alloc());
-    write_blocks(rt, disk, NAME, 0, 33);
-    write_blocks(rt, disk, HOMES, 33, 49);
-    let (journal, homes) = (opened(rt, NAME), opened(rt, HOMES));
+    write_blocks(&test, rt, disk, NAME, 0, 33);
+    write_blocks(&test, rt, disk, HOMES, 33, 49);
+    let (journal, homes) = (opened(&test, rt, NAME), opened(&test, rt, HOMES));
     let ran = recover_files::<Unknown, Unknown>(rt.alloc(), journal, homes, BlockSize::OneKib);
     let (mut files, found) = ran.must(&test, "a file is no disk");
     check(&test, found == FOUND, "what is recovered of two files");
@@ -88,7 +69,7 @@ fn check_two(rt: &impl FileHost, disk: &mut impl Disk) {
 /// Checks two files in the wrong order: the first one has no journal.
 fn check_order(rt: &impl FileHost) {
     let test = By(rt, rt.alloc());
-    let (journal, homes) = (opened(rt, HOMES), opened(rt, NAME));
+    let (journal, homes) = (opened(&test, rt, HOMES), opened(&test, rt, NAME));
     let ran = recover_files::<Unknown, Unknown>(rt.alloc(), journal, homes, BlockSize::OneKib);
     let (_files, found) = ran.must(&test, "a file is no disk");
     let is_refused = matches!(found, Err(RecoverFault::Super(_)));
@@ -109,4 +90,29 @@ fn check_files(rt: &impl FileHost, disk: &mut impl Disk) {
 #[test]
 fn journals_in_files_are_recovered(rt: HostRuntime) {
     check_files(&rt, &mut pending(&rt))
+}
+
+/// Checks a new journal in a file that one worker runs: its handle is acknowledged, and recovered from the file.
+fn check_run<R: Host + FileHost>(rt: &R) {
+    let test = By(rt, rt.alloc());
+    fresh(rt);
+    let mut disk = formatted(&test, BlockSize::OneKib);
+    write_blocks(&test, rt, &mut disk, NAME, 0, 49);
+    let file = opened(&test, rt, NAME);
+    let ran = run_in_file(rt, file, BlockSize::OneKib, CLOCK, by(1), &PAIRS);
+    let mut ran = ran.must(&test, "a journal in a file is not run");
+    check(&test, ran.handles == 1, "how many handles stop");
+    let found = recover(rt.alloc(), &mut ran.disk);
+    check(
+        &test,
+        found == FOUND,
+        "what is recovered of a run in a file",
+    );
+    check_homes(&test, &mut ran.disk);
+    fresh(rt)
+}
+
+#[test]
+fn a_journal_in_a_file_is_run(rt: HostRuntime) {
+    check_run(&rt)
 }

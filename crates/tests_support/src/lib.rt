@@ -1,4 +1,4 @@
-//! What the crates of tests share: what ends a test that fails, blocks made of rows of words, and blocks of a disk.
+//! What the crates of tests share: what ends a test that fails, blocks made of rows of words, blocks of a disk, and disks in files.
 //!
 //! A library has no function that may end the program. So each crate of tests says how its runtime ends a test (a
 //! [`Test`]), and what is here checks by that.
@@ -7,6 +7,7 @@
 mod blocks;
 mod checks;
 mod disks;
+mod files;
 mod seeds;
 
 pub use blocks::{Row, block_of, block_with, put_rows, put_text, put_words};
@@ -16,4 +17,5 @@ pub use checks::{
 pub use disks::{
     crashed, difference, difference_below, read_at, read_block, write_at, write_block, zeros,
 };
+pub use files::{opened, write_blocks};
 pub use seeds::Seed;

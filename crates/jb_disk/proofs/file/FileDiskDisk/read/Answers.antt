@@ -1,6 +1,7 @@
 use Rattle.std.proofs.Common.{◌≡◌, inl, length, refl, rules, subst, sym}
 use Rattle.jb_block.specs.Size.{bytes_of}
 use Rattle.jb_disk.proofs.FileCalls.{found_block, kept_event, reads_event}
+use Rattle.jb_disk.specs.Events.{Asked}
 use Rattle.jb_disk.specs.Faults.{CountsOne}
 use Rattle.jb_disk.specs.File.{NotesCall, count_of, events_of, faults_of, size_of_blocks}
 use Rattle.jb_disk.specs.OneCall.{Reads}
@@ -13,7 +14,7 @@ returns-clause-found g c = λ honest.
 
 pub returns-clause-kept : goal.returns-clause-kept
 returns-clause-kept g c =
-    kept_event (λ d. bytes_of (size_of_blocks d)) count_of faults_of g.S.Start.content events_of c.args.self.now _ c.settle.result 0 c.offset_of-at.result c.read_at-succeeded.result c.read_at-succeeded.new.buf refl refl
+    kept_event (λ d. bytes_of (size_of_blocks d)) count_of faults_of g.S.Start.content events_of c.args.self.now _ c.settle.result (Asked c.offset_of-at.result c.read_at-succeeded.result c.read_at-succeeded.new.buf) refl refl
     c.read_at-succeeded.ensures c.settle.ensures.faults c.settle.ensures.one
 
 pub returns-clause-own : goal.returns-clause-own

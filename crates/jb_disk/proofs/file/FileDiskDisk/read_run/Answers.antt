@@ -2,7 +2,7 @@ use Rattle.std.proofs.Common.{◌≡◌, ◌+◌, ◌*◌, inl, inr, length, ref
 use Rattle.jb_block.specs.Size.{bytes_of}
 use Rattle.jb_disk.specs.OneCall.{Reads}
 use Rattle.jb_disk.specs.Faults.{CountsOne}
-use Rattle.jb_disk.specs.Events.{NotesAtMost}
+use Rattle.jb_disk.specs.Events.{Asked, NotesAtMost}
 use Rattle.jb_disk.specs.File.{IsOneCall, count_of, events_of, faults_of, size_of_blocks}
 use Rattle.jb_disk.proofs.FileCalls.{found_run, kept_event, reads_event}
 use Rattle.jb_disk.proofs.RunReads.{made-once}
@@ -19,8 +19,8 @@ returns-clause-own g c = record {
       let old = c.args.self.now in
       let counted : CountsOne (is_ok c.settle.result) old.faults c.settle.new.faults
       = subst (λ ok. CountsOne ok old.faults c.settle.new.faults) (sym c.settle.ensures.variant) c.settle.ensures.one in
-      let noted : NotesAtMost 0 (is_ok c.settle.result) old.host.log.events c.read_at-succeeded.new.self.log.events
-      = subst (λ ok. NotesAtMost 0 ok old.host.log.events c.read_at-succeeded.new.self.log.events) (sym c.settle.ensures.variant)
+      let noted : NotesAtMost Asked (is_ok c.settle.result) old.host.log.events c.read_at-succeeded.new.self.log.events
+      = subst (λ ok. NotesAtMost Asked ok old.host.log.events c.read_at-succeeded.new.self.log.events) (sym c.settle.ensures.variant)
       (inl (c.offset_of-at.result, c.read_at-succeeded.new.buf, c.read_at-succeeded.ensures)) in
       made-once IsOneCall (λ k. Reads (c.args.place + k)) c.args._blocks old _ (is_ok c.settle.result) c.requires.run.some
       (λ k. record { counted = refl; noted = inr (refl, refl) }) (λ k. record { counted = counted; noted = noted });
@@ -29,5 +29,5 @@ returns-clause-own g c = record {
 
 pub returns-clause-kept : goal.returns-clause-kept
 returns-clause-kept g c =
-    kept_event (λ d. bytes_of (size_of_blocks d)) count_of faults_of g.S.Start.content events_of c.args.self.now _ c.settle.result 0 c.offset_of-at.result c.read_at-succeeded.result c.read_at-succeeded.new.buf refl refl
+    kept_event (λ d. bytes_of (size_of_blocks d)) count_of faults_of g.S.Start.content events_of c.args.self.now _ c.settle.result (Asked c.offset_of-at.result c.read_at-succeeded.result c.read_at-succeeded.new.buf) refl refl
     c.read_at-succeeded.ensures c.settle.ensures.faults c.settle.ensures.one

@@ -1,6 +1,6 @@
 use Rattle.std.proofs.Common.{[], refl, subst, sym}
 use Rattle.jb_block.specs.Size.{bytes_of}
-use Rattle.jb_disk.specs.Events.{sync_event}
+use Rattle.jb_disk.specs.Events.{Flushed}
 use Rattle.jb_disk.specs.File.{NotesCall, count_of, events_of, faults_of, size_of_blocks}
 use Rattle.jb_disk.specs.Image.{Same}
 use Rattle.jb_disk.proofs.FileCalls.{goes_event, kept_event, synced_from}
@@ -12,12 +12,12 @@ pub returns-clause-goes : goal.returns-clause-goes
 returns-clause-goes g c = λ honest.
     let f = c.args.self.now in
     goes_event (λ d. bytes_of (size_of_blocks d)) g.S.Start.content events_of Same f _
-    (sync_event c.sync-succeeded.result) refl c.sync-succeeded.ensures
+    (Flushed c.sync-succeeded.result) refl c.sync-succeeded.ensures
     (λ d left. synced_from (bytes_of f.size) f.blocks g.S.Start.content f.host.log.events c.sync-succeeded.new.self.log.events c.sync-succeeded.result d c.sync-succeeded.ensures honest left)
 
 pub returns-clause-kept : goal.returns-clause-kept
 returns-clause-kept g c =
-    kept_event (λ d. bytes_of (size_of_blocks d)) count_of faults_of g.S.Start.content events_of c.args.self.now _ c.settle.result 2 0 c.sync-succeeded.result [] refl refl
+    kept_event (λ d. bytes_of (size_of_blocks d)) count_of faults_of g.S.Start.content events_of c.args.self.now _ c.settle.result (Flushed c.sync-succeeded.result) refl refl
     c.sync-succeeded.ensures c.settle.ensures.faults c.settle.ensures.one
 
 pub returns-clause-own : goal.returns-clause-own

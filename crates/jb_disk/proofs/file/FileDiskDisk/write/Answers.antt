@@ -1,6 +1,6 @@
 use Rattle.std.proofs.Common.{◌≡◌, ◌*◌, inl, length, refl, arith, subst, sym}
 use Rattle.jb_block.specs.Size.{bytes_of}
-use Rattle.jb_disk.specs.Events.{write_event}
+use Rattle.jb_disk.specs.Events.{Gave}
 use Rattle.jb_disk.specs.File.{NotesCall, count_of, events_of, faults_of, size_of_blocks}
 use Rattle.jb_disk.specs.Image.{Torn}
 use Rattle.jb_disk.proofs.FileCalls.{goes_event, kept_event, torn_block, torn_one, written_block}
@@ -21,12 +21,12 @@ returns-clause-goes g c = λ honest.
     let here = c.offset_of-at.ensures in
     let one : length c.args.bytes.now ≡ bytes_of f.size * 1 = omega (arith, c.requires.block) in
     goes_event (λ d. bytes_of (size_of_blocks d)) g.S.Start.content events_of (Torn c.args.place c.args.bytes.now) f _
-    (write_event c.offset_of-at.result c.write_at-succeeded.result c.args.bytes.now) refl c.write_at-succeeded.ensures
+    (Gave c.offset_of-at.result c.write_at-succeeded.result c.args.bytes.now) refl c.write_at-succeeded.ensures
     (λ d left. (left.0, left.1, torn_one (bytes_of f.size) c.args.place c.args.bytes.now left.0 d c.requires.block (left.3 c.args.place 1 here one)))
 
 pub returns-clause-kept : goal.returns-clause-kept
 returns-clause-kept g c =
-    kept_event (λ d. bytes_of (size_of_blocks d)) count_of faults_of g.S.Start.content events_of c.args.self.now _ c.settle.result 1 c.offset_of-at.result c.write_at-succeeded.result c.args.bytes.now refl refl
+    kept_event (λ d. bytes_of (size_of_blocks d)) count_of faults_of g.S.Start.content events_of c.args.self.now _ c.settle.result (Gave c.offset_of-at.result c.write_at-succeeded.result c.args.bytes.now) refl refl
     c.write_at-succeeded.ensures c.settle.ensures.faults c.settle.ensures.one
 
 pub returns-clause-own : goal.returns-clause-own
