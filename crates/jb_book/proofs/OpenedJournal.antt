@@ -24,7 +24,7 @@ use Rattle.jb_deck.specs.declared.fault.OpenFault.{OpenFault}
 use Rattle.jb_log.specs.declared.log.Log.{Log}
 use Rattle.jb_deck.specs.Since.{LiveOf, deck_homes}
 use Rattle.jb_book.specs.Origin.{Begun, own_on, revoking_in}
-use Rattle.jb_book.specs.OpenDisk.{WasOpened}
+use Rattle.jb_book.specs.OpenDisk.{WasOpenedAs}
 use Rattle.jb_book.specs.Since.{IsBegunOn, IsCosted, IsSince, NoneAfterAtDesk}
 use Rattle.jb_book.proofs.MarksLast.{first-none}
 use Rattle.jb_deck.proofs.OpenedJournal.{revoking-same}
@@ -53,8 +53,8 @@ module _ {D : Type 0} (G : Ghosts D) (disk : D) where
       (λ refused. RefusesOpen (G.size disk) (G.count disk) (G.newest disk) (G.newest refused.0) refused.1)
 
   pub open-opened : (r : Opened) → KeptOn G (CountsOpen r) disk (disk_in r) → OpensAs r
-      → IfOk r (λ deck. (shape : Shape) → IsShapeOf deck.log.sb (G.count deck.disk) shape → WasOpened G disk shape)
-  open-opened (Ok deck) kept opens = λ shape journal. record { deck = deck; kept = kept; opens = opens; journal = journal }
+      → IfOk r (λ deck. (shape : Shape) → IsShapeOf deck.log.sb (G.count deck.disk) shape → WasOpenedAs G disk shape deck)
+  open-opened (Ok deck) kept opens = λ shape journal. record { kept = kept; opens = opens; journal = journal }
   open-opened (Err refused) kept opens = tt
 
   pub open-since : ((d : D) (t : ℕ) (c : Image) → G.honest d → t ≤ G.moment d → G.may_leave d c → G.left_since d t c)

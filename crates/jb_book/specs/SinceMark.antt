@@ -58,6 +58,16 @@ pub record EndsMarked {D : Type 0} (G : Ghosts D) (b : Begun) (stops : List (Lis
   pub knows : IsFirstPart seen ends.log
   pub last : All (Lasts G b ends.since.given ends.deck) marks
 
+-- How a desk ends, whatever its seats have left: there is one history of stops, which begins with what was seen of it, the journal on the disk was given the first handles of
+-- this history, and each of the marks lasts
+pub record EndsSeen {D : Type 0} (G : Ghosts D) (b : Begun) (disk : D) (seen : List WordMap) (marks : List (OpenDeck D)) : Type 0 where
+  pub log : List WordMap
+  pub knows : IsFirstPart seen log
+  pub deck : OpenDeck D
+  pub same_disk : deck.disk ≡ disk
+  pub since : IsSinceOf G b (IsStop b log) deck
+  pub last : All (Lasts G b since.given deck) marks
+
 -- ---- what follows for a ticket that was shown
 
 -- The handle with the ticket stays: there is one mark among these, and a crash at any moment since it leaves the handles of the one history that the seats

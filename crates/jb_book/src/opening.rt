@@ -2,7 +2,7 @@
 ghost use Rattle.std.specs.Prelude.{◌≡◌, [], false, IfOk, IfErr};
 ghost use Rattle.jb_deck.specs.Deck.{IsShapeOf};
 ghost use Rattle.jb_handle.specs.declared.shape.Shape.{Shape as ShapeValue};
-ghost use Rattle.jb_book.specs.OpenDisk.{NotOpened, WasOpened};
+ghost use Rattle.jb_book.specs.OpenDisk.{NotOpened, WasOpenedAs};
 ghost use Rattle.jb_book.specs.Since.{IsBegunOn, IsSince};
 
 use crate::Origin;
@@ -18,7 +18,7 @@ use std::alloc::Global;
 pub fn open<D: Disk, H: Origin>(alloc: Global, disk: D) -> Result<Deck<D>, (D, OpenFault)>
     requires { IsBegunOn D.Disk H.begun disk }
     ensures opened { IfOk result (λ deck. (shape : ShapeValue) → IsShapeOf deck.log.sb (D.count deck.disk) shape
-        → WasOpened D.Disk disk shape) }
+        → WasOpenedAs D.Disk disk shape deck) }
     ensures new { IfOk result (λ deck. (deck.trail ≡ []) × (deck.aborted ≡ false)) }
     ensures since { IfOk result (IsSince D.Disk H.begun) }
     ensures refused { IfErr result (λ back. NotOpened D.Disk disk back.0 back.1) }

@@ -6,6 +6,8 @@ use Rattle.jb_desk.specs.declared.seat.Left.{Left}
 use Rattle.jb_desk.specs.declared.queue_state.QueueState.{QueueState}
 use Rattle.jb_book.specs.JournalValue.{Worked}
 use Rattle.jb_book.specs.Marks.{SeesSame}
+use Rattle.jb_book.specs.Origin.{Begun}
+use Rattle.jb_book.specs.SinceMark.{EndsSeen}
 use Rattle.jb_book.specs.declared.sights.Sights.{Sights}
 use Rattle.jb_disk.specs.declared.disk.Disk.{Ghosts as Disks}
 use Rattle.jb_book.specs.declared.origin.Origin.{Ghosts}
@@ -14,12 +16,12 @@ use Rattle.jb_desk.specs.declared.desk.Desk.{Desk}
 use Rattle.jb_desk.specs.declared.desk.closing.CloseFault.{CloseFault}
 use Rattle.jb_desk.specs.declared.desk.closing.CloseFault.TheVariants.{SeatsOut, TrailsDiffer}
 
--- the same desk, all that the seats left and what was seen; or a journal and entries that are not its trail
-abbrev pub IsNotClosed : {D C H N : Type 0} {Q : Disks D} {O : Ghosts H} {P : Places H} → Desk D C H N Q O P → Vec (Left H N O P) → Sights D H → CloseFault D C H N Q O P → Type 0
-IsNotClosed desk lefts seen (SeatsOut back kept sights) = (desk_id back ≡ desk_id desk) × (shape_in back ≡ shape_in desk) × (kept ≡ lefts) × SeesSame seen sights
-IsNotClosed desk lefts seen (TrailsDiffer deck clock book) = deck.trail ≢ book.items
+-- the same desk, all that the seats left and what was seen; or a journal that ends as a desk does whose seats are not asked, and entries that are not its trail
+abbrev pub IsNotClosed : {D C H N : Type 0} {Q : Disks D} {O : Ghosts H} {P : Places H} → Disks D → Begun → Desk D C H N Q O P → Vec (Left H N O P) → Sights D H → CloseFault D C H N Q O P → Type 0
+IsNotClosed G b desk lefts seen (SeatsOut back kept sights) = (desk_id back ≡ desk_id desk) × (shape_in back ≡ shape_in desk) × (kept ≡ lefts) × SeesSame seen sights
+IsNotClosed G b desk lefts seen (TrailsDiffer deck clock book) = (deck.trail ≢ book.items) × EndsSeen G b deck.disk seen.stops seen.marks
 
 -- the journal and the book of what the locks guarded, which have settled different groups
-abbrev pub DiffersAs : {D C H N : Type 0} {Q : Disks D} {O : Ghosts H} {P : Places H} → QueueState D H N Q O P → Worked D C → CloseFault D C H N Q O P → Type 0
-DiffersAs counter works (SeatsOut back kept sights) = ⊥
-DiffersAs counter works (TrailsDiffer deck clock book) = (deck ≡ works.deck) × (clock ≡ works.clock) × (book.items ≡ counter.register.book.trail) × (deck.trail ≢ book.items)
+abbrev pub DiffersAs : {D C H N : Type 0} {Q : Disks D} {O : Ghosts H} {P : Places H} → Disks D → Begun → QueueState D H N Q O P → Worked D C → Sights D H → CloseFault D C H N Q O P → Type 0
+DiffersAs G b counter works seen (SeatsOut back kept sights) = ⊥
+DiffersAs G b counter works seen (TrailsDiffer deck clock book) = (deck ≡ works.deck) × (clock ≡ works.clock) × (book.items ≡ counter.register.book.trail) × (deck.trail ≢ book.items) × EndsSeen G b deck.disk seen.stops seen.marks

@@ -23,6 +23,8 @@ use Rattle.jb_journal.specs.Client.{AreHonest, known_in}
 use Rattle.jb_journal.specs.Notes.{Known, KnownLasts, Stop, changed_by}
 use Rattle.jb_journal.specs.declared.counted.CountedLeft.{CountedLeft}
 use Rattle.jb_journal.specs.declared.counted.CountedSeat.{CountedSeat}
+use Rattle.jb_journal.specs.declared.fault.NotDurable.{NotDurable}
+use Rattle.jb_journal.specs.declared.fault.NotDurable.TheVariants.{NotSettled, NotHome}
 use Rattle.jb_journal.specs.declared.ran.Ran.{Ran}
 use Rattle.jb_journal.specs.declared.threads.Threaded.{Threaded}
 use Rattle.jb_journal.specs.declared.threads.Worked.{Worked}
@@ -63,17 +65,28 @@ module _ {T D H N : Type 0} {O : Ghosts H} {P : Places H} where
   abbrev pub HasAllSeen : Sights D H → Worked T D H N O P → Type 0
   HasAllSeen seen w = SeesMore w.seen seen
 
-  -- each of so many workers has answered what it may, or had no seat
+  -- the worker was not called
+  abbrev pub HasNotWorked : Worked T D H N O P → Type 0
+  HasNotWorked w = w.answer ≡ None
+
+  -- the worker at this place of so many has answered what it may, if it was called
+  abbrev pub HasWorked : Disks D → (Type 0 → ℕ → ℕ → List Stop → Known → T → Type 0) → ℕ → ℕ → Worked T D H N O P → Type 0
+  HasWorked G may workers at w = IfSome (answer_of w) (may (AreHonest G (marks_of_worked w)) workers at (stops_of_worked w) (known_of_worked G.moment w))
+
+  -- each of so many workers has
   pub record HaveWorked (G : Disks D) (may : Type 0 → ℕ → ℕ → List Stop → Known → T → Type 0) (workers : ℕ) (ran : List (Worked T D H N O P)) : Type 0 where
     pub number : length ran ≡ workers
-    pub each : (at : ℕ) (d : Worked T D H N O P) → at < workers
-        → IfSome (answer_of (slice_index_or ran at d))
-        (may (AreHonest G (marks_of_worked (slice_index_or ran at d))) workers at (stops_of_worked (slice_index_or ran at d)) (known_of_worked G.moment (slice_index_or ran at d)))
+    pub each : (at : ℕ) (d : Worked T D H N O P) → at < workers → HasWorked G may workers at (slice_index_or ran at d)
 
   -- the workers have answered, and the committer has stopped no handle
   pub record HasThreaded (G : Disks D) (may : Type 0 → ℕ → ℕ → List Stop → Known → T → Type 0) (workers : ℕ) (ran : Threaded T D H N O P) : Type 0 where
     pub worked : HaveWorked G may workers ran.workers.items
-    pub committed : made_left ran.committer.left ≡ []
+    pub committed : stops_left_by ran.committer ≡ []
+
+-- the handles that stopped with the committer's seat, which has left, where there was one
+abbrev pub committed_stops : {H N : Type 0} {O : Ghosts H} {P : Places H} → Option (CountedLeft H N O P × Ended) → List Stop
+committed_stops None = []
+committed_stops (Some committed) = made_left committed.0.left
 
 -- a seat that was there has left, with what it stopped
 abbrev pub HasLeft : {H N : Type 0} {O : Ghosts H} {P : Places H} → Option (CountedSeat H N O P) → Option (CountedLeft H N O P × Ended) → Type 0
@@ -101,6 +114,21 @@ pub record EndsRun {T D : Type 0} (checkpoint : Bool) (ran : Ran T D) : Type 0 w
 -- all handles that stopped are settled
 abbrev pub AllSettled : {T D : Type 0} → Ran T D → Type 0
 AllSettled ran = ran.settled ≡ ran.handles
+
+-- where the journal has not failed with so many blocks of its log in use, all is home if there was a checkpointer
+abbrev pub IsWrittenHome : Option ℕ → Option Ended → Type 0
+IsWrittenHome None checkpoint = ⊥
+IsWrittenHome (Some blocks) None = Unit {0}
+IsWrittenHome (Some blocks) (Some ended) = blocks ≡ 0
+
+-- the journal has not failed, and all is home if there was a checkpointer
+abbrev pub IsDoneAtHome : {T D : Type 0} → Ran T D → Type 0
+IsDoneAtHome ran = IsWrittenHome ran.in_log ran.checkpoint
+
+-- why what a run leaves is not durable
+abbrev pub IsNotDurable : {T D : Type 0} → Ran T D → NotDurable → Type 0
+IsNotDurable ran (NotSettled handles settled) = (handles ≡ ran.handles) × (settled ≡ ran.settled) × (AllSettled ran → ⊥)
+IsNotDurable ran NotHome = AllSettled ran × (IsDoneAtHome ran → ⊥)
 
 -- What was run: there are the handles that each worker's client has stopped, and what it knew and had seen of the journal, with which it answered what it may. The handles
 -- are all of one history, of as many as are reported, and each is there once; the home blocks that they changed, each handle's added up, are as many as are reported. The

@@ -1,16 +1,24 @@
 //! What has stopped is committed.
 ghost use Rattle.std.specs.Prelude.{◌≡◌, None, IfSome};
 ghost use Rattle.jb_desk.specs.Desks.{desk_id};
-ghost use Rattle.jb_desk.specs.Seats.{made_by, made_left, desk_of};
+ghost use Rattle.jb_desk.specs.Rounds.{seat_of};
+ghost use Rattle.jb_desk.specs.Seats.{KeepsSeat, made_by, made_left, desk_of};
 ghost use Rattle.jb_journal.specs.Run.{HasLeft};
 
 use crate::counted::{CountedLeft, CountedSeat};
 use crate::gate::Gate;
-use jb_desk::{Delay, Desk, Ended, Origin, Retired};
+use jb_desk::{Committer, Delay, Desk, Ended, Origin, Retired};
 use jb_disk::{Clock, Disk};
 use std::sync::Wait;
 use std::sync::ledger::Ledger;
-use std::time;
+use std::time::Duration;
+use std::{thread, time};
+
+/// How often a batch is tried for which there is no memory.
+const TRIES: u32 = 100;
+
+/// How long a committer waits before it tries such a batch again, in milliseconds.
+const PAUSE: u64 = 10;
 
 /// Commits, each round after the delay, until the desk is over or a round does not end well, and then leaves; a batch
 /// that could not be committed is given up at once, so that nobody waits for it.
@@ -24,12 +32,36 @@ pub(crate) fn commit_all<D: Disk, C: Clock, R: Wait + time::Clock, H: Origin, N:
     ensures { made_left result.0.left ≡ made_by seat.seat }
 {
     let CountedSeat { seat } = seat;
-    let (committer, ended) = desk.run_committer_after(rt, desk.committer(seat), delay);
+    let (committer, ended) = commit_on(rt, desk, delay, desk.committer(seat));
     let Retired { seat, lost: _ } = match desk.retire(rt, committer) {
         Ok(left) => left,
         Err(committer) => desk.give_up(rt, committer),
     };
     (CountedSeat { seat }.leave(rt, desk), ended)
+}
+
+/// Commits, each round after the delay, until the desk is over or a round does not end well. Where there is no memory
+/// for a batch, this is held, and tried again for a second, so that a journal does not fail as memory is short for a
+/// moment.
+fn commit_on<D: Disk, C: Clock, R: Wait + time::Clock, H: Origin, N: Ledger>(
+    rt: &R,
+    desk: &Desk<D, C, H, N>,
+    delay: Delay,
+    committer: Committer<H, N>,
+) -> (Committer<H, N>, Ended)
+    requires { desk_of (seat_of committer) ≡ desk_id desk.now }
+    ensures { KeepsSeat (seat_of committer) (seat_of result.0) }
+{
+    let mut committer = committer;
+    for _ in 0..TRIES {
+        let (next, ended) = desk.run_committer_after(rt, committer, delay);
+        if ended != Ended::Memory {
+            return (next, ended);
+        }
+        committer = next;
+        thread::sleep(rt, Duration::from_millis(PAUSE));
+    }
+    (committer, Ended::Memory)
 }
 
 /// The same with a seat that was taken before, as a desk that is shut gives none; `None` where there is none. Comes to

@@ -1,5 +1,4 @@
 //! Why a handle is not stopped, a home not read, and a journal not run.
-use jb_block::Memory;
 use jb_deck::OpenFault;
 use jb_desk::BeginFault;
 use jb_recover::PeekFault;
@@ -34,38 +33,35 @@ pub enum RunFault {
     /// The journal was not opened, for this.
     #[error(transparent)]
     Open(OpenFault),
-    /// There was no memory for the desk, a thread's answer or what the threads leave. Handles may have been committed
-    /// then, or the disk may have failed: the program is to end, and to recover the journal when it is started anew.
-    #[error("out of memory; start the program anew and recover the journal")]
+    /// There was no memory for the desk and for what the threads leave: no worker was called, and nothing was done on
+    /// the disk but to open the journal. It is run again once there is memory.
+    #[error("out of memory; no worker was called")]
     Memory,
     /// The system makes no thread more, so that each worker had one of its own: no worker was called.
     #[error("the system makes no thread more; run with fewer workers")]
     NoThread,
-    /// The desk's sums do not agree, or its journal has another shape at the end, which cannot happen.
+    /// The desk's sums do not agree, a worker has not answered, or the journal has another shape at the end, which
+    /// cannot happen. What was committed stands.
     #[error("the journal's accounts do not agree")]
     Accounts,
 }
 
-impl From<Memory> for RunFault {
-    ghost use Rattle.std.specs.Prelude.{◌≡◌};
-    ghost use Rattle.jb_journal.specs.declared.fault.RunFault.TheVariants.{Memory as OutOfMemory};
-
-    ghost from_gives = { λ _ fault. fault ≡ OutOfMemory };
-
-    fn from(_: Memory) -> RunFault {
-        RunFault::Memory
-    }
-}
-
-/// Handles that stopped were not all settled: the others may be lost. The disk may have failed: the program is to end,
-/// and to recover the journal when it is started anew.
+/// Why what a run leaves is not durable. The disk may have failed: the program is to end, and to recover the journal
+/// when it is started anew.
 #[derive(Clone, Copy, Debug, PartialEq, Eq, Error)]
-#[error("only {settled} of {handles} handles are settled; start the program anew and recover the journal")]
-pub struct NotSettled {
-    /// How many handles stopped.
-    pub handles: u64,
-    /// How many of them, the first by their tickets, are settled.
-    pub settled: u64,
+pub enum NotDurable {
+    /// Handles that stopped were not all settled: the others may be lost.
+    #[error("only {settled} of {handles} handles are settled; start the program anew and recover the journal")]
+    NotSettled {
+        /// How many handles stopped.
+        handles: u64,
+        /// How many of them, the first by their tickets, are settled.
+        settled: u64,
+    },
+    /// All are settled, but the journal has failed since, or not all of them are home though that was asked for: the
+    /// homes on the disk are not to be read before it is recovered.
+    #[error("not all handles are home; start the program anew and recover the journal")]
+    NotHome,
 }
 
 /// Why a home block was not read from a journal that is not open.

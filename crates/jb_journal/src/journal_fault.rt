@@ -1,5 +1,5 @@
 //! What may go wrong in any call of the journal.
-use crate::fault::{HandleFault, HomeFault, NotSettled, RunFault};
+use crate::fault::{HandleFault, HomeFault, NotDurable, RunFault};
 use jb_block::Memory;
 use jb_deck::ReadHomeFault;
 use jb_desk::WaitFault;
@@ -31,9 +31,9 @@ pub enum JournalFault {
     /// A journal was not run.
     #[error(transparent)]
     Run(#[from] RunFault),
-    /// Handles that stopped may be lost.
+    /// Handles that stopped may be lost, or are not home.
     #[error(transparent)]
-    NotSettled(#[from] NotSettled),
+    NotDurable(#[from] NotDurable),
     /// A handle did not stop.
     #[error(transparent)]
     Change(#[from] HandleFault<TouchFault>),

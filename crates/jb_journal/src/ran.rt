@@ -1,7 +1,7 @@
 //! What a run leaves.
 ghost use Rattle.std.specs.Prelude.{◌≡◌, ◌↔◌, IfErr, IfOk, IsOk};
 
-use crate::fault::NotSettled;
+use crate::fault::NotDurable;
 use jb_deck::Entry;
 use jb_desk::Ended;
 
@@ -32,28 +32,36 @@ pub struct Ran<T, D> {
 }
 
 impl<T: Drop, D: Drop> Ran<T, D> {
-    ghost use Rattle.jb_journal.specs.Run.{AllSettled};
+    ghost use Rattle.jb_journal.specs.Run.{AllSettled, IsDoneAtHome, IsNotDurable};
 
-    /// The disk, and what each worker answered, where all that stopped is settled: it stands after a crash.
+    /// The disk, and what each worker answered, where all that stopped is settled: it stands after a crash; and the
+    /// journal has not failed. Where there was a checkpointer, all is home, too.
     ///
     /// # Errors
-    /// `NotSettled` where the journal has failed, memory ran out or no transaction number was left before that: the
-    /// last handles may be lost, also where their workers answered that all was well.
-    pub fn durable(self) -> Result<(D, Vec<T>), NotSettled>
-        ensures settled { IsOk result ↔ AllSettled self }
+    /// - `NotSettled` where the journal has failed, memory ran out or no transaction number was left before all was
+    ///   settled: the last handles may be lost, also where their workers answered that all was well.
+    /// - Otherwise `NotHome` where the journal has failed, or there was a checkpointer and not all is home.
+    pub fn durable(self) -> Result<(D, Vec<T>), NotDurable>
         ensures given { IfOk result (λ given. (given.0 ≡ self.disk) × (given.1 ≡ self.answers)) }
-        ensures lost { IfErr result (λ fault. (fault.handles ≡ self.handles) × (fault.settled ≡ self.settled)) }
+        ensures durable { IsOk result ↔ (AllSettled self × IsDoneAtHome self) }
+        ensures refused { IfErr result (IsNotDurable self) }
     {
         let Ran {
             disk,
             answers,
             handles,
             settled,
+            in_log,
+            checkpoint,
             ..
         } = self;
         if settled != handles {
-            return Err(NotSettled { handles, settled });
+            return Err(NotDurable::NotSettled { handles, settled });
         }
-        Ok((disk, answers))
+        match in_log {
+            None => Err(NotDurable::NotHome),
+            Some(blocks) if blocks > 0 && checkpoint.is_some() => Err(NotDurable::NotHome),
+            Some(_) => Ok((disk, answers)),
+        }
     }
 }

@@ -6,16 +6,17 @@ ghost use Rattle.jb_desk.specs.History.{history_in};
 ghost use Rattle.jb_book.specs.Since.{EndsSince, IsBegunOn, IsSince};
 ghost use Rattle.jb_handle.specs.Word.{WordMap};
 ghost use Rattle.jb_board.specs.History.{history_id};
-ghost use Rattle.jb_journal.specs.RunFaults.{HasNoAnswer, RefusesRun};
+ghost use Rattle.jb_journal.specs.Gather.{IsRoomFor};
+ghost use Rattle.jb_journal.specs.RunFaults.{IsNotRun, StopsAtDesk, StopsRun};
 ghost use Rattle.jb_journal.specs.Run.{EndsRun, RanAll, RanOn};
 ghost use Rattle.jb_journal.specs.Start.{started_on};
-ghost use Rattle.jb_journal.specs.declared.fault.RunFault.TheVariants.{NoThread};
-ghost use Rattle.jb_journal.specs.declared.options.Commits.TheVariants.{Meanwhile};
 
 use crate::closing::close;
 use crate::fault::RunFault;
+use crate::not_run::NotRun;
 use crate::options::Options;
 use crate::ran::Ran;
+use crate::room::{Room, places_of};
 use crate::thread_results::ThreadResults;
 use crate::threads::run_all;
 use crate::worker::Worker;
@@ -40,20 +41,21 @@ const PARTS: u64 = (1 << 61) + 1;
 /// journal is opened again. No call of the disk comes after a write or a sync that failed, if none had failed before.
 ///
 /// # Errors
-/// - `Open` where the journal was not opened, and nothing ran. The disk is lost: what is said of it holds of some disk
-///   that this one has become.
-/// - `Memory` where there was none for the desk, a thread's answer or what the threads leave; handles may have been
-///   committed then, or the disk may have failed.
+/// With the disk, on which nothing is destroyed:
+/// - `Open` where the journal was not opened, and nothing ran.
+/// - `Memory` where there was none for the desk or for what the threads leave: no worker was called, and nothing was
+///   done but to open the journal. Once a worker was called no run ends so.
 /// - `NoThread` where the system makes no thread for each worker, for what commits and for what writes home within ten
-///   seconds: no worker was called. So only with `Commits::Meanwhile`.
-/// - `Accounts` where the desk's sums do not agree, or its journal has another shape at the end, which cannot happen.
+///   seconds: no worker was called, and no handle has stopped. So only with `Commits::Meanwhile`.
+/// - `Accounts` where the desk's sums do not agree, a worker has not answered, or the journal has another shape at the
+///   end, which cannot happen. What each client knew to be committed stands then, too.
 pub fn run<
     T: Drop + Send,
     W: Worker<T> + Sync,
     D: Disk + Drop + Send,
     C: Clock + Drop + Send,
     R: AllocGlobal + Threads + Wait + time::Clock + Sync,
->(rt: &R, disk: D, clock: C, options: Options, worker: &W) -> Result<Ran<T, D>, RunFault>
+>(rt: &R, disk: D, clock: C, options: Options, worker: &W) -> Result<Ran<T, D>, NotRun<T, D>>
     requires workers { (1 ≤ options.workers) × (options.workers ≤ 64) }
     ensures ran { IfOk result (RanOn D.Disk disk (started_on D.Disk disk)
         (W.answers worker.now (started_on D.Disk disk)) options.workers) }
@@ -61,8 +63,10 @@ pub fn run<
     ensures since { IfOk result (λ ran. EndsSince D.Disk (started_on D.Disk disk) ran.disk ran.trail.items) }
     ensures asked { IfOk result (λ ran. D.well_asked disk → D.may_go_on disk → D.faults ran.disk < most_faults
         → D.well_asked ran.disk) }
-    ensures refused { IfErr result (RefusesRun D.Disk disk) }
-    ensures threads { IfErr result (λ fault. fault ≡ NoThread → options.commits ≡ Meanwhile) }
+    ensures asked_not_run { IfErr result (λ back. D.well_asked disk → D.may_go_on disk
+        → D.faults back.disk < most_faults → D.well_asked back.disk) }
+    ensures refused { IfErr result (IsNotRun D.Disk disk (started_on D.Disk disk) options.commits
+        (W.answers worker.now (started_on D.Disk disk)) options.workers) }
 {
     run_on::<T, W, D, C, R, Brand>(rt, rt.alloc(), disk, clock, options, worker)
 }
@@ -85,22 +89,22 @@ pub fn run_on<
     clock: C,
     options: Options,
     worker: &W,
-) -> Result<Ran<T, D>, RunFault>
+) -> Result<Ran<T, D>, NotRun<T, D>>
     requires workers { (1 ≤ options.workers) × (options.workers ≤ 64) }
     requires begun { IsBegunOn D.Disk H.begun disk }
     requires any { (words : WordMap) → H.begun.stops words }
     ensures ran { IfOk result (RanOn D.Disk disk H.begun (W.answers worker.now H.begun) options.workers) }
     ensures ends { IfOk result (EndsRun options.checkpoint) }
     ensures since { IfOk result (λ ran. EndsSince D.Disk H.begun ran.disk ran.trail.items) }
-    ensures refused { IfErr result (RefusesRun D.Disk disk) }
-    ensures threads { IfErr result (λ fault. fault ≡ NoThread → options.commits ≡ Meanwhile) }
+    ensures refused { IfErr result (IsNotRun D.Disk disk H.begun options.commits (W.answers worker.now H.begun)
+        options.workers) }
 {
     match jb_desk::open::<D, H>(alloc, disk) {
         Ok(deck) => {
             let shape = deck.shape();
             run_deck::<T, W, D, C, R, H>(rt, alloc, deck, shape, clock, options, worker)
         }
-        Err((_, fault)) => Err(RunFault::Open(fault)),
+        Err((disk, fault)) => Err(NotRun::of(alloc, disk, RunFault::Open(fault))),
     }
 }
 
@@ -120,18 +124,19 @@ fn run_deck<
     clock: C,
     options: Options,
     worker: &W,
-) -> Result<Ran<T, D>, RunFault>
+) -> Result<Ran<T, D>, NotRun<T, D>>
     requires workers { (1 ≤ options.workers) × (options.workers ≤ 64) }
     requires deck { (deck.trail ≡ []) × (deck.aborted ≡ false) × (deck.shape ≡ shape) × IsSince D.Disk H.begun deck }
     requires any { (words : WordMap) → H.begun.stops words }
     ensures ran { IfOk result (RanAll D.Disk H.begun (W.answers worker.now H.begun shape) options.workers shape) }
     ensures ends { IfOk result (EndsRun options.checkpoint) }
     ensures since { IfOk result (λ ran. EndsSince D.Disk H.begun ran.disk ran.trail.items) }
-    ensures faults { IfErr result (HasNoAnswer options.commits) }
+    ensures faults { IfErr result (StopsRun D.Disk H.begun deck.disk options.commits
+        (W.answers worker.now H.begun shape) options.workers) }
 {
     let changes = Blank::new(PARTS);
     let Some((handles, marks)) = histories(alloc) else {
-        return Err(RunFault::Memory);
+        return Err(NotRun::of(alloc, deck.close(), RunFault::Memory));
     };
     run_open::<T, W, D, C, R, Brand, Brand>(
         rt, alloc, handles, changes, marks, deck, shape, clock, options, worker,
@@ -169,7 +174,7 @@ fn run_open<
     clock: C,
     options: Options,
     worker: &W,
-) -> Result<Ran<T, D>, RunFault>
+) -> Result<Ran<T, D>, NotRun<T, D>>
     requires ledgers { (handles.tickets.name ≡ H.name) × (handles.tickets.parts ≡ H.parts) × (H.parts ≡ 2 ^ 61 + 1)
         × (changes.name ≡ N.name) × (changes.parts ≡ N.parts) × (N.parts ≡ 2 ^ 61 + 1) }
     requires histories { (history_in handles ≡ H.history) × (history_id marks ≡ H.marks) }
@@ -178,15 +183,22 @@ fn run_open<
     ensures ran { IfOk result (RanAll D.Disk H.begun (W.answers worker.now H.begun shape) options.workers shape) }
     ensures ends { IfOk result (EndsRun options.checkpoint) }
     ensures since { IfOk result (λ ran. EndsSince D.Disk H.begun ran.disk ran.trail.items) }
-    ensures faults { IfErr result (HasNoAnswer options.commits) }
+    ensures faults { IfErr result (StopsRun D.Disk H.begun deck.disk options.commits
+        (W.answers worker.now H.begun shape) options.workers) }
 {
-    let Some(desk) = start::<D, C, H, N>(alloc, handles, changes, marks, deck, clock) else {
-        return Err(RunFault::Memory);
+    let Ok(room) = Room::take(alloc, options.workers) else {
+        return Err(NotRun::of(alloc, deck.close(), RunFault::Memory));
     };
-    run_at(rt, alloc, desk, shape, options, worker)
+    match start::<D, C, H, N>(alloc, handles, changes, marks, deck, clock) {
+        Ok(desk) => run_at(rt, desk, shape, options, worker, room),
+        Err(disk) => Err(NotRun::of(alloc, disk, RunFault::Memory)),
+    }
 }
 
-/// A desk over a journal that was just opened; `None` where there is no memory for it.
+/// A desk over a journal that was just opened.
+///
+/// # Errors
+/// The journal's disk, where there is no memory for it.
 fn start<D: Disk + Drop, C: Clock + Drop, H: Origin, N: Ledger>(
     alloc: Global,
     handles: StopLedger,
@@ -194,17 +206,21 @@ fn start<D: Disk + Drop, C: Clock + Drop, H: Origin, N: Ledger>(
     marks: Opened<Deck<D>>,
     deck: Deck<D>,
     clock: C,
-) -> Option<Desk<D, C, H, N>>
+) -> Result<Desk<D, C, H, N>, D>
     requires ledgers { (handles.tickets.name ≡ H.name) × (handles.tickets.parts ≡ H.parts) × (H.parts ≡ 2 ^ 61 + 1)
         × (changes.name ≡ N.name) × (changes.parts ≡ N.parts) × (N.parts ≡ 2 ^ 61 + 1) }
     requires histories { (history_in handles ≡ H.history) × (history_id marks ≡ H.marks) }
     requires deck { (deck.trail ≡ []) × (deck.aborted ≡ false) × IsSince D.Disk H.begun deck }
-    ensures { IfSome result (λ desk. shape_in desk ≡ deck.shape) }
+    ensures ok { IfOk result (λ desk. shape_in desk ≡ deck.shape) }
+    ensures err { IfErr result (λ disk. disk ≡ deck.disk) }
 {
-    Desk::start(alloc, handles, changes, marks, deck, clock).ok()
+    match Desk::start(alloc, handles, changes, marks, deck, clock) {
+        Ok(desk) => Ok(desk),
+        Err((_, _, _, deck, _)) => Err(deck.close()),
+    }
 }
 
-/// Runs the workers at a new desk, and closes it.
+/// Runs the workers at a new desk, and closes it. There is room for what they leave.
 fn run_at<
     T: Drop + Send,
     W: Worker<T> + Sync,
@@ -215,21 +231,29 @@ fn run_at<
     N: Ledger + Send + Sync,
 >(
     rt: &R,
-    alloc: Global,
     desk: Desk<D, C, H, N>,
     shape: Shape,
     options: Options,
     worker: &W,
-) -> Result<Ran<T, D>, RunFault>
+    room: Room<T, D, H, N>,
+) -> Result<Ran<T, D>, NotRun<T, D>>
     requires parts { (H.parts ≡ 2 ^ 61 + 1) × (N.parts ≡ 2 ^ 61 + 1) }
     requires shape { shape ≡ shape_in desk }
     requires work { (1 ≤ options.workers) × (options.workers ≤ 64) × ((words : WordMap) → H.begun.stops words) }
+    requires room { IsRoomFor options.workers room }
     ensures ran { IfOk result (RanAll D.Disk H.begun (W.answers worker.now H.begun shape) options.workers shape) }
     ensures ends { IfOk result (EndsRun options.checkpoint) }
     ensures since { IfOk result (λ ran. EndsSince D.Disk H.begun ran.disk ran.trail.items) }
-    ensures faults { IfErr result (HasNoAnswer options.commits) }
+    ensures faults { IfErr result (StopsAtDesk D.Disk H.begun options.commits (W.answers worker.now H.begun shape)
+        options.workers) }
 {
-    let (ran, checkpoint) = run_all(rt, alloc, &desk, shape, options, worker);
-    let (gathered, commit) = ThreadResults::of(rt, alloc, &desk, ran)?;
-    close(desk, shape, gathered, commit, checkpoint)
+    let Room {
+        places,
+        lefts,
+        answers,
+    } = room;
+    let places = places_of(rt, &desk, options.workers, places);
+    let ran = run_all(rt, &desk, shape, options, worker, places);
+    let (gathered, ends) = ThreadResults::of(rt, &desk, lefts, answers, ran);
+    close(desk, shape, options.workers, gathered, ends)
 }

@@ -1,24 +1,19 @@
 //! The threads of a journal: its workers, its committer and its checkpointer.
-ghost use Rattle.std.specs.Prelude.{◌≡◌, ◌<◌, ◌≤◌, true, IfErr, IfOk, IfSome, Ok, Some};
+ghost use Rattle.std.specs.Prelude.{◌≡◌, ◌≤◌, true, All, None, Some, vec_len};
 ghost use Rattle.jb_handle.specs.Word.{WordMap};
 ghost use Rattle.jb_desk.specs.Desks.{shape_in};
-ghost use Rattle.jb_journal.specs.RunFaults.{HasNoAnswer};
-ghost use Rattle.jb_journal.specs.Run.{HasThreaded, HaveWorked, EndsChecked};
-ghost use Rattle.jb_journal.specs.Client.{AreHonest};
-ghost use Rattle.jb_journal.specs.Run.{known_of_worked, marks_of_worked, stops_of_worked};
+ghost use Rattle.jb_journal.specs.Run.{HasNotWorked, HasThreaded, EndsChecked};
+ghost use Rattle.jb_journal.specs.declared.options.Commits.TheVariants.{Meanwhile};
 
-use crate::client::Client;
 use crate::committing::{commit_all, commit_from};
 use crate::counted::{CountedLeft, CountedSeat};
-use crate::fault::RunFault;
 use crate::gate::Gate;
 use crate::options::{Commits, Options};
 use crate::worker::Worker;
-use jb_block::Memory;
+use crate::working::work;
 use jb_desk::{Desk, Ended, Origin, Sights};
 use jb_disk::{Clock, Disk};
 use jb_handle::Shape;
-use std::alloc::Global;
 use std::sync::Wait;
 use std::sync::ledger::Ledger;
 use std::thread::Threads;
@@ -31,8 +26,21 @@ pub(crate) struct Worked<T, D: Disk, H: Origin, N: Ledger> {
     pub left: Option<CountedLeft<H, N>>,
     /// What its client had seen of the handles that stopped and of the journal.
     pub seen: Sights<D, H>,
-    /// What it answered.
+    /// What it answered; `None` where it was not called.
     pub answer: Option<T>,
+}
+
+impl<T, D: Disk, H: Origin, N: Ledger> Worked<T, D, H, N> {
+    /// What one leaves that was not called.
+    pub fn none(seen: Sights<D, H>) -> Worked<T, D, H, N>
+        ensures { HasNotWorked result }
+    {
+        Worked {
+            left: None,
+            seen,
+            answer: None,
+        }
+    }
 }
 
 /// What the threads leave.
@@ -40,14 +48,26 @@ pub(crate) struct Worked<T, D: Disk, H: Origin, N: Ledger> {
 pub(crate) struct Threaded<T, D: Disk, H: Origin, N: Ledger> {
     /// What the workers leave.
     pub workers: Vec<Worked<T, D, H, N>>,
-    /// What the committer's seat left.
-    pub committer: CountedLeft<H, N>,
-    /// How the committer ended.
-    pub commit: Ended,
+    /// What the committer's seat left; `None` where it had none.
+    pub committer: Option<CountedLeft<H, N>>,
+    /// How the threads ended.
+    pub ends: Ends,
+}
+
+/// How the threads of a run ended.
+#[derive(Clone, Copy)]
+pub(crate) struct Ends {
+    /// How the committer did; `None` where it had no seat.
+    pub commit: Option<Ended>,
+    /// How the checkpointer did; `None` where there was none.
+    pub checkpoint: Option<Ended>,
+    /// Whether the threads were waited for in vain.
+    pub given_up: bool,
 }
 
 /// Runs the workers and commits what they stopped, and writes committed transactions home where that is asked for; says
-/// how that ended, too. With `Commits::Meanwhile` no worker is called unless each of these has a thread.
+/// how that ended, too. With `Commits::Meanwhile` no worker is called unless each of these has a thread. Takes no
+/// memory for what they leave.
 pub(crate) fn run_all<
     T: Drop + Send,
     W: Worker<T> + Sync,
@@ -58,33 +78,34 @@ pub(crate) fn run_all<
     N: Ledger + Send + Sync,
 >(
     rt: &R,
-    alloc: Global,
     desk: &Desk<D, C, H, N>,
     shape: Shape,
     options: Options,
     worker: &W,
-) -> (Result<Threaded<T, D, H, N>, RunFault>, Option<Ended>)
+    places: Vec<Worked<T, D, H, N>>,
+) -> Threaded<T, D, H, N>
     requires shape { shape ≡ shape_in desk.now }
-    requires work { (1 ≤ options.workers) × (options.workers ≤ 64) × ((words : WordMap) → H.begun.stops words) }
-    ensures ran { IfOk result.0 (HasThreaded D.Disk (W.answers worker.now H.begun shape) options.workers) }
-    ensures faults { IfErr result.0 (HasNoAnswer options.commits) }
-    ensures ended { EndsChecked options.checkpoint result.1 }
+    requires work { (1 ≤ vec_len places) × (vec_len places ≤ 64) × ((words : WordMap) → H.begun.stops words) }
+    requires fresh { All HasNotWorked places.items }
+    ensures ran { HasThreaded D.Disk (W.answers worker.now H.begun shape) (vec_len places) result }
+    ensures given_up { result.ends.given_up ≡ true → options.commits ≡ Meanwhile }
+    ensures ended { EndsChecked options.checkpoint result.ends.checkpoint }
 {
     let gate = Gate::new(threads_of(options));
     if !options.checkpoint {
-        let ran = run_workers(rt, alloc, desk, shape, &gate, options, worker);
-        return (ran, None);
+        return run_workers(rt, desk, shape, &gate, options, worker, places);
     }
     // the checkpointer is first, since the first closure runs last where no thread can be made
-    let (checkpoint, ran) = thread::join(
+    let (checkpoint, mut ran) = thread::join(
         rt,
         || check_home(rt, desk, &gate, options.level),
-        || -> Result<Threaded<T, D, H, N>, RunFault>
-            requires { (shape ≡ shape_in desk.now) × (1 ≤ options.workers) × (options.workers ≤ 64)
-                × ((words : WordMap) → H.begun.stops words) }
-        { run_workers(rt, alloc, desk, shape, &gate, options, worker) },
+        || -> Threaded<T, D, H, N>
+            requires { (shape ≡ shape_in desk.now) × (1 ≤ vec_len places) × (vec_len places ≤ 64)
+                × ((words : WordMap) → H.begun.stops words) × All HasNotWorked places.items }
+        { run_workers(rt, desk, shape, &gate, options, worker, places) },
     );
-    (ran, Some(checkpoint))
+    ran.ends.checkpoint = Some(checkpoint);
+    ran
 }
 
 /// How many threads have to be there before a worker is called: the workers' own, that of the committer, and that of
@@ -111,7 +132,8 @@ fn check_home<D: Disk, C: Clock, R: Wait, H: Origin, N: Ledger>(
     desk.run_checkpointer_at(rt, level)
 }
 
-/// Runs the workers and commits what they stopped, at the same time or after them. The desk is shut then.
+/// Runs the workers and commits what they stopped, at the same time or after them. The desk is shut then. No worker is
+/// called where the committer has no seat.
 fn run_workers<
     T: Drop + Send,
     W: Worker<T> + Sync,
@@ -122,153 +144,72 @@ fn run_workers<
     N: Ledger + Send + Sync,
 >(
     rt: &R,
-    alloc: Global,
     desk: &Desk<D, C, H, N>,
     shape: Shape,
     gate: &Gate,
     options: Options,
     worker: &W,
-) -> Result<Threaded<T, D, H, N>, RunFault>
+    places: Vec<Worked<T, D, H, N>>,
+) -> Threaded<T, D, H, N>
     requires shape { shape ≡ shape_in desk.now }
-    requires work { (1 ≤ options.workers) × (options.workers ≤ 64) × ((words : WordMap) → H.begun.stops words) }
-    ensures ran { IfOk result (HasThreaded D.Disk (W.answers worker.now H.begun shape) options.workers) }
-    ensures faults { IfErr result (HasNoAnswer options.commits) }
+    requires work { (1 ≤ vec_len places) × (vec_len places ≤ 64) × ((words : WordMap) → H.begun.stops words) }
+    requires fresh { All HasNotWorked places.items }
+    ensures ran { HasThreaded D.Disk (W.answers worker.now H.begun shape) (vec_len places) result }
+    ensures given_up { result.ends.given_up ≡ true → options.commits ≡ Meanwhile }
+    ensures checkpoint { result.ends.checkpoint ≡ None }
 {
     let Some(seat) = CountedSeat::at(rt, desk) else {
         desk.shut(rt);
-        return Err(RunFault::Accounts);
+        return Threaded::of(places, None, false);
     };
-    let Options {
-        workers,
-        delay,
-        commits,
-        ..
-    } = options;
-    if commits == Commits::After {
-        let ran = work(rt, alloc, desk, shape, gate, workers, worker);
-        return put_threads(Some(commit_all(rt, desk, delay, seat)), ran, commits, false);
+    let delay = options.delay;
+    if options.commits == Commits::After {
+        let places = work(rt, desk, shape, gate, worker, places);
+        return Threaded::of(places, Some(commit_all(rt, desk, delay, seat)), false);
     }
     // the committer is first, since the first closure runs last where no thread can be made
     let mut place = Some(seat);
-    let (committed, ran) = thread::join(
+    let (committed, places) = thread::join(
         rt,
         || commit_from(rt, desk, gate, delay, &mut place),
-        || -> Result<Vec<Worked<T, D, H, N>>, Memory>
-            requires { (shape ≡ shape_in desk.now) × (1 ≤ workers) × (workers ≤ 64)
+        || -> Vec<Worked<T, D, H, N>>
+            requires { (shape ≡ shape_in desk.now) × (1 ≤ vec_len places) × (vec_len places ≤ 64)
                 × ((words : WordMap) → H.begun.stops words) }
-        { work(rt, alloc, desk, shape, gate, workers, worker) },
+        { work(rt, desk, shape, gate, worker, places) },
     );
-    match place {
-        Some(seat) => {
-            let _left = seat.leave(rt, desk);
-            Err(RunFault::Accounts)
+    if let Some(seat) = place {
+        let _left = seat.leave(rt, desk);
+    }
+    let given_up = options.commits == Commits::Meanwhile && gate.is_given_up(rt);
+    Threaded::of(places, committed, given_up)
+}
+
+impl<T, D: Disk, H: Origin, N: Ledger> Threaded<T, D, H, N> {
+    ghost use Rattle.jb_journal.specs.Run.{committed_stops, stops_left_by};
+
+    /// What the threads leave, where there was no checkpointer.
+    fn of(
+        workers: Vec<Worked<T, D, H, N>>,
+        committed: Option<(CountedLeft<H, N>, Ended)>,
+        given_up: bool,
+    ) -> Threaded<T, D, H, N>
+        ensures workers { result.workers ≡ workers }
+        ensures stops { stops_left_by result.committer ≡ committed_stops committed }
+        ensures given_up { result.ends.given_up ≡ given_up }
+        ensures checkpoint { result.ends.checkpoint ≡ None }
+    {
+        let (committer, commit) = match committed {
+            Some((left, ended)) => (Some(left), Some(ended)),
+            None => (None, None),
+        };
+        Threaded {
+            workers,
+            committer,
+            ends: Ends {
+                commit,
+                checkpoint: None,
+                given_up,
+            },
         }
-        None => put_threads(committed, ran, commits, gate.is_given_up(rt)),
-    }
-}
-
-/// What the threads leave, where the committer had a seat and the gate was not given up.
-fn put_threads<T: Drop, D: Disk, H: Origin, N: Ledger>(
-    committed: Option<(CountedLeft<H, N>, Ended)>,
-    ran: Result<Vec<Worked<T, D, H, N>>, Memory>,
-    commits: Commits,
-    given_up: bool,
-) -> Result<Threaded<T, D, H, N>, RunFault>
-    ensures ran { IfOk result (λ left. (ran ≡ Ok left.workers) × (committed ≡ Some (left.committer, left.commit))) }
-    ensures faults { IfErr result (HasNoAnswer commits) }
-{
-    let Some((committer, commit)) = committed else {
-        return Err(RunFault::Accounts);
-    };
-    match commits {
-        Commits::Meanwhile if given_up => return Err(RunFault::NoThread),
-        // no other run has a gate
-        Commits::Meanwhile | Commits::MeanwhileOrAfter | Commits::After => {}
-    }
-    Ok(Threaded {
-        workers: ran?,
-        committer,
-        commit,
-    })
-}
-
-/// Runs the workers, a thread each, and then shuts the desk.
-fn work<
-    T: Drop + Send,
-    W: Worker<T> + Sync,
-    D: Disk + Drop + Send,
-    C: Clock + Drop + Send,
-    R: Threads + Wait + time::Clock + Sync,
-    H: Origin + Send + Sync,
-    N: Ledger + Send + Sync,
->(
-    rt: &R,
-    alloc: Global,
-    desk: &Desk<D, C, H, N>,
-    shape: Shape,
-    gate: &Gate,
-    workers: usize,
-    worker: &W,
-) -> Result<Vec<Worked<T, D, H, N>>, Memory>
-    requires shape { shape ≡ shape_in desk.now }
-    requires work { (1 ≤ workers) × (workers ≤ 64) × ((words : WordMap) → H.begun.stops words) }
-    ensures { IfOk result (λ ran. HaveWorked D.Disk (W.answers worker.now H.begun shape) workers ran.items) }
-{
-    let ran = thread::map_indices(
-        rt,
-        alloc,
-        workers,
-        &|at: usize| -> Worked<T, D, H, N>
-            requires { (shape ≡ shape_in desk.now) × (1 ≤ workers) × (workers ≤ 64)
-                × ((words : WordMap) → H.begun.stops words) }
-            ensures { IfSome result.answer
-                (W.answers worker.entry.now H.begun shape (AreHonest D.Disk (marks_of_worked result))
-                workers at (stops_of_worked result) (known_of_worked D.moment result)) }
-        { work_at(rt, desk, shape, gate, workers, worker, at) },
-    );
-    desk.shut(rt);
-    ran
-}
-
-/// Runs the worker at this place, once each thread of the run is there.
-fn work_at<T, W: Worker<T>, D: Disk, C: Clock, R: Wait + time::Clock, H: Origin, N: Ledger>(
-    rt: &R,
-    desk: &Desk<D, C, H, N>,
-    shape: Shape,
-    gate: &Gate,
-    workers: usize,
-    worker: &W,
-    at: usize,
-) -> Worked<T, D, H, N>
-    requires shape { shape ≡ shape_in desk.now }
-    requires work { (1 ≤ workers) × (workers ≤ 64) × ((words : WordMap) → H.begun.stops words) }
-    ensures { IfSome result.answer (W.answers worker.now H.begun shape (AreHonest D.Disk (marks_of_worked result))
-        workers at (stops_of_worked result) (known_of_worked D.moment result)) }
-{
-    if !gate.wait(rt) {
-        return Worked {
-            left: None,
-            seen: desk.sights(rt),
-            answer: None,
-        };
-    }
-    let Some(seat) = CountedSeat::at(rt, desk) else {
-        return Worked {
-            left: None,
-            seen: desk.sights(rt),
-            answer: None,
-        };
-    };
-    let mut client = Client::new(rt, desk, shape, seat);
-    let answer = worker.work(&mut client, workers, at);
-    let (seat, seen) = client.into_seat();
-    let left = match seat {
-        Some(seat) => Some(seat.leave(rt, desk)),
-        None => None,
-    };
-    Worked {
-        left,
-        seen,
-        answer: Some(answer),
     }
 }

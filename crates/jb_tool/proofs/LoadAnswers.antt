@@ -6,6 +6,8 @@ use Rattle.jb_deck.specs.Done.{Follow}
 use Rattle.jb_disk.specs.declared.disk.Disk.{Ghosts}
 use Rattle.jb_handle.specs.declared.stopped.Stopped.{Stopped}
 use Rattle.jb_book.specs.Origin.{Begun}
+use Rattle.jb_handle.specs.declared.shape.Shape.{Shape}
+use Rattle.jb_journal.specs.Notes.{Known, Stop}
 use Rattle.jb_journal.specs.RunFaults.{RefusesRun}
 use Rattle.jb_journal.specs.Run.{EndsRun, RanOn}
 use Rattle.jb_journal.specs.declared.fault.RunFault.{RunFault}
@@ -29,11 +31,19 @@ not-meanwhile false commits is = λ same. let h : ⊥ = cc in h
 
 module _ {D : Type 0} (G : Ghosts D) (b : Begun) (disk : D) (bs : BlockSize) (queue : List Stopped) (options : LoadOptions) (same : bytes_of bs ≡ G.size disk) where
   -- it has no answer
-  pub answers-fault : (fault : RunFault) → RefusesRun G disk fault → AnswersLoad G b disk bs queue options (Err (not_run fault))
-  answers-fault (Open why) lost = (same, lost)
-  answers-fault Memory opened = (same, opened)
-  answers-fault NoThread opened = (same, opened)
-  answers-fault Accounts opened = (same, opened)
+  module _ {T : Type 0} (commits : Commits) (may : Shape → Type 0 → ℕ → ℕ → List Stop → Known → T → Type 0) (workers : ℕ) (only : commits ≢ Meanwhile) where
+    pub answers-fault : (fault : RunFault) (after : D) (answers : List T) → RefusesRun G disk b commits may workers fault after answers → AnswersLoad G b disk bs queue options (Err (not_run fault))
+    answers-fault (Open why) after answers is = (same, (after, is.0))
+    answers-fault Memory after answers is = (same, (after, is.0))
+    answers-fault NoThread after answers is = absurd (only is.1)
+    answers-fault Accounts after answers is = (same, (is.0, is.1))
+
+    -- no thread is missing
+    pub not-thread : (fault : RunFault) (after : D) (answers : List T) → RefusesRun G disk b commits may workers fault after answers → fault ≢ NoThread
+    not-thread (Open why) after answers is = λ none. let h : ⊥ = cc in h
+    not-thread Memory after answers is = λ none. let h : ⊥ = cc in h
+    not-thread NoThread after answers is = λ none. only is.1
+    not-thread Accounts after answers is = λ none. let h : ⊥ = cc in h
 
   -- it was run, and counted up
   pub answers-run : (ran : Ran (Option Refused) D) (workers : ℕ) → workers ≡ options.threads → (checkpoint : Bool) → checkpoint ≡ options.checkpoint

@@ -10,6 +10,7 @@ use Rattle.jb_handle.specs.declared.stopped.Stopped.{Stopped}
 use Rattle.jb_deck.specs.Done.{Follow}
 use Rattle.jb_book.specs.OpenDisk.{NotOpened, WasOpened}
 use Rattle.jb_book.specs.Origin.{Begun}
+use Rattle.jb_journal.specs.RunFaults.{IsOpenedOnly}
 use Rattle.jb_journal.specs.Run.{EndsRun, RanOn}
 use Rattle.jb_journal.specs.declared.options.Commits.{Commits}
 use Rattle.jb_journal.specs.declared.options.Commits.TheVariants.{MeanwhileOrAfter, After}
@@ -61,11 +62,11 @@ module _ {D : Type 0} (G : Ghosts D) (b : Begun) where
     pub same_disk : ran.disk ≡ disk
     pub counts : CountsRun (length queue) ran loaded
 
-  -- What a load answers to a queue of blocks of this size. Only where the size is not the disk's does it answer so. Where the journal was not opened, some disk that this one has
-  -- become is lost
+  -- What a load answers to a queue of blocks of this size. Only where the size is not the disk's does it answer so. Where the journal was not opened, or only opened, some disk that this one
+  -- has become is lost
   abbrev pub AnswersLoad : D → BlockSize → List Stopped → LoadOptions → Result (Loaded × D) LoadFault → Type 0
   AnswersLoad disk bs queue options (Err fault.BlockSize) = bytes_of bs ≢ G.size disk
   AnswersLoad disk bs queue options (Err (fault.Open why)) = (bytes_of bs ≡ G.size disk) × ((after : D) × NotOpened G disk after why)
-  AnswersLoad disk bs queue options (Err fault.Memory) = (bytes_of bs ≡ G.size disk) × ((shape : Shape) × WasOpened G disk shape)
+  AnswersLoad disk bs queue options (Err fault.Memory) = (bytes_of bs ≡ G.size disk) × ((after : D) × IsOpenedOnly G b disk after)
   AnswersLoad disk bs queue options (Err fault.Accounts) = (bytes_of bs ≡ G.size disk) × ((shape : Shape) × WasOpened G disk shape)
   AnswersLoad disk bs queue options (Ok ended) = (bytes_of bs ≡ G.size disk) × LoadedSince disk queue options ended.0 ended.1

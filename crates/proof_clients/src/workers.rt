@@ -3,7 +3,7 @@ ghost use Rattle.std.specs.Prelude.{IfOk};
 ghost use Rattle.proof_clients.specs.TwoWorkers.{TwoHaveWorked};
 
 use crate::telling::{Found, Telling};
-use jb_journal::{Clock, Disk, Options, Ran, RunFault, run};
+use jb_journal::{Clock, Disk, NotRun, Options, Ran, run};
 use std::sync::Wait;
 use std::thread::Threads;
 use std::time;
@@ -18,7 +18,7 @@ pub fn two_workers<
     D: Disk + Drop + Send,
     C: Clock + Drop + Send,
     R: AllocGlobal + Threads + Wait + time::Clock + Sync,
->(rt: &R, disk: D, clock: C, bytes: [u8; 1024]) -> Result<Ran<Found, D>, RunFault>
+>(rt: &R, disk: D, clock: C, bytes: [u8; 1024]) -> Result<Ran<Found, D>, NotRun<Found, D>>
     ensures { IfOk result (TwoHaveWorked D.Disk bytes disk) }
 {
     run(rt, disk, clock, Options::new(2), &Telling::new(bytes))

@@ -2,7 +2,7 @@
 use crate::checks::{By, Host};
 use crate::journals::{by, formatted};
 use jb_journal::{
-    BlockSize, Client, Clock, Disk, Ended, FixedClock, JournalFault, NotSettled, Origin, Ran,
+    BlockSize, Client, Clock, Disk, Ended, FixedClock, JournalFault, NotDurable, Origin, Ran,
     Stamp, SystemClock, WaitFault, Worker, run,
 };
 use std::alloc::Global;
@@ -10,10 +10,37 @@ use std::process::Abort;
 use std::sync::Wait;
 use std::sync::ledger::Ledger;
 use std::time;
-use tests_support::{Bench, Must, Test, check};
+use tests_support::{Bench, Must, Test, check, check_at};
 
-/// What a run leaves where so many of two handles are settled.
-fn left(test: &impl Bench, settled: u64) -> Ran<u8, u8> {
+/// How many of two handles are settled, how much of the log is in use, how the checkpointer ended, and why what is left
+/// is not durable.
+type Row = (u64, Option<u32>, Option<Ended>, Option<NotDurable>);
+
+/// What is told of a lost handle.
+const LOST: NotDurable = NotDurable::NotSettled {
+    handles: 2,
+    settled: 1,
+};
+
+/// Runs that are durable, or why they are not.
+static ENDS: [Row; 7] = [
+    (2, Some(0), Some(Ended::Aborted), None),
+    (2, Some(0), None, None),
+    // what is in the log is left to recovery where nothing was to write it home
+    (2, Some(3), None, None),
+    (2, Some(3), Some(Ended::Aborted), Some(NotDurable::NotHome)),
+    (2, None, None, Some(NotDurable::NotHome)),
+    (2, None, Some(Ended::Aborted), Some(NotDurable::NotHome)),
+    (1, Some(0), None, Some(LOST)),
+];
+
+/// What a run leaves that ended so.
+fn left(
+    test: &impl Bench,
+    settled: u64,
+    in_log: Option<u32>,
+    checkpoint: Option<Ended>,
+) -> Ran<u8, u8> {
     let mut answers = Vec::new(test.alloc());
     answers.push(7).must(test, "memory");
     Ran {
@@ -23,39 +50,37 @@ fn left(test: &impl Bench, settled: u64) -> Ran<u8, u8> {
         settled,
         changes: 2,
         trail: Vec::new(test.alloc()),
-        in_log: None,
+        in_log,
         commit: Ended::Aborted,
-        checkpoint: None,
+        checkpoint,
     }
 }
 
-/// Checks what a run gives that has lost no handle.
-fn check_kept(test: &impl Bench) {
-    let (disk, answers) = left(test, 2)
-        .durable()
-        .must(test, "what a run gives that has lost nothing");
-    check(test, disk == 1, "the disk");
-    check(test, answers.len() == 1, "the answers");
+/// Checks what is given of a run of a row.
+fn check_end(test: &impl Bench, row: &Row, at: u64) {
+    let (settled, in_log, checkpoint, want) = *row;
+    match left(test, settled, in_log, checkpoint).durable() {
+        Ok((disk, answers)) => {
+            check_at(test, want.is_none(), "the end of row", at);
+            check_at(test, disk == 1, "the disk of row", at);
+            check_at(test, answers.len() == 1, "the answers of row", at);
+        }
+        Err(fault) => check_at(test, want == Some(fault), "the fault of row", at),
+    }
 }
 
-/// What one answers that has lost a handle.
-fn lost(test: &impl Bench) -> Option<NotSettled> {
-    left(test, 1).durable().err()
-}
-
-/// Checks that a run that has lost a handle is an error, and what that tells.
-fn check_lost(test: &impl Bench) {
-    let fault = lost(test).must(test, "the fault of a run that has lost a handle");
-    check(test, fault.handles == 2, "how many handles stopped");
-    check(test, fault.settled == 1, "how many are settled");
-    let told = format!(in test.alloc(); "{fault}").must(test, "memory");
+/// Checks what is told of a lost handle.
+fn check_told(test: &impl Bench) {
+    let told = format!(in test.alloc(); "{LOST}").must(test, "memory");
     let is_told = told.as_str().starts_with("only 1 of 2 handles are settled");
     check(test, is_told, "what is told of a lost handle");
 }
 
 fn check_ends(test: &impl Bench) {
-    check_kept(test);
-    check_lost(test)
+    for (at, row) in ENDS.iter().enumerate() {
+        check_end(test, row, at as u64);
+    }
+    check_told(test)
 }
 
 /// What a client tells of its journal.
@@ -122,7 +147,7 @@ fn check_fault(test: &impl Test) {
 }
 
 #[test]
-fn a_run_that_has_lost_handles_is_an_error(rt: HostRuntime) {
+fn a_run_that_has_lost_handles_or_is_not_home_is_an_error(rt: HostRuntime) {
     check_ends(&By(&rt, rt.alloc()))
 }
 

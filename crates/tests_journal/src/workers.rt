@@ -6,7 +6,7 @@ use crate::checks::{By, Host};
 use crate::journals::{CLOCK, by, formatted, homes};
 use jb_journal::{
     BlockSize, Client, Clock, Disk, Ended, Entry, Handle, HandleFault, MemoryDisk, OpenFault,
-    Options, Origin, Ran, RunFault, TouchFault, WaitFault, Worker, recover, run,
+    NotRun, Options, Origin, Ran, RunFault, TouchFault, WaitFault, Worker, recover, run,
 };
 use std::sync::Wait;
 use std::sync::ledger::Ledger;
@@ -71,7 +71,7 @@ pub fn run_on<D: Disk + Drop + Send>(
     disk: D,
     options: Options,
     pairs: &Pairs,
-) -> Result<Ran<Found, D>, RunFault>
+) -> Result<Ran<Found, D>, NotRun<Found, D>>
     requires { (1 ≤ options.workers) × (options.workers ≤ 64) }
 {
     run(rt, disk, CLOCK, options, pairs)
@@ -96,7 +96,7 @@ fn run_again<D: Disk + Drop + Send>(
 {
     match run_on(rt, disk, options, &PAIRS) {
         Ok(ran) => Ok(ran.handles),
-        Err(fault) => Err(fault),
+        Err(back) => Err(back.fault),
     }
 }
 
@@ -188,14 +188,24 @@ fn check_refusals(rt: &impl Host) {
     }
 }
 
+/// Checks that a journal that is not recovered is handed back, and is run once it is recovered.
+fn check_handed_back(rt: &impl Host, disk: MemoryDisk) {
+    let test = By(rt, rt.alloc());
+    let back = run_on(rt, disk, by(2), &PAIRS).err();
+    let mut back = back.must(&test, "a journal is run that is not recovered");
+    let needs = RunFault::Open(OpenFault::NeedsRecovery);
+    check(&test, back.fault == needs, "why it is not run");
+    recover(rt.alloc(), &mut back.disk).must(&test, "what is handed back is not recovered");
+    let again = run_again(rt, back.disk, by(2));
+    check(&test, again == Ok(2), "what is handed back");
+}
+
 /// Checks that a journal that was not closed is recovered before it is run.
 fn check_again(rt: &impl Host) {
     let test = By(rt, rt.alloc());
     let Ran { disk, .. } = run_new(rt, by(2), &PAIRS);
     let mut left = crashed(&test, &disk, &[]);
-    let again = run_again(rt, disk, by(2));
-    let needs = Err(RunFault::Open(OpenFault::NeedsRecovery));
-    check(&test, again == needs, "a journal that is not recovered");
+    check_handed_back(rt, disk);
     recover(rt.alloc(), &mut left).must(&test, "the journal is not recovered");
     check(&test, run_again(rt, left, by(2)) == Ok(2), "one that is");
 }

@@ -2,7 +2,9 @@
 ghost use Rattle.std.specs.Prelude.{◌≡◌, ℕ, ◌+◌, ◌≤◌, ◌^◌, IfOk, IfErr, Some, [], false, vec_len, map};
 ghost use Rattle.jb_deck.specs.Done.{Follow, start_of};
 ghost use Rattle.jb_desk.specs.Seats.{AddsUp, made_left};
-ghost use Rattle.jb_book.specs.History.{CameAbout};
+ghost use Rattle.jb_board.specs.HistoryRule.{IsFirstPart};
+ghost use Rattle.jb_book.specs.History.{CameAbout, IsStop};
+ghost use Rattle.jb_book.specs.SinceMark.{IsMarkedOf};
 ghost use Rattle.jb_book.specs.AtHome.{EndsUsing, log_used};
 ghost use Rattle.jb_desk.specs.Close.{DiffersAs};
 ghost use Rattle.jb_desk.specs.Parts.{ledger_parts};
@@ -11,10 +13,11 @@ use crate::desk::Desk;
 use crate::follow::are_same;
 use crate::queue_state::QueueState;
 use crate::seat::Left;
+use jb_board::Appender;
 use jb_book::{Histories, JournalState, Origin, Sights};
 use jb_deck::{Deck, Entry};
 use jb_disk::{Clock, Disk};
-use jb_handle::Shape;
+use jb_handle::{Shape, Words};
 use std::fmt;
 use std::sync::Mutex;
 use std::sync::ledger::Ledger;
@@ -76,6 +79,7 @@ impl<D: Disk, C: Clock, H: Origin, N: Ledger> fmt::Display for CloseFault<D, C, 
 impl<D: Disk + Drop, C: Clock, H: Origin, N: Ledger> Desk<D, C, H, N> {
     ghost use Rattle.jb_book.specs.History.{CameAbout};
     ghost use Rattle.jb_book.specs.AtHome.{EndsUsing};
+    ghost use Rattle.jb_book.specs.SinceMark.{EndsSeen};
     ghost use Rattle.jb_desk.specs.Close.{IsNotClosed};
     ghost use Rattle.jb_book.specs.Since.{EndsSince};
 
@@ -86,7 +90,8 @@ impl<D: Disk + Drop, C: Clock, H: Origin, N: Ledger> Desk<D, C, H, N> {
     /// # Errors
     ///
     /// `SeatsOut` where a seat's `Left` is missing, with all that was given; `TrailsDiffer` where the journal has
-    /// settled other groups than the book (tested; the clause says only that `book` is not the journal's trail).
+    /// settled other groups than the book (tested; the clause says only that `book` is not the journal's trail). Of its
+    /// journal holds what [`Desk::end`] says.
     pub fn close(
         self,
         lefts: Vec<Left<H, N>>,
@@ -101,7 +106,7 @@ impl<D: Disk + Drop, C: Clock, H: Origin, N: Ledger> Desk<D, C, H, N> {
             closed.shape closed.disk closed.trail.items seen.stops seen.marks closed.in_log) }
         ensures came { IfOk result (λ closed. CameAbout D.Disk H.begun (map made_left lefts.items) closed.shape
             closed.disk closed.trail.items) }
-        ensures refused { IfErr result (IsNotClosed self lefts seen) }
+        ensures refused { IfErr result (IsNotClosed D.Disk H.begun self lefts seen) }
     {
         let Desk {
             counter,
@@ -131,6 +136,23 @@ impl<D: Disk + Drop, C: Clock, H: Origin, N: Ledger> Desk<D, C, H, N> {
         }
         close_parts(&histories, counter, works.into_inner(), lefts, seen)
     }
+
+    /// Ends the desk, whatever its seats have left, and gives the journal's disk and the clock. It writes nothing. What
+    /// is queued or taken is lost. Of the marks that were seen it says that each lasts: what a crash since then leaves
+    /// has all that was settled at the mark.
+    pub fn end(self, seen: Sights<D, H>) -> (D, C)
+        ensures { EndsSeen D.Disk H.begun result.0 seen.stops seen.marks }
+    {
+        let Desk {
+            counter,
+            works,
+            histories,
+            ..
+        } = self;
+        let mut appender = counter.into_inner().end();
+        let (deck, clock) = end_works(&histories, &mut appender, works.into_inner(), seen);
+        (deck.close(), clock)
+    }
 }
 
 /// Closes what the two locks guarded, where every seat that was given has left.
@@ -153,7 +175,7 @@ fn close_parts<D: Disk + Drop, C: Clock, H: Origin, N: Ledger>(
     ensures given { IfOk result (λ closed. (closed.disk ≡ works.deck.disk) × (closed.clock ≡ works.clock)
         × (closed.trail.items ≡ works.deck.trail) × (closed.trail.items ≡ counter.register.book.trail)
         × (closed.handles ≡ counter.register.book.shadow.next) × (closed.changes ≡ counter.register.book.changes)) }
-    ensures refused { IfErr result (DiffersAs counter works) }
+    ensures refused { IfErr result (DiffersAs D.Disk H.begun counter works seen) }
 {
     let (trail, handles, changes, mut appender, mut known) = counter.totals(
         &histories.stops,
@@ -161,9 +183,7 @@ fn close_parts<D: Disk + Drop, C: Clock, H: Origin, N: Ledger>(
     );
     let Sights { stops, mut marks } = seen;
     histories.marks.learn(&mut marks, &mut known);
-    let (deck, clock, sight) = works.end(histories, marks);
-    histories.stops.check(&mut appender, sight);
-    histories.stops.check(&mut appender, stops);
+    let (deck, clock) = end_works(histories, &mut appender, works, Sights { stops, marks });
     if !are_same(&trail, deck.trail()) {
         return Err(CloseFault::TrailsDiffer {
             deck,
@@ -182,6 +202,26 @@ fn close_parts<D: Disk + Drop, C: Clock, H: Origin, N: Ledger>(
         trail,
         in_log,
     })
+}
+
+/// The journal and the clock of what the second lock guarded. The history begins with what was seen of it, and the
+/// marks that were seen last.
+fn end_works<D: Disk, C: Clock, H: Origin>(
+    histories: &Histories<D, H>,
+    appender: &mut Appender<Words, H>,
+    works: JournalState<D, C, H>,
+    seen: Sights<D, H>,
+) -> (Deck<D>, C)
+    ensures kept { appender.new ≡ appender.old }
+    ensures parts { (result.0 ≡ works.deck) × (result.1 ≡ works.clock) }
+    ensures knows { IsFirstPart seen.stops appender.old }
+    ensures since { IsMarkedOf D.Disk H.begun (IsStop H.begun appender.old) seen.marks result.0 }
+{
+    let Sights { stops, marks } = seen;
+    let (deck, clock, sight) = works.end(histories, marks);
+    histories.stops.check(appender, sight);
+    histories.stops.check(appender, stops);
+    (deck, clock)
 }
 
 /// How many blocks of the log of a journal are in use; `None` where it has failed.

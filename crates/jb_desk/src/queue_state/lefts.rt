@@ -97,4 +97,10 @@ impl<D: Disk, H: Origin, N: Ledger> QueueState<D, H, N> {
         history.audit(&mut appender, all);
         (trail, stops, touched, appender, seen)
     }
+
+    /// Takes it apart, whatever its seats have left: into the history.
+    pub fn end(self) -> Appender<Words, H> {
+        let (_, appender, _) = self.register.end();
+        appender
+    }
 }

@@ -26,9 +26,9 @@ use std::time;
 ///
 /// # Errors
 /// - `BlockSize` where the block size of the queue is not the disk's.
-/// - `Open` where the journal was not opened. The disk is lost: what is said of it holds of some disk that this one has
-///   become.
-/// - `Memory` where there was none for the desk or a thread's answer; handles may have been committed then.
+/// The disk is lost: what is said of it holds of some disk that this one has become.
+/// - `Open` where the journal was not opened.
+/// - `Memory` where there was none for the desk or for what the threads leave: no handle was run.
 /// - `Accounts` where the desk's sums do not agree, its journal has another shape, or its trail was taken, which cannot
 ///   happen.
 pub fn load_on<
@@ -59,7 +59,7 @@ pub fn load_on<
     );
     match ran {
         Ok(ran) => count_up(queue.len() as u64, ran),
-        Err(fault) => Err(fault_of(fault)),
+        Err(back) => Err(fault_of(back.fault)),
     }
 }
 

@@ -1,41 +1,60 @@
-use Rattle.std.proofs.Common.{◌≡◌, Result, Ok, Err, IfErr, subst}
-use Rattle.jb_book.specs.OpenDisk.{WasOpened}
+use Rattle.std.proofs.Common.{◌≡◌, ℕ, List, [], refl, sym, subst, ⊎_elim}
+use Rattle.std.proofs.lemmas.Result.{IfErr-weaker, IfOk-weaker}
+use Rattle.jb_book.proofs.StopHistories.{none-given}
+use Rattle.jb_book.specs.OpenDisk.{WasOpenedAs}
+use Rattle.jb_book.specs.Origin.{Begun}
+use Rattle.jb_deck.specs.Deck.{OpenDeck}
 use Rattle.jb_disk.specs.declared.disk.Disk.{Ghosts}
 use Rattle.jb_handle.specs.declared.shape.Shape.{Shape}
-use Rattle.jb_journal.specs.RunFaults.{HasNoAnswer, RefusesRun}
+use Rattle.jb_journal.specs.Notes.{Known, Stop}
+use Rattle.jb_journal.specs.RunFaults.{HasNoHandle, IsNotRun, RefusesRun, StopsRun}
 use Rattle.jb_journal.specs.declared.fault.RunFault.{RunFault}
-use Rattle.jb_journal.specs.declared.fault.RunFault.TheVariants.{Open, Memory, NoThread, Accounts}
+use Rattle.jb_journal.specs.declared.fault.RunFault.TheVariants.{Memory, NoThread, Accounts}
+use Rattle.jb_journal.specs.declared.not_run.NotRun.{NotRun}
 use Rattle.jb_journal.specs.declared.options.Commits.{Commits}
-use Rattle.jb_journal.specs.declared.options.Commits.TheVariants.{Meanwhile}
-use Rattle.std.proofs.lemmas.Result.{IfOk-weaker}
 use Rattle.jb_journal.proofs.running.run_on.Goals as goal
 
-module _ {A : Type 0} (commits : Commits) where
-  refuses-as : {D : Type 0} (G : Ghosts D) (disk : D) → (shape : Shape) × WasOpened G disk shape → (r : Result A RunFault) → IfErr r (HasNoAnswer commits) → IfErr r (RefusesRun G disk)
-  refuses-as G disk opened (Ok ran) why = tt
-  refuses-as G disk opened (Err (Open fault)) why = absurd why
-  refuses-as G disk opened (Err Memory) why = opened
-  refuses-as G disk opened (Err NoThread) why = opened
-  refuses-as G disk opened (Err Accounts) why = opened
+module _ {T D : Type 0} (G : Ghosts D) (disk : D) (b : Begun) (commits : Commits) (may : Shape → Type 0 → ℕ → ℕ → List Stop → Known → T → Type 0) (workers : ℕ) where
+  -- what is refused with this disk and these answers
+  not-run-as : (back : NotRun T D) (fault : RunFault) (after : D) (answers : List T) → back.fault ≡ fault → back.disk ≡ after → back.answers.items ≡ answers
+      → RefusesRun G disk b commits may workers fault after answers → IsNotRun G disk b commits may workers back
+  not-run-as back fault after answers same_fault same_disk same_answers refuses =
+      subst (λ (x : (RunFault × D) × List T). RefusesRun G disk b commits may workers x.0.0 x.0.1 x.1) (λ i. ((sym same_fault i, sym same_disk i), sym same_answers i)) refuses
 
-  -- where it says that the system makes no thread more
-  only-meanwhile : (r : Result A RunFault) → IfErr r (HasNoAnswer commits) → IfErr r (λ fault. fault ≡ NoThread → commits ≡ Meanwhile)
-  only-meanwhile (Ok ran) why = tt
-  only-meanwhile (Err fault) why = λ is. subst (HasNoAnswer commits) is why
+  -- a journal that was opened so, and was given no handle then
+  refuses-as : (shape : Shape) (deck : OpenDeck D) → WasOpenedAs G disk shape deck → HasNoHandle G b deck → (back : NotRun T D) → StopsRun G b deck.disk commits (may shape) workers back
+      → IsNotRun G disk b commits may workers back
+  refuses-as shape deck opened none back stops = ⊎_elim
+      (λ desk. ⊎_elim
+      (λ is. not-run-as back Accounts back.disk back.answers.items is.0 refl refl (shape, record { deck = deck; is = opened }, is.1))
+      (λ is. not-run-as back NoThread back.disk back.answers.items is.0 refl refl ((shape, record { deck = deck; is = opened }), is.1, is.2, is.3))
+      desk)
+      (λ is. not-run-as back Memory back.disk back.answers.items is.0 refl refl (record { shape = shape; deck = deck; opened = opened; same_disk = sym is.1; none = none }, is.2))
+      stops
 
 pub returns-in-Ok : goal.returns-in-Ok
 returns-in-Ok g c =
+    let b = g.H.Origin.begun in
     let ran = c.run_deck.ensures in
     let shape = c.shape-shape.result in
+    let deck = c.in-Ok.deck in
     let opened = c.in-Ok.ensures.opened shape c.shape-shape.ensures.journal in
+    let none = none-given g.D.Disk b (λ h. ⊥) deck c.in-Ok.ensures.new.0 c.in-Ok.ensures.new.1 c.in-Ok.ensures.since in
     record {
-      ran = IfOk-weaker c.run_deck.result _ _ (λ told all. record { shape = shape; opened = opened; all = all }) ran.ran;
+      ran = IfOk-weaker c.run_deck.result _ _ (λ told all. record { shape = shape; opened = record { deck = deck; is = opened }; all = all }) ran.ran;
       ends = ran.ends;
       since = ran.since;
-      refused = refuses-as c.args.options.commits g.D.Disk c.args.disk (shape, opened) c.run_deck.result ran.faults;
-      threads = only-meanwhile c.args.options.commits c.run_deck.result ran.faults;
+      refused = IfErr-weaker c.run_deck.result _ _
+          (refuses-as g.D.Disk c.args.disk b c.args.options.commits (g.W.Worker.answers c.args.worker.now b) c.args.options.workers shape deck opened none)
+          ran.faults;
     }
 
--- the disk is lost
 pub returns-in-Err : goal.returns-in-Err
-returns-in-Err g c = record { ran = tt; ends = tt; since = tt; refused = (c.in-Err.field-0-0, c.in-Err.ensures.refused); threads = λ is. absurd (let never : ⊥ = cc in never) }
+returns-in-Err g c = record {
+  ran = tt;
+  ends = tt;
+  since = tt;
+  refused =
+      not-run-as g.D.Disk c.args.disk g.H.Origin.begun c.args.options.commits (g.W.Worker.answers c.args.worker.now g.H.Origin.begun) c.args.options.workers
+      c.of.result _ c.in-Err.disk [] c.of.ensures.2 c.of.ensures.0 c.of.ensures.1 (c.in-Err.ensures.refused, refl);
+}

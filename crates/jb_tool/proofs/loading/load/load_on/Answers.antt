@@ -1,11 +1,17 @@
 use Rattle.std.proofs.Common.{Err, arith, subst, sym}
 use Rattle.jb_queue.specs.QueueLines.{handles_of}
 use Rattle.jb_tool.specs.Loads.{AnswersLoad}
-use Rattle.jb_tool.proofs.LoadAnswers.{answers-fault, answers-run, not-meanwhile}
+use Rattle.jb_tool.proofs.LoadAnswers.{answers-fault, answers-run, not-meanwhile, not-thread}
 use Rattle.jb_tool.proofs.loading.load.load_on.Goals as goal
 
 pub fault_of-requires : goal.fault_of-requires
-fault_of-requires g c = record { threads = λ none. not-meanwhile c.args.options.hold c.run_options-run.result.commits c.run_options-run.ensures.commits (c.in-Err.ensures.threads none) }
+fault_of-requires g c = record {
+  threads =
+      let back = c.in-Err.back in
+      not-thread g.D.Disk g.H.Origin.begun c.args.disk c.args.queue.now.bs (handles_of c.args.queue.now) c.args.options (omega arith)
+      c.run_options-run.result.commits _ c.run_options-run.result.workers (not-meanwhile c.args.options.hold c.run_options-run.result.commits c.run_options-run.ensures.commits)
+      back.fault back.disk back.answers.items c.in-Err.ensures.refused;
+}
 
 pub returns-in-Ok : goal.returns-in-Ok
 returns-in-Ok g c = record {
@@ -21,5 +27,7 @@ pub returns-in-Err : goal.returns-in-Err
 returns-in-Err g c = record {
   answers =
       subst (λ f. AnswersLoad g.D.Disk g.H.Origin.begun c.args.disk c.args.queue.now.bs (handles_of c.args.queue.now) c.args.options (Err f)) (sym c.fault_of.ensures)
-      (answers-fault g.D.Disk g.H.Origin.begun c.args.disk c.args.queue.now.bs (handles_of c.args.queue.now) c.args.options (omega arith) c.in-Err.fault c.in-Err.ensures.refused);
+      (answers-fault g.D.Disk g.H.Origin.begun c.args.disk c.args.queue.now.bs (handles_of c.args.queue.now) c.args.options (omega arith)
+      c.run_options-run.result.commits _ c.run_options-run.result.workers (not-meanwhile c.args.options.hold c.run_options-run.result.commits c.run_options-run.ensures.commits)
+      c.in-Err.back.fault c.in-Err.back.disk c.in-Err.back.answers.items c.in-Err.ensures.refused);
 }

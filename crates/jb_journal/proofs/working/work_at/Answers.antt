@@ -4,8 +4,8 @@ use Rattle.jb_book.specs.declared.sights.Sights.{Sights}
 use Rattle.jb_journal.specs.Client.{AreHonest, client_stops, known_in}
 use Rattle.jb_journal.specs.Notes.{Stop}
 use Rattle.jb_journal.specs.Run.{stops_left_by}
-use Rattle.jb_journal.proofs.threads.work_at.Goals as goal
-use Rattle.jb_journal.proofs.threads.work_at.Goals.{in-Some-seat, in-None}
+use Rattle.jb_journal.proofs.working.work_at.Goals as goal
+use Rattle.jb_journal.proofs.working.work_at.Goals.{in-Some-seat, in-None}
 
 pub returns : goal.returns
 returns g c =

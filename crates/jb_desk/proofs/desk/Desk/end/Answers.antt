@@ -1,0 +1,14 @@
+use Rattle.std.proofs.Common.{sym}
+use Rattle.jb_desk.proofs.desk.Desk.end.Goals as goal
+
+pub returns : goal.returns
+returns g c =
+    let ended = c.end_works-deck.ensures in
+    record {
+      log = c.end-appender.result;
+      knows = ended.knows;
+      deck = c.end_works-deck.result.0;
+      same_disk = sym c.close.ensures.value;
+      since = ended.since.since;
+      last = ended.since.marks_last;
+    }

@@ -1,0 +1,11 @@
+use Rattle.std.proofs.Common.{arith, subst}
+use Rattle.jb_journal.specs.Run.{HasWorked}
+use Rattle.jb_journal.proofs.working.work_each.Goals as goal
+
+pub returns-clause-worked : goal.returns-clause-worked
+returns-clause-worked g c = record {
+  number = search rules;
+  each = λ at d inside.
+      let changes = (c.for_each_mut.ensures at d (omega (arith, inside))).1 in
+      subst (HasWorked g.D.Disk (g.W.Worker.answers c.args.worker.now g.H.Origin.begun c.args.shape) _ at) changes.left changes.call;
+}

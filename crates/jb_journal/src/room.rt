@@ -1,0 +1,64 @@
+//! The room of a run: all memory that it takes but for its handles and their commits.
+ghost use Rattle.std.specs.Prelude.{◌≡◌, ◌+◌, ◌≤◌, All, IfOk, vec_len};
+ghost use Rattle.jb_journal.specs.Gather.{IsFree};
+ghost use Rattle.jb_journal.specs.Run.{HasNotWorked};
+
+use crate::threads::Worked;
+use jb_block::Memory;
+use jb_desk::{Desk, Left, Origin};
+use jb_disk::{Clock, Disk};
+use std::alloc::Global;
+use std::sync::Wait;
+use std::sync::ledger::Ledger;
+
+/// Room for what the threads of a run leave, taken before the first of them is made, so that no run fails for want of
+/// memory once a worker was called. Nothing is in the lists yet.
+#[derive(Drop)]
+pub(crate) struct Room<T, D: Disk, H: Origin, N: Ledger> {
+    /// For what each worker leaves.
+    pub places: Vec<Worked<T, D, H, N>>,
+    /// For what their seats and the committer's leave.
+    pub lefts: Vec<Left<H, N>>,
+    /// For what they answer.
+    pub answers: Vec<T>,
+}
+
+impl<T: Drop, D: Disk, H: Origin, N: Ledger> Room<T, D, H, N> {
+    ghost use Rattle.jb_journal.specs.Gather.{IsRoomFor};
+
+    /// Room for so many workers.
+    ///
+    /// # Errors
+    /// `Memory` where there is none for it.
+    pub(crate) fn take(alloc: Global, workers: usize) -> Result<Room<T, D, H, N>, Memory>
+        requires { workers ≤ 64 }
+        ensures { IfOk result (IsRoomFor workers) }
+    {
+        let places = Vec::with_capacity(alloc, workers)?;
+        let lefts = Vec::with_capacity(alloc, workers + 1)?;
+        let answers = Vec::with_capacity(alloc, workers)?;
+        Ok(Room {
+            places,
+            lefts,
+            answers,
+        })
+    }
+}
+
+/// A place for what each of so many workers leaves, with nothing in it.
+pub(crate) fn places_of<T: Drop, D: Disk, C: Clock, R: Wait, H: Origin, N: Ledger>(
+    rt: &R,
+    desk: &Desk<D, C, H, N>,
+    workers: usize,
+    room: Vec<Worked<T, D, H, N>>,
+) -> Vec<Worked<T, D, H, N>>
+    requires { IsFree workers room }
+    ensures number { vec_len result ≡ workers }
+    ensures none { All HasNotWorked result.items }
+{
+    let mut places = room;
+    for _ in 0..workers {
+        places.push_reserved(Worked::none(desk.sights(rt)));
+    }
+    places
+}

@@ -1,0 +1,114 @@
+//! The workers of a run, each at its place.
+ghost use Rattle.std.specs.Prelude.{◌≡◌, ◌≤◌, length, vec_len};
+ghost use Rattle.jb_handle.specs.Word.{WordMap};
+ghost use Rattle.jb_desk.specs.Desks.{shape_in};
+ghost use Rattle.jb_journal.specs.Run.{HasWorked, HaveWorked};
+
+use crate::client::Client;
+use crate::counted::CountedSeat;
+use crate::gate::Gate;
+use crate::threads::Worked;
+use crate::worker::Worker;
+use jb_desk::{Desk, Origin};
+use jb_disk::{Clock, Disk};
+use jb_handle::Shape;
+use std::sync::Wait;
+use std::sync::ledger::Ledger;
+use std::thread::Threads;
+use std::{thread, time};
+
+/// Runs the workers, a thread each, and then shuts the desk.
+pub(crate) fn work<
+    T: Drop + Send,
+    W: Worker<T> + Sync,
+    D: Disk + Drop + Send,
+    C: Clock + Drop + Send,
+    R: Threads + Wait + time::Clock + Sync,
+    H: Origin + Send + Sync,
+    N: Ledger + Send + Sync,
+>(
+    rt: &R,
+    desk: &Desk<D, C, H, N>,
+    shape: Shape,
+    gate: &Gate,
+    worker: &W,
+    places: Vec<Worked<T, D, H, N>>,
+) -> Vec<Worked<T, D, H, N>>
+    requires shape { shape ≡ shape_in desk.now }
+    requires work { (1 ≤ vec_len places) × (vec_len places ≤ 64) × ((words : WordMap) → H.begun.stops words) }
+    ensures { HaveWorked D.Disk (W.answers worker.now H.begun shape) (vec_len places) result.items }
+{
+    let mut places = places;
+    work_each(rt, desk, shape, gate, worker, places.as_mut_slice());
+    desk.shut(rt);
+    places
+}
+
+/// Runs the workers, each at its place and in a thread of its own where the system makes one.
+fn work_each<
+    T: Drop + Send,
+    W: Worker<T> + Sync,
+    D: Disk + Drop + Send,
+    C: Clock + Drop + Send,
+    R: Threads + Wait + time::Clock + Sync,
+    H: Origin + Send + Sync,
+    N: Ledger + Send + Sync,
+>(
+    rt: &R,
+    desk: &Desk<D, C, H, N>,
+    shape: Shape,
+    gate: &Gate,
+    worker: &W,
+    places: &mut [Worked<T, D, H, N>],
+)
+    requires shape { shape ≡ shape_in desk.now }
+    requires work { (1 ≤ length places.old) × (length places.old ≤ 64) × ((words : WordMap) → H.begun.stops words) }
+    ensures number { length places.new ≡ length places.old }
+    ensures worked { HaveWorked D.Disk (W.answers worker.now H.begun shape) (length places.old) places.new }
+{
+    let workers = places.len();
+    thread::for_each_mut(
+        rt,
+        places,
+        workers,
+        &|at: usize, place: &mut Worked<T, D, H, N>|
+            requires { (shape ≡ shape_in desk.now) × (1 ≤ workers) × (workers ≤ 64)
+                × ((words : WordMap) → H.begun.stops words) }
+            ensures { HasWorked D.Disk (W.answers worker.entry.now H.begun shape) workers at place.exit.now }
+        { *place = work_at(rt, desk, shape, gate, workers, worker, at) },
+    );
+}
+
+/// Runs the worker at this place, once each thread of the run is there.
+fn work_at<T, W: Worker<T>, D: Disk, C: Clock, R: Wait + time::Clock, H: Origin, N: Ledger>(
+    rt: &R,
+    desk: &Desk<D, C, H, N>,
+    shape: Shape,
+    gate: &Gate,
+    workers: usize,
+    worker: &W,
+    at: usize,
+) -> Worked<T, D, H, N>
+    requires shape { shape ≡ shape_in desk.now }
+    requires work { (1 ≤ workers) × (workers ≤ 64) × ((words : WordMap) → H.begun.stops words) }
+    ensures { HasWorked D.Disk (W.answers worker.now H.begun shape) workers at result }
+{
+    if !gate.wait(rt) {
+        return Worked::none(desk.sights(rt));
+    }
+    let Some(seat) = CountedSeat::at(rt, desk) else {
+        return Worked::none(desk.sights(rt));
+    };
+    let mut client = Client::new(rt, desk, shape, seat);
+    let answer = worker.work(&mut client, workers, at);
+    let (seat, seen) = client.into_seat();
+    let left = match seat {
+        Some(seat) => Some(seat.leave(rt, desk)),
+        None => None,
+    };
+    Worked {
+        left,
+        seen,
+        answer: Some(answer),
+    }
+}
