@@ -195,7 +195,7 @@ for at in 20, BS - 1:
     row("dump a --checksums", 0, ENDS[1], files={"a": made(V3, log)})
 # what refuses the journal does so before its lines
 row("dump a --checksums --ring", 1, err="jb: BadChecksum commit 3\n", files={"a": made(V3, with_block(2, over(TWO[2], 16, b"\0")))})
-row("dump a --checksums --ring", 1, err="jb: Super Feature 2 48\n", files={"a": image(front(48 | 1), TWO)})
+row("dump a --checksums --ring", 1, err="jb: Super Feature 2 32\n", files={"a": image(front(48 | 1), TWO)})
 row("dump a --checksums --ring", 1, err="jb: BadRevoke 1\n", files={"a": made(V3, [summed_revoke(V3, 2, [7], BS - 3), *LOG[1:]])})
 # the other options leave out lines alone; the superblock alone, a clean journal and one without checksums are not searched
 row("dump a --checksums --ring --last 0", 1, ENDS[1].replace(TWO_LINES, "".join(TWO_LINES.splitlines(True)[:2])), "jb: Lost 6\n", files={"a": made(V3, with_block(3, NO_HEAD))})
