@@ -17,7 +17,7 @@ use Rattle.jb_format.specs.Front.{homes_in}
 use Rattle.jb_super.specs.Superblock.{Superblock}
 use Rattle.jb_args.specs.PlainCommand.{CatWords, RecoverWords}
 use Rattle.jb_image.specs.Files.{as_files}
-use Rattle.jb_image.specs.Images.{is_within, own_asked}
+use Rattle.jb_image.specs.Images.{is_within, own_asked, own_home}
 use Rattle.jb_image.specs.declared.image.ImageDisk.{ImageDisk}
 use Rattle.jb_image.specs.declared.judging.JournalUse.{JournalUse}
 use Rattle.jb_image.specs.declared.judging.JournalUse.TheVariants.{RecoverCopy, RecoverInPlace}
