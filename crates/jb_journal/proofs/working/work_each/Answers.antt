@@ -1,4 +1,4 @@
-use Rattle.std.proofs.Common.{arith, subst}
+use Rattle.std.proofs.Common.{arith, rules, subst}
 use Rattle.jb_journal.specs.Run.{HasWorked}
 use Rattle.jb_journal.proofs.working.work_each.Goals as goal
 
