@@ -1,4 +1,4 @@
-pub mod Asking
+pub mod AskedCalls
 pub mod CutOfTwo
 pub mod ExampleCosts
 pub mod ExampleCrashes
