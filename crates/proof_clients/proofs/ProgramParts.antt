@@ -1,5 +1,5 @@
 -- The parts of a program: what they change, one after another, and what a part of them is.
-use Rattle.std.proofs.Common.{◌≡◌, ℕ, ◌+◌, true, nat_eq, List, [], ◌∷◌, ◌++◌, map, append_assoc, Result, Ok, Err, refl, ap, sym, arith, add_assoc, zero-add}
+use Rattle.std.proofs.Common.{◌≡◌, ◌∙◌, ℕ, ◌+◌, true, nat_eq, List, [], ◌∷◌, ◌++◌, map, append_assoc, Result, Ok, Err, refl, ap, sym, arith, add_assoc, zero-add}
 use Rattle.std.proofs.lemmas.Bool.Decides.{nat_tests}
 use Rattle.jb_deck.specs.Changes.{Change, HoldsAfter, fills, settles, torn_by}
 use Rattle.jb_deck.specs.GroupsOfBatch.{groups_in}
