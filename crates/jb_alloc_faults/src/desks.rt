@@ -87,7 +87,7 @@ fn start<H: Origin, N: Ledger>(
     marks: Opened<Deck<MemoryDisk>>,
     deck: Deck<MemoryDisk>,
 ) -> Result<Small<MemoryDisk, H, N>, Parts>
-    requires blind { H.begun.is_known → ⊥ }
+    requires blind { (H.begun.is_known → ⊥) × (H.begun.none_failed → ⊥) }
     requires handles { (handles.tickets.name ≡ H.name) × (handles.tickets.parts ≡ H.parts) × (H.parts ≡ 2 ^ 61 + 1) }
     requires histories { (history_in handles ≡ H.history) × (history_id marks ≡ H.marks) }
     requires changes { (changes.name ≡ N.name) × (changes.parts ≡ N.parts) × (N.parts ≡ 2 ^ 61 + 1) }
@@ -106,7 +106,7 @@ fn start_again<H: Origin, N: Ledger>(
     marks: Opened<Deck<MemoryDisk>>,
     deck: Deck<MemoryDisk>,
 ) -> Option<Small<MemoryDisk, H, N>>
-    requires blind { H.begun.is_known → ⊥ }
+    requires blind { (H.begun.is_known → ⊥) × (H.begun.none_failed → ⊥) }
     requires handles { (handles.tickets.name ≡ H.name) × (handles.tickets.parts ≡ H.parts) × (H.parts ≡ 2 ^ 61 + 1) }
     requires histories { (history_in handles ≡ H.history) × (history_id marks ≡ H.marks) }
     requires changes { (changes.name ≡ N.name) × (changes.parts ≡ N.parts) × (N.parts ≡ 2 ^ 61 + 1) }
@@ -127,7 +127,7 @@ pub fn started<R: Files<File = File>, H: Origin, N: Ledger>(
     deck: Deck<MemoryDisk>,
     is_refused: bool,
 ) -> (Met, Option<Small<MemoryDisk, H, N>>)
-    requires blind { H.begun.is_known → ⊥ }
+    requires blind { (H.begun.is_known → ⊥) × (H.begun.none_failed → ⊥) }
     requires handles { (handles.tickets.name ≡ H.name) × (handles.tickets.parts ≡ H.parts) × (H.parts ≡ 2 ^ 61 + 1) }
     requires histories { (history_in handles ≡ H.history) × (history_id marks ≡ H.marks) }
     requires changes { (changes.name ≡ N.name) × (changes.parts ≡ N.parts) × (N.parts ≡ 2 ^ 61 + 1) }

@@ -33,7 +33,7 @@ pub fn start<D: Disk + Drop, H: Origin, N: Ledger>(
     marks: Opened<Deck<D>>,
     deck: Deck<D>,
 ) -> Still<D, H, N>
-    requires blind { H.begun.is_known → ⊥ }
+    requires blind { (H.begun.is_known → ⊥) × (H.begun.none_failed → ⊥) }
     requires handles { (handles.tickets.name ≡ H.name) × (handles.tickets.parts ≡ H.parts) × (H.parts ≡ 2 ^ 61 + 1) }
     requires histories { (history_in handles ≡ H.history) × (history_id marks ≡ H.marks) }
     requires changes { (changes.name ≡ N.name) × (changes.parts ≡ N.parts) × (N.parts ≡ 2 ^ 61 + 1) }
@@ -53,7 +53,7 @@ pub fn small<H: Origin, N: Ledger>(
     changes: Blank,
     marks: Opened<Deck<MemoryDisk>>,
 ) -> Small<H, N>
-    requires blind { H.begun.is_known → ⊥ }
+    requires blind { (H.begun.is_known → ⊥) × (H.begun.none_failed → ⊥) }
     requires handles { (handles.tickets.name ≡ H.name) × (handles.tickets.parts ≡ H.parts) × (H.parts ≡ 2 ^ 61 + 1) }
     requires histories { (history_in handles ≡ H.history) × (history_id marks ≡ H.marks) }
     requires changes { (changes.name ≡ N.name) × (changes.parts ≡ N.parts) × (N.parts ≡ 2 ^ 61 + 1) }

@@ -80,7 +80,7 @@ fn level<R: Abort + Wait, H: Origin, N: Ledger>(
     changes: Blank,
     marks: Opened<Deck<MemoryDisk>>,
 )
-    requires blind { H.begun.is_known → ⊥ }
+    requires blind { (H.begun.is_known → ⊥) × (H.begun.none_failed → ⊥) }
     requires any { (words : WordMap) → H.begun.stops words }
     requires handles { (handles.tickets.name ≡ H.name) × (handles.tickets.parts ≡ H.parts) × (H.parts ≡ 2 ^ 61 + 1) }
     requires histories { (history_in handles ≡ H.history) × (history_id marks ≡ H.marks) }
@@ -185,7 +185,7 @@ fn beside<
     H: Origin + Send + Sync,
     N: Ledger + Send + Sync,
 >(rt: &R, alloc: Global, handles: StopLedger, changes: Blank, marks: Opened<Deck<MemoryDisk>>)
-    requires blind { H.begun.is_known → ⊥ }
+    requires blind { (H.begun.is_known → ⊥) × (H.begun.none_failed → ⊥) }
     requires any { (words : WordMap) → H.begun.stops words }
     requires handles { (handles.tickets.name ≡ H.name) × (handles.tickets.parts ≡ H.parts) × (H.parts ≡ 2 ^ 61 + 1) }
     requires histories { (history_in handles ≡ H.history) × (history_id marks ≡ H.marks) }

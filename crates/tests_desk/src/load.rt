@@ -158,7 +158,7 @@ fn outcome_of<
     changes: Blank,
     marks: Opened<Deck<FuseDisk<MemoryDisk>>>,
 ) -> Option<Outcome>
-    requires blind { H.begun.is_known → ⊥ }
+    requires blind { (H.begun.is_known → ⊥) × (H.begun.none_failed → ⊥) }
     requires any { (words : WordMap) → H.begun.stops words }
     requires handles { (handles.tickets.name ≡ H.name) × (handles.tickets.parts ≡ H.parts) × (H.parts ≡ 2 ^ 61 + 1) }
     requires histories { (history_in handles ≡ H.history) × (history_id marks ≡ H.marks) }

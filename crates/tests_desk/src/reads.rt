@@ -179,7 +179,7 @@ fn stepped<R: Abort + Wait, H: Origin, N: Ledger>(
     changes: Blank,
     marks: Opened<Deck<MemoryDisk>>,
 )
-    requires blind { H.begun.is_known → ⊥ }
+    requires blind { (H.begun.is_known → ⊥) × (H.begun.none_failed → ⊥) }
     requires any { (words : WordMap) → H.begun.stops words }
     requires handles { (handles.tickets.name ≡ H.name) × (handles.tickets.parts ≡ H.parts) × (H.parts ≡ 2 ^ 61 + 1) }
     requires histories { (history_in handles ≡ H.history) × (history_id marks ≡ H.marks) }
@@ -239,7 +239,7 @@ fn failing<R: Abort + Wait, H: Origin, N: Ledger>(
     changes: Blank,
     marks: Opened<Deck<OneFaultDisk<MemoryDisk>>>,
 ) -> bool
-    requires blind { H.begun.is_known → ⊥ }
+    requires blind { (H.begun.is_known → ⊥) × (H.begun.none_failed → ⊥) }
     requires any { (words : WordMap) → H.begun.stops words }
     requires handles { (handles.tickets.name ≡ H.name) × (handles.tickets.parts ≡ H.parts) × (H.parts ≡ 2 ^ 61 + 1) }
     requires histories { (history_in handles ≡ H.history) × (history_id marks ≡ H.marks) }

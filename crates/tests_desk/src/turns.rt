@@ -59,7 +59,7 @@ fn order<
     changes: Blank,
     marks: Opened<Deck<MemoryDisk>>,
 ) -> Vec<usize>
-    requires blind { H.begun.is_known → ⊥ }
+    requires blind { (H.begun.is_known → ⊥) × (H.begun.none_failed → ⊥) }
     requires handles { (handles.tickets.name ≡ H.name) × (handles.tickets.parts ≡ H.parts) × (H.parts ≡ 2 ^ 61 + 1) }
     requires histories { (history_in handles ≡ H.history) × (history_id marks ≡ H.marks) }
     requires changes { (changes.name ≡ N.name) × (changes.parts ≡ N.parts) × (N.parts ≡ 2 ^ 61 + 1) }

@@ -5,8 +5,8 @@ ghost use Rattle.jb_journal.specs.Client.{IsClient};
 use crate::checks::{By, Host};
 use crate::journals::{CLOCK, by, formatted, homes};
 use jb_journal::{
-    BlockSize, Client, Clock, Disk, Ended, Entry, Handle, HandleFault, MemoryDisk, OpenFault,
-    NotRun, Options, Origin, Ran, RunFault, TouchFault, WaitFault, Worker, recover, run,
+    BlockSize, Client, Clock, Disk, Ended, Entry, Handle, HandleFault, MemoryDisk, NotRun,
+    OpenFault, Options, Origin, Ran, RunFault, TouchFault, WaitFault, Worker, recover, run,
 };
 use std::sync::Wait;
 use std::sync::ledger::Ledger;

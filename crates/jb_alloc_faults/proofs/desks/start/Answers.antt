@@ -21,5 +21,6 @@ start-requires-clause-begun g c =
         numbers = subst (NumberedFrom c.args.deck.log.next) (sym c.requires.fresh) tt;
         next = (let none : length c.args.deck.trail ≡ 0 = ap length c.requires.fresh in omega (arith, none));
       };
-      since = λ known_start held. absurd (c.requires.blind known_start);
+      since = λ known_start held. absurd (c.requires.blind.0 known_start);
+      asked = λ none few. absurd (c.requires.blind.1 none);
     }
