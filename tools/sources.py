@@ -57,14 +57,25 @@ def block_around(text, at):
     return "trait " in header or " for " in header, names[-1] if names else None
 
 
-def signatures(text, name=r"\w+"):
-    """The functions of this name, by default all: whether it is `pub` or one of a trait, the type or trait that it belongs to, its
-    name, and the lines up to the body."""
+def head_of(text, at, indent):
+    """The lines of the function that begins at a place, up to its body. The doc comments over its clauses are among them."""
+    rest = text[at:]
+    end = re.search(r"^%s\{|(?<=\S);$" % indent, re.sub(r"^ *//.*$", lambda line: " " * len(line.group(0)), rest, flags=re.M), re.M)
+    return rest[:end.start()] if end else rest
+
+
+def placed_signatures(text, name=r"\w+"):
+    """The functions of this name, by default all: where it begins, whether it is `pub` or one of a trait, the type or trait that it
+    belongs to, its name, and the lines up to the body, without comments."""
     for found in re.finditer(r"^( *)((?:pub(?:\(\w+\))? )?(?:const )?)fn (%s)\b" % name, text, re.M):
-        rest = text[found.start():]
-        end = re.search(r"^%s\{|;$" % found.group(1), rest, re.M)
         of_trait, owner = block_around(text, found.start()) if found.group(1) else (False, None)
-        yield found.group(2).startswith("pub ") or of_trait, owner, found.group(3), rest[:end.start()] if end else rest
+        lines = re.sub(r"^ *///.*\n", "", head_of(text, found.start(), found.group(1)), flags=re.M)
+        yield found.start(), found.group(2).startswith("pub ") or of_trait, owner, found.group(3), lines
+
+
+def signatures(text, name=r"\w+"):
+    """The same without their places."""
+    return (rest for _, *rest in placed_signatures(text, name))
 
 
 def clause_in(lines, clause):

@@ -196,6 +196,7 @@ impl Hint {
     /// What to do, in the words of the table.
     #[tactic(auto, unfolding(crate::specs::Advice::advice_of))]
     pub fn advice(self) -> &'static str
+        /// What to do, in the words of the hint's row.
         ensures { result.now ≡ advice_of self }
     {
         let hint = self;

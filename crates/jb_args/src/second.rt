@@ -20,6 +20,7 @@ const TEXT: usize = 256;
 /// # Errors
 /// `WriteFault` where the writer took only the beginning of the line.
 pub fn put_hint<W: Write>(writer: &mut W, hint: Hint) -> Result<(), WriteFault>
+    /// The second line of a hint: what the table says in its row, and what is added to it.
     ensures { (system : List ℕ) × Puts (W.contents writer.old) (W.contents writer.new)
         (hint_line system hint) result }
 {

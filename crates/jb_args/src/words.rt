@@ -21,6 +21,7 @@ use std::io::Write;
 /// # Errors
 /// What clap says of the words: help and the version too, and out of memory as `ErrorKind::OutOfMemory`.
 pub fn parse<'a, S: AsStr>(alloc: Global, words: &'a [S]) -> Result<CommandLine<'a>, Error>
+    /// With `taken`: The command is the one that clap finds in the words, and clap finds no fault in them.
     ensures asked { IfOk result (λ found. wanted_in (map S.text words.entry.now) ≡ Some (wants found)) }
     ensures taken { IfOk result (λ _. fault_kinds (map S.text words.entry.now) ≡ []) }
     ensures refused { IfErr result (λ error. HasKind (fault_kinds (map S.text words.entry.now)) error

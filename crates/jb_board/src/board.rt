@@ -98,6 +98,7 @@ impl<L: Ledger> Board<L> {
         requires { seat_board seat.old ≡ board_id self.now }
         ensures board { seat_board seat.new ≡ seat_board seat.old }
         ensures view { seat_view seat.new ≡ result }
+        /// `look` gives a triple in order. [But see](docs/WRONG_BODIES.md#the-calls-of-a-desk).
         ensures ordered { InOrder result }
         ensures rises { IsWithin (seat_view seat.old) result }
     {
@@ -117,6 +118,8 @@ impl<L: Ledger> Board<L> {
         requires here { seat_board seat.old ≡ board_id self.now }
         requires given { count ≤ given_by tickets.now }
         ensures board { seat_board seat.new ≡ seat_board seat.old }
+        /// A raise of the count of stopped tickets leaves at least that many in its seat's view; it requires what shows
+        /// that they were given.
         ensures view { seat_view seat.new ≡ raised_stopped (seat_view seat.old) count }
     {
         self.words

@@ -88,6 +88,8 @@ impl<E, L: Place> History<E, L> {
 
     /// Adds an entry, which is made for this token.
     pub fn add(&self, appender: &mut Appender<E, L>, made: &mut OwnEntries<E, L>, entry: &E)
+        /// With `made`: An entry that is added is the last one of the history, and is one more of the token's with its
+        /// place.
         ensures whole { appender.new ≡ with_last appender.old entry.now }
         ensures made { made.new ≡ made.old ++ (length appender.old, entry.now) ∷ [] }
     {
@@ -124,6 +126,7 @@ impl<E, L: Place> History<E, L> {
 
     /// Sees the history, which begins with what was seen and with what another has seen.
     pub fn learn(&self, sight: &mut Prefix<E, L>, other: &mut Prefix<E, L>)
+        /// With `other`: A sight that learns of another begins with what both have seen.
         ensures own { IsFirstPart sight.old sight.new }
         ensures other { IsFirstPart other.old sight.new }
         ensures kept { other.new ≡ other.old }
@@ -136,6 +139,7 @@ impl<E, L: Place> History<E, L> {
     /// The whole history begins with what was seen.
     pub fn check(&self, appender: &mut Appender<E, L>, sight: Prefix<E, L>)
         ensures kept { appender.new ≡ appender.old }
+        /// What a sight has seen begins the whole history.
         ensures sight { IsFirstPart sight appender.old }
     {
         let Prefix { seat, place: _ } = sight;
@@ -155,6 +159,8 @@ impl<E, L: Place> History<E, L> {
     /// history's entries once.
     pub fn audit(&self, appender: &mut Appender<E, L>, made: OwnEntries<E, L>)
         ensures kept { appender.new ≡ appender.old }
+        /// With `whole`: Each entry of a token is in the history at its place; a token with as many entries as the
+        /// history has all of them, each once.
         ensures stands { All (StandsIn appender.old) made }
         ensures whole { length made ≡ length appender.old
             → (h : ℕ × E → ℕ) → sum_by h made ≡ sum_by h (with_places 0 appender.old) }

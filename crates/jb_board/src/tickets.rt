@@ -18,6 +18,7 @@ impl<L: Ledger> Tickets<L> {
     /// So many tickets were given. The ledger's book has counted as many.
     pub fn of(book: &Book<L>, count: u64) -> Tickets<L>
         requires { count ≤ book.now.total }
+        /// What shows that tickets were given shows no more than their ledger has counted.
         ensures { given_by result ≡ count }
     {
         Tickets {

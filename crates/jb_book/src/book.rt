@@ -1,10 +1,11 @@
-ghost use Rattle.std.specs.Prelude.{◌≡◌, ℕ, ◌+◌, ◌^◌, ◌≤◌, List, Some, None, true};
+ghost use Rattle.std.specs.Prelude.{◌≡◌, ℕ, ◌+◌, ◌^◌, ◌≤◌, List, Some, None};
 ghost use Rattle.std.specs.Prelude.{OnOk, OnErr, IfOk, IfErr, IfSome, IfNone, MatchResult};
 ghost use Rattle.jb_handle.specs.Handle.{holder, changes_of};
 ghost use Rattle.jb_plan.specs.Batch.{gathered};
 ghost use Rattle.jb_plan.specs.Costs.{HasCut};
 ghost use Rattle.jb_deck.specs.Done.{entries_of};
 
+mod ending;
 mod readers;
 mod taking;
 
@@ -69,9 +70,9 @@ impl<S: Origin> Model for Book<S> {
 impl<S: Origin> Book<S> {
     ghost use Rattle.jb_book.specs.Origin.{AreStops};
     ghost use Rattle.jb_book.specs.Account.{IsNewBook, granted_to, dropped_of, queued, taken_all};
-    ghost use Rattle.jb_book.specs.Account.{settled_to, failed_of, has_no_room, begin_refusal, RefusesBegin};
+    ghost use Rattle.jb_book.specs.Account.{settled_to, has_no_room, begin_refusal, RefusesBegin};
     ghost use Rattle.jb_book.specs.Account.{IsOpenFor, CanStop, RefusesStop, CanTake, Settles};
-    ghost use Rattle.jb_book.specs.Calls.{Call, Does, Opened, Enqueued, Dropped, Took, TookNone, Settled, Failed, Shut};
+    ghost use Rattle.jb_book.specs.Calls.{Call, Does, Opened, Enqueued, Dropped, Took, TookNone, Settled};
     ghost use Rattle.jb_book.specs.Calls.{AreOfFirst, IsCutOf, out_of, ticket_answered};
 
     /// A book in which nothing has happened yet, for a journal of this shape with so many usable log blocks. It
@@ -114,6 +115,7 @@ impl<S: Origin> Book<S> {
         ensures granted { OnOk result (begin_refusal self.old seat credits ≡ None) }
         ensures err { OnErr result (self.new ≡ self.old) }
         ensures refused { IfErr result (RefusesBegin self.old seat credits) }
+        /// A begin is a call of such a list, granted or refused.
         ensures does { (earlier : List Call) → Does (Opened seat credits result) earlier self.old self.new }
     {
         if self.aborted {
@@ -171,6 +173,7 @@ impl<S: Origin> Book<S> {
         ensures few { IfOk result (λ given. given.1 ≤ 2 ^ 61) }
         ensures back { IfErr result (λ back. back.0 ≡ handle) }
         ensures refused { IfErr result (λ back. RefusesStop self.old seat (changes_of handle).words back.1) }
+        /// So is a stop, with the ticket that it answers or its refusal. Edit: `enqueue_forgets_the_words`.
         ensures does { (earlier : List Call) → Does (Enqueued seat (changes_of handle).words
             (ticket_answered result)) earlier self.old self.new }
     {
@@ -217,6 +220,7 @@ impl<S: Origin> Book<S> {
     /// Drops a seat's open handle with all of its changes. Does nothing where the seat has none.
     pub fn drop_open(&mut self, seat: u64)
         ensures value { self.new ≡ dropped_of seat self.old }
+        /// So is a handle that is dropped.
         ensures does { (earlier : List Call) → Does (Dropped seat) earlier self.old self.new }
     {
         if let Some(credits) = self.seats.remove(&seat) {
@@ -229,10 +233,16 @@ impl<S: Origin> Book<S> {
     pub fn take(&mut self) -> Option<Batch>
         ensures batch { IfSome result (λ batch. batch ≡ gathered self.old.shadow.taken self.old.shadow.queue
             self.old.shape) }
+        /// With `batch`: What a book's `take` gives is all handles that wait, in the order of their stops, and it has a
+        /// cut within the limit ([example: `has_cut`](crates/proof_clients/src/examples/cuts.rt)).
+        ///
+        /// (By it a round of a desk takes its batch, under the lock; no clause of the desk says so.) Edit:
+        /// `take_leaves_the_last_handle_out`.
         ensures cut { IfSome result (λ _. HasCut self.old.shape self.old.shadow.queue) }
         ensures stops { IfSome result (λ batch. AreStops S.begun batch.handles) }
         ensures taken { IfSome result (λ _. CanTake self.old × (self.new ≡ taken_all self.old)) }
         ensures none { IfNone result ((CanTake self.old → ⊥) × (self.new ≡ self.old)) }
+        /// With `idles`: So is a take, with each least cut of its batch, and one that gives none.
         ensures does { IfSome result (λ batch. (cut : List ℕ) → IsCutOf batch cut → (earlier : List Call)
             → Does (Took batch cut) earlier self.old self.new) }
         ensures idles { IfNone result ((earlier : List Call) → Does TookNone earlier self.old self.new) }
@@ -259,10 +269,13 @@ impl<S: Origin> Book<S> {
     /// `WrongBatch` where the groups do not go on where the settled ones end, in tickets and numbers,
     /// or are not of the taken handles; the book is as it was.
     pub fn settle(&mut self, done: &Done) -> Result<(), WrongBatch>
+        /// With `wrong`: `settle` accepts exactly entries that continue where the settled tickets end, up to a taken
+        /// one, with numbers that rise.
         ensures ok { OnOk result ((past : ℕ) × Settles self.old past (entries_of done.now)
             × (self.new ≡ settled_to past (entries_of done.now) self.old)) }
         ensures wrong { OnErr result ((past : ℕ) → Settles self.old past (entries_of done.now) → ⊥) }
         ensures err { OnErr result (self.new ≡ self.old) }
+        /// So is a settle of entries of the first groups that are being committed, and one that is refused.
         ensures does { (earlier : List Call) → AreOfFirst (out_of earlier) (entries_of done.now)
             → Does (Settled (entries_of done.now) result) earlier self.old self.new }
     {
@@ -275,26 +288,5 @@ impl<S: Origin> Book<S> {
         self.least = least;
         self.settled = past;
         Ok(())
-    }
-
-    /// The journal has failed: the queue and the batch that is out are lost, and nothing is begun, stopped or taken
-    /// any more. Open seats stay listed until their handles are dropped.
-    pub fn fail(&mut self)
-        ensures value { self.new ≡ failed_of self.old }
-        ensures does { (earlier : List Call) → Does Failed earlier self.old self.new }
-    {
-        self.queue.clear();
-        self.credits.clear();
-        self.taken = self.settled;
-        self.line_sum = 0;
-        self.aborted = true;
-    }
-
-    /// From now on no handle is begun. Open handles may still stop.
-    pub fn shut(&mut self)
-        ensures value { self.new ≡ record self.old { shut = true } }
-        ensures does { (earlier : List Call) → Does Shut earlier self.old self.new }
-    {
-        self.shut = true;
     }
 }

@@ -104,6 +104,8 @@ impl<D: Disk, C: Clock, S: Origin> JournalState<D, C, S> {
         ensures round { EndsRound D.Disk S.begun prepared result.0 }
         ensures clock { self.new.clock ≡ self.old.clock }
         ensures stops { result.1.stops ≡ sight }
+        /// The marks are seen of a journal after its round: its groups are in the trail of one, and where it has
+        /// failed, one is of a failed journal. Edit: `commit_shows_the_marks_before_its_own`.
         ensures marked { MarksSettled result.1.marks result.0 }
     {
         histories.stops.learn(&mut self.sight, &mut sight);
@@ -131,6 +133,8 @@ impl<D: Disk, C: Clock, S: Origin> JournalState<D, C, S> {
     ///
     /// Those of the journal's own checkpoint.
     pub fn checkpoint(&mut self) -> Result<Checked, CheckpointFault>
+        /// A checkpoint under this lock is the journal's own, once: it answers by the journal as it was, and leaves
+        /// what that makes of it.
         ensures answers { AnswersRun 1 (D.faults self.old.deck.disk) (D.faults self.new.deck.disk) self.old.deck
             self.new.deck (as_run result) }
         ensures round { ChecksRound D.Disk S.begun result }
@@ -219,6 +223,9 @@ impl<D: Disk, C: Clock, S: Origin> JournalState<D, C, S> {
         marks: Prefix<Deck<D>, Marks<S>>,
     ) -> (Deck<D>, C, Prefix<Words, S>)
         ensures parts { (result.0 ≡ self.deck) × (result.1 ≡ self.clock) }
+        /// When the lock is taken apart the marks that were seen last: if the disk of the journal is honest then, it
+        /// was so at each of them, and what a crash leaves at any moment since one is recovered to the handles that
+        /// were settled at it, at least.
         ensures since { IsMarkedOf D.Disk S.begun (IsStop S.begun result.2) marks result.0 }
     {
         let JournalState {

@@ -24,6 +24,7 @@ pub fn shadowed()
 #[tactic(auto, using(crate::proofs::Shadows::stepped))]
 pub fn step_shadowed(state: &mut State, event: Event) -> Result<Reply, CoreFault>
     ensures step { MachineSteps event state.old result state.new }
+    /// Each step of the machine changes what a book knows of it as the book's call for that event does.
     ensures shadow { StepsShadow event state.old result state.new }
 {
     let _up = state.is_up(); // for the proof alone: only methods say that a state is sound
@@ -37,6 +38,7 @@ pub fn step_shadowed(state: &mut State, event: Event) -> Result<Reply, CoreFault
 /// that are out.
 #[tactic(auto, using(crate::proofs::CallTies::tied))]
 pub fn tied()
+    /// What a book accepts, the machine accepts, call by call.
     ensures { BookIsTied }
 {}
 
@@ -44,6 +46,9 @@ pub fn tied()
 /// groups that are out and the queue, joined in order, are the handles that stopped, each whole and once; and
 /// the settled groups, those of the book's trail, are always a first part of them.
 pub fn every_run()
+    /// In any list of calls of a new book (each `take` with a least cut of its batch, each `settle` of the first groups
+    /// that are being committed) each stopped handle is once and whole in a settled group, in one that is being
+    /// committed or in the queue, until the book fails. The settled groups always have a prefix of the stops.
     ensures { EveryRun }
 {}
 
@@ -51,6 +56,7 @@ pub fn every_run()
 /// `take`, also where the batch is never committed.
 #[tactic(auto, using(crate::proofs::LeastCut::has_least))]
 pub fn takes_least()
+    /// Each batch of a book has a least cut, so each `take` is a call of such a list.
     ensures { TakesLeast }
 {}
 
@@ -58,11 +64,14 @@ pub fn takes_least()
 /// after a fault of the disk of some. So `settle` may take it, as the law of every run asks.
 #[tactic(auto, using(crate::proofs::CommitEntries::commit_tells))]
 pub fn commit_tells<D: Disk>()
+    /// The entries of a commit are those of the first groups of its batch's cut.
     ensures { CommitTells D }
 {}
 
 /// Of the disk that a desk or a run gives back (the word `EndsSince` of its clauses): no call came after a write or a
 /// sync that failed, where none had failed at the start. (A call may come after a read of a home that failed.)
 pub fn none_after_at_desk<D: Disk, H: Origin>()
+    /// Nor has one of the disk that a desk, or a run, gives back, where no write and no sync had failed when it was
+    /// started.
     ensures { NoneAfterAtDesk D.Disk H.begun }
 {}

@@ -8,11 +8,14 @@ use jb_disk::Disk;
 /// any moment since that mark leaves, on a disk that is honest as the desk is closed, is recovered to the handles of
 /// the history up to this one, at least. The marks are some of those with which the desk was closed.
 pub fn stays<D: Disk, H: Origin>()
+    /// So a handle that was waited for stays: what a crash leaves at any moment from the mark to the close has it.
     ensures { ShownStays D.Disk H.begun }
 {}
 
 /// A read ([`JournalState::read`](crate::JournalState::read)) after such a wait sees the handle: it is one of those
 /// that the journal which is read was given and has settled, with the words that it stopped with.
 pub fn shown_is_given<D: Disk, H: Origin>()
+    /// A read after the wait, by this thread or by one that was informed, reads a journal that has the handle, with its
+    /// changes ([example: `is_given`](crates/proof_clients/src/examples/marks.rt)).
     ensures { ShownIsGiven D.Disk H.begun }
 {}

@@ -106,6 +106,7 @@ impl<D: Disk, S: Origin> Register<D, S> {
         handle: Handle<T>,
     ) -> Result<(T, u64), (Handle<T>, EnqueueFault)>
         requires { S.begun.stops (changes_of handle).words }
+        /// With `sees`: A stop puts the words of its handle at the end of the history, as made for its seat.
         ensures ok { IfOk result (λ given. Queues seat (holder handle) (changes_of handle).words self.old made.old given
             self.new made.new) }
         ensures sees { IfOk result (λ given. SeesStop sight.old sight.new given.1 (changes_of handle).words) }
@@ -198,6 +199,7 @@ impl<D: Disk, S: Origin> Register<D, S> {
     /// What can be seen: all that stopped, and marks of all that is settled.
     pub fn sights(&mut self, histories: &Histories<D, S>) -> Sights<D, S>
         ensures stops { result.stops ≡ self.old.log }
+        /// With `stops`: What can be seen of a register is all that stopped, and marks of all that is settled.
         ensures marks { All (IsMarked result.marks) self.old.book.trail }
         ensures kept { self.new ≡ self.old }
     {
@@ -218,6 +220,8 @@ impl<D: Disk, S: Origin> Register<D, S> {
     /// The book.
     pub fn book(&self) -> &Book<S>
         ensures value { result.now ≡ self.now.book }
+        /// Whenever a desk's lock is free, there is such a list of calls that leads from a new book to the one under
+        /// the lock, and the handles that stop in it are the history of stops. Edit: `settle_trusts_another_history`.
         ensures led { IsLed self.now.log self.now.book }
         ensures counted { length self.now.log ≡ self.now.book.shadow.next }
     {
@@ -232,6 +236,8 @@ impl<D: Disk, S: Origin> Register<D, S> {
         ensures counted { length result.1 ≡ self.book.shadow.next }
         ensures tiles { (past : ℕ) × Follow (start_of result.0.items) 0 past result.0.items
             × (past ≤ self.book.shadow.next) }
+        /// The history and the trail of a register that ends are the stops and the settled groups of events that the
+        /// machine accepts. Edit: `settle_loses_the_last_handles`.
         ensures run { IsMachineRun self.book.shape self.log result.0.items }
         ensures journal { HasShapeMark result.2 self.book.shape }
     {

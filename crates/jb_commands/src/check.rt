@@ -22,6 +22,8 @@ use std::alloc::Global;
 /// `Memory` where memory ran out.
 pub fn check_answer(alloc: Global, queue: &QueueText, claim: &[u8]) -> Result<CommandOutput, Memory>
     requires { IsWithinSize queue.now.handles.items }
+    /// What `check` prints is the checker's verdict, or the first fault of the certificate's text; it accepts only
+    /// where the cut and the total are right.
     ensures said { IfOk result (λ answer. SaysCheck (value_of queue.now) claim.now (said answer)) }
 {
     match read_cert(alloc, claim, queue.handles.as_slice().len()) {

@@ -17,6 +17,7 @@ use std::alloc::Global;
 /// `Memory` where memory ran out.
 pub fn cost_answer(alloc: Global, text: &[u8]) -> Result<CommandOutput, Memory>
     requires { length text.now < 2 ^ 63 }
+    /// What `cost` prints is a function of the text's bytes.
     ensures said { IfOk result (λ answer. cost_said text.now ≡ Some (said answer)) }
 {
     match read_queue(alloc, text) {

@@ -221,6 +221,7 @@ impl<'a> CommandFault<'a> {
 
     /// What a second line is about after its line.
     pub fn hint(self) -> Hint
+        /// The hint of each fault.
         ensures value { result ≡ hint_of self.entry }
     {
         match self {

@@ -20,6 +20,7 @@ use std::alloc::Global;
 /// `Memory` where memory ran out.
 pub fn plan_answer(alloc: Global, text: &[u8]) -> Result<CommandOutput, Memory>
     requires { length text.now < 2 ^ 63 }
+    /// What `plan` prints is the certificate of a least cut, or that there is none, or the first fault of the text.
     ensures said { IfOk result (λ answer. PlanSays text.now (said answer)) }
 {
     match read_queue(alloc, text) {

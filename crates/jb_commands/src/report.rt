@@ -39,6 +39,7 @@ impl Report {
     /// # Errors
     /// `CommandFault::WriteFault` where `out` took only the beginning of the text.
     pub fn tell<'a, O: Write>(&self, out: &mut O) -> Result<ProgramEnd, CommandFault<'a>>
+        /// What a command has done, in its line.
         ensures { TellsReport self.now (O.contents out.old) (O.contents out.new) result }
     {
         match self.put(out) {

@@ -39,9 +39,11 @@ pub fn perform<
     O: Write,
     E: Write,
 >(rt: &R, plain: Plain<'a>, input: &mut I, out: &mut O, err: &mut E) -> CommandEnd<'a, S, T>
+    /// The command that the words ask for: what it has written, the image as it has left it, and what it has to say.
     ensures ends { EndsAsked (asks plain.entry) (I.remaining input.old)
         (record { out = O.contents out.old; err = E.contents err.old })
         (record { out = O.contents out.new; err = E.contents err.new }) result.image result.end }
+    /// Standard input stays as it is where it is not the text of the command.
     ensures unread { reads_input (asks plain.entry) ≡ false → input.new ≡ input.old }
 {
     match plain {
@@ -161,6 +163,8 @@ pub fn run_plain<R: Files<File = File> + AllocGlobal, I: Read, O: Write, E: Writ
     out: &mut O,
     err: &mut E,
 ) -> ProgramEnd
+    /// Which bytes the outputs hold after a run, its status, and what a second line is about. [But
+    /// see](docs/WRONG_BODIES.md#readers-writers-and-files).
     ensures runs { Runs (asks plain.entry) (I.remaining input.old)
         (record { out = O.contents out.old; err = E.contents err.old })
         (record { out = O.contents out.new; err = E.contents err.new }) result }

@@ -10,6 +10,7 @@ ghost use Rattle.jb_core.specs.Sound.{IsMachineSound};
 /// is within the largest log, and the tickets of the current life are 0 up to the next one.
 #[tactic(auto, using(crate::proofs::SoundRuns::sounds))]
 pub fn sound()
+    /// Every machine that a run reaches is sound.
     ensures { (shape : Shape) (log : Log) (m : Machine) → Ran shape log m → IsMachineSound m }
 {}
 
@@ -17,5 +18,7 @@ pub fn sound()
 /// other one what it held. A machine that a run reaches lists each seat once, as a drop needs it.
 #[tactic(auto, using(crate::proofs::SeatMap::seats_are_map))]
 pub fn seats()
+    /// The open handles, and a book's credits, are a finite map from seats; a machine that a run reaches lists each
+    /// seat once.
     ensures { SeatsAreMap }
 {}

@@ -16,6 +16,7 @@ use std::alloc::Global;
 /// The first refusal of the event, in the order of `CoreFault`, and the machine is as it was. `Memory`
 /// where there is none for a handle that begins, changes a block or joins the queue, or for a Take.
 pub fn step(state: &mut State, event: Event) -> Result<Reply, CoreFault>
+    /// Each event is answered by the machine's table. Edit: `crash_turns_the_unsettled_handles_round`.
     ensures { MachineSteps event state.old result state.new }
 {
     if !state.is_up() {
@@ -54,6 +55,9 @@ pub fn run(
     ensures known { IfOk result (λ end. All IsKnown end.1.items) }
     ensures ran { IfOk result (λ end. Ran shape (log_from [] events.items end.1.items) end.0) }
     ensures grows { OnErr result (0 < length events.items) }
+    /// With `ran`: Over every list of events the settled, taken and queued handles are those of the life's stops, each
+    /// whole and once; once it has crashed, the settled ones are a prefix of them. Edit:
+    /// `crash_turns_the_unsettled_handles_round`.
     ensures whole { IfOk result (λ end. IsWhole (log_from [] events.items end.1.items) end.0) }
 {
     let mut state = State::new(alloc, shape);

@@ -10,6 +10,7 @@ use crate::geometry::Geometry;
 /// `nblocks` are the credits).
 pub fn worst_cost(credits: u32, geometry: Geometry) -> u64
     ensures value { result ≡ worst_cost_of geometry credits }
+    /// With `reached`: The most log blocks that a handle of N credits can take, and that some handle takes them.
     ensures bound { (h : StoppedValue) → map.len h.words ≤ credits → cost geometry (h ∷ []) ≤ result }
     ensures reached { (h : StoppedValue) → map.len h.words ≡ credits → AreCopies h.words
         → cost geometry (h ∷ []) ≡ result }
@@ -21,6 +22,7 @@ pub fn worst_cost(credits: u32, geometry: Geometry) -> u64
 pub fn most_credits(geometry: Geometry, limit: u32) -> u32
     requires { 1 ≤ limit }
     ensures within { worst_cost_of geometry result ≤ limit }
+    /// With `within`: The most credits within a limit.
     ensures most { (credits : ℕ) → worst_cost_of geometry credits ≤ limit → credits ≤ result }
 {
     let room = u64::from(limit) - 1;

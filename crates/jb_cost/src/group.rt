@@ -19,6 +19,7 @@ use std::alloc::Global;
 /// `Memory` where there is none for the sets of home blocks, and never where no handle touches one.
 pub fn group_cost(alloc: Global, handles: &[Stopped], geometry: Geometry) -> Result<u64, Memory>
     requires size { IsWithinSize handles.now }
+    /// The log blocks of some handles as one group. Edit: `adds_the_handles_counts`.
     ensures blocks { IfOk result (λ blocks. blocks ≡ cost geometry handles.now) }
     ensures grows { OnErr result (Any (λ h. 0 < map.len h.words) handles.now) }
 {

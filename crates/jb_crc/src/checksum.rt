@@ -10,6 +10,7 @@ use crate::tables::{table_1, table_2, table_3, table_4, table_5, table_6, table_
 /// bit of each byte comes first. **Nothing is inverted at the end**, as it is in RFC 3720: there the digits
 /// `123456789` have the checksum 0xE3069283, here the inverse of it, 0x1CF96D7C.
 pub fn crc32c(begun: u32, bytes: &[u8]) -> u32
+    /// The checksum of bytes is their remainder by the polynomial, begun with a number and not inverted.
     ensures { result ≡ crc32c begun bytes.now }
 {
     let mut crc = begun;

@@ -1,4 +1,4 @@
-ghost use Rattle.std.specs.Prelude.{◌≡◌, ◌+◌, ◌<◌, ◌^◌, [], false, IfOk, IfErr, OnOk, IsTrue, ◌↔◌, length};
+ghost use Rattle.std.specs.Prelude.{◌≡◌, ◌+◌, ◌<◌, ◌^◌, [], false, IfOk, IfErr, OnOk};
 ghost use Rattle.std.specs.FinMap as map;
 ghost use Rattle.jb_handle.specs.Handle.{holder, changes_of};
 ghost use Rattle.jb_handle.specs.HeldChanges.{held};
@@ -12,6 +12,7 @@ mod committing;
 mod gathering;
 mod reading;
 mod rounds;
+mod seeing;
 mod taking;
 mod waiting;
 
@@ -55,7 +56,7 @@ impl<D: Disk, C: Clock, H: Origin, N: Ledger> Desk<D, C, H, N> {
     ghost use Rattle.jb_desk.specs.Seats.{CountsStop, KeepsSeat, stops, changes, made_by};
     ghost use Rattle.jb_desk.specs.Seats.{desk_of, view_of, stops_left, changes_left, made_left};
     ghost use Rattle.jb_desk.specs.History.{history_in};
-    ghost use Rattle.jb_book.specs.Marks.{SeesMore, SeesSame, SeesStop, Shows};
+    ghost use Rattle.jb_book.specs.Marks.{SeesMore, SeesStop, Shows};
     ghost use Rattle.jb_desk.specs.Marks.{ShowsTaken};
     ghost use Rattle.jb_desk.specs.Refusals.{HandsBack, IsTooMany};
     ghost use Rattle.jb_book.specs.Since.{IsSince};
@@ -85,6 +86,7 @@ impl<D: Disk, C: Clock, H: Origin, N: Ledger> Desk<D, C, H, N> {
         requires fresh { deck.trail ≡ [] }
         requires running { deck.aborted ≡ false }
         requires begun { IsSince D.Disk H.begun deck }
+        /// A desk that is started has the journal's shape.
         ensures shape { IfOk result (λ desk. shape_in desk ≡ deck.shape) }
         ensures back { IfErr result (λ back. back ≡ (handles, changes, marks, deck, clock)) }
     {
@@ -118,6 +120,8 @@ impl<D: Disk, C: Clock, H: Origin, N: Ledger> Desk<D, C, H, N> {
     ///
     /// `Closed` where the desk is shut, or where 2^61 seats were given.
     pub fn seat<R: Wait>(&self, rt: &R) -> Result<Seat<H, N>, SeatFault>
+        /// A seat is of its desk, has stopped nothing and knows of nothing. [But
+        /// see](docs/WRONG_BODIES.md#the-calls-of-a-desk).
         ensures { IfOk result (λ seat. (desk_of seat ≡ desk_id self.now) × (stops seat ≡ 0) × (changes seat ≡ 0)
             × (made_by seat ≡ []) × (view_of seat ≡ front 0 0 0)) }
     {
@@ -128,6 +132,8 @@ impl<D: Disk, C: Clock, H: Origin, N: Ledger> Desk<D, C, H, N> {
 
     /// A seat leaves. A handle that the book still lists for it is dropped.
     pub fn leave<R: Wait>(&self, rt: &R, seat: Seat<H, N>) -> Left<H, N>
+        /// A seat that leaves gives what it has counted, and its stops. [But
+        /// see](docs/WRONG_BODIES.md#the-calls-of-a-desk).
         ensures { (stops_left result ≡ stops seat) × (changes_left result ≡ changes seat)
             × (made_left result ≡ made_by seat) }
     {
@@ -155,6 +161,8 @@ impl<D: Disk, C: Clock, H: Origin, N: Ledger> Desk<D, C, H, N> {
         seat: Seat<H, N>,
         credits: u32,
     ) -> Result<Handle<Seat<H, N>>, (Seat<H, N>, BeginFault)>
+        /// With `refused`: A handle that is begun is untouched, with these credits, and has the seat; credits that are
+        /// too many are more than the number that is named. [But see](docs/WRONG_BODIES.md#the-calls-of-a-desk).
         ensures ok { IfOk result (λ handle. (holder handle ≡ seat)
             × (changes_of handle ≡ held credits (shape_in self.now) map.empty)) }
         ensures back { IfErr result (λ back. back.0 ≡ seat) }
@@ -182,7 +190,13 @@ impl<D: Disk, C: Clock, H: Origin, N: Ledger> Desk<D, C, H, N> {
     ) -> Result<(Seat<H, N>, u64), StopFault<H, N>>
         requires seat { desk_of (holder handle) ≡ desk_id self.now }
         requires words { H.begun.stops (changes_of handle).words }
+        /// With `refused`: A stop is one more of its seat's, with the ticket that is answered and the handle's words,
+        /// counted once in the seat's share and by the blocks that it touched. The seat is sure that the tickets up to
+        /// this one have stopped, and of nothing else. A refused stop hands back the handle, or its seat where the
+        /// journal has failed. [But see](docs/WRONG_BODIES.md#the-calls-of-a-desk).
         ensures seat { IfOk result (λ given. CountsStop given.1 (changes_of handle) (holder handle) given.0) }
+        /// A handle that stops after another one's stop was seen has the higher ticket ([example:
+        /// `sees_stop`](crates/proof_clients/src/examples/marks.rt)). Edit: `stop_sees_the_history_before_it`.
         ensures sees { IfOk result (λ given. SeesStop seen.old.stops seen.new.stops given.1 (changes_of handle).words) }
         ensures marks { seen.new.marks ≡ seen.old.marks }
         ensures stopped { IfOk result (λ given. given.1 < (view_of given.0).stopped) }
@@ -201,6 +215,7 @@ impl<D: Disk, C: Clock, H: Origin, N: Ledger> Desk<D, C, H, N> {
 
     /// A handle is dropped with all of its changes. Gives its seat back.
     pub fn abandon<R: Wait>(&self, rt: &R, handle: Handle<Seat<H, N>>) -> Seat<H, N>
+        /// A handle that is dropped gives its seat back. [But see](docs/WRONG_BODIES.md#the-calls-of-a-desk).
         ensures { result ≡ holder handle }
     {
         let seat = self.counter.lock(rt).abandon(handle);
@@ -214,33 +229,11 @@ impl<D: Disk, C: Clock, H: Origin, N: Ledger> Desk<D, C, H, N> {
         ensures seat { KeepsSeat seat.old seat.new }
         ensures view { view_of seat.new ≡ result }
         ensures ordered { InOrder result }
+        /// With `view`, `ordered`: What a front shows a seat never falls, and is in order. Edit:
+        /// `look_always_gives_the_opening_counts`.
         ensures rises { IsWithin (view_of seat.old) result }
     {
         self.board.look(&mut seat.board)
-    }
-
-    /// What can be seen now of the handles that stopped and of the journal's marks, with which a thread stops, waits
-    /// and reads.
-    pub fn sights<R: Wait>(&self, rt: &R) -> Sights<D, H> {
-        self.counter.lock(rt).sights(&self.histories)
-    }
-
-    /// Sees what another thread has seen, too: so what one has stopped or waited for, another may rely on.
-    pub fn inform(&self, seen: &mut Sights<D, H>, other: &mut Sights<D, H>)
-        ensures own { SeesMore seen.old seen.new }
-        ensures other { SeesMore other.old seen.new }
-        ensures kept { SeesSame other.old other.new }
-    {
-        self.histories.learn(seen, other);
-    }
-
-    /// Sees all handles that have stopped, so that a later [`stop`](Desk::stop) gives a higher ticket, and says whether
-    /// one of them has this ticket. It waits for no commit.
-    pub fn see<R: Wait>(&self, rt: &R, seen: &mut Sights<D, H>, ticket: u64) -> bool
-        ensures given { IsTrue result ↔ ticket < length seen.new.stops }
-        ensures sees { SeesMore seen.old seen.new }
-    {
-        self.counter.lock(rt).see(&self.histories, seen, ticket)
     }
 
     /// Waits until the handle with this ticket is committed, and gives the number of its transaction
@@ -262,10 +255,17 @@ impl<D: Disk, C: Clock, H: Origin, N: Ledger> Desk<D, C, H, N> {
         requires { desk_of seat.old ≡ desk_id self.now }
         ensures seat { KeepsSeat seat.old seat.new }
         ensures settled { IfOk result (λ _. ticket < (view_of seat.new).settled) }
+        /// A wait that answers a number shows a mark, whose trail has the ticket in the transaction with this number
+        /// ([example: `shows`](crates/proof_clients/src/examples/marks.rt)).
+        ///
+        /// With `taken`: a wait that answers `Taken` shows one whose trail has an entry after the ticket.
         ensures shown { IfOk result (Shows seen.new.marks ticket) }
         ensures taken { IfErr result (ShowsTaken seen.new.marks ticket) }
         ensures begins { SeesMore seen.old seen.new }
         ensures view { OnOk result (view_of seat.new ≡ with_settled (ticket + 1) (view_of seat.old)) }
+        /// With `settled`, `view`: After a wait the seat is sure that the tickets up to its own are settled, and of no
+        /// later one; so it is where `Taken` is answered. Where it is refused otherwise, the seat is as it was. [But
+        /// see](docs/WRONG_BODIES.md#the-calls-of-a-desk).
         ensures refused { IfErr result (RefusesWait ticket seat.old seat.new) }
     {
         self.waits.come(rt);

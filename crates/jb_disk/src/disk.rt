@@ -97,6 +97,8 @@ pub trait Disk {
     /// Makes the newest content the only one that a crash may leave. A sync that fails promises nothing
     /// of what was written before it, and of a file nothing is known once anything is asked of it then.
     fn sync(&mut self) -> Result<(), Fault>
+        /// No call of a disk comes after a write or a sync that failed, where none did before; and while no call fails,
+        /// no write or sync has failed.
         ensures kept { Kept size count faults honest may_go_on well_asked (CountsFault result) self.old self.new }
         ensures spent { IsTrue (fails_next self.old) → IsErr result
             × Untouched newest may_leave moment self.old self.new }
@@ -112,8 +114,14 @@ pub trait Disk {
         ensures kept { Kept size count faults honest may_go_on well_asked (CountsFault result) self.old self.new }
         ensures spent { IsTrue (fails_next self.old) → IsErr result
             × Untouched newest may_leave moment self.old self.new }
+        /// A run of blocks that is read does to the state of a disk what a read of each of them does, up to the first
+        /// that fails.
+        ///
+        /// A read makes nothing durable: what a crash could leave it still may; and where no write or sync had failed,
+        /// none has.
         ensures own { OwnReads may_leave may_go_on (IsTrue runs_as_calls
             → AreMade own (λ k. Reads (place + k)) blocks self.old self.new (is_ok result)) self.old self.new }
+        /// Of an honest disk a run of blocks gives each of them as it is in the newest content.
         ensures found { honest self.new → OnOk result
             (ReadsRun (size self.old) blocks place (newest self.old) buf.new) }
         ensures newest { honest self.new → newest self.new ≡ newest self.old }
@@ -135,11 +143,16 @@ pub trait Disk {
         ensures kept { Kept size count faults honest may_go_on well_asked (CountsFault result) self.old self.new }
         ensures spent { IsTrue (fails_next self.old) → IsErr result
             × Untouched newest may_leave moment self.old self.new }
+        /// One that is written does what a write of each of them does. A disk in memory, a fuse, a disk of one fault
+        /// and a file do not say otherwise ([`laws::runs`](crates/jb_disk/src/laws.rt)).
         ensures own { IsTrue runs_as_calls
             → AreMade own (λ k. Writes (place + k) (part (size self.old) k bytes.now)) blocks
             self.old self.new (is_ok result) }
+        /// Of an honest disk a run of blocks that is written leaves each of them as it was passed, and no other block
+        /// changed.
         ensures written { honest self.new → OnOk result
             (WroteRun (size self.old) blocks place bytes.now (newest self.old) (newest self.new)) }
+        /// With `steps`: Where that fails, or a crash comes in its midst, each sector is old or written.
         ensures torn { honest self.new →
             TornRun (size self.old) blocks place bytes.now (newest self.old) (newest self.new) }
         ensures steps { honest self.new → Steps may_leave moment left_since

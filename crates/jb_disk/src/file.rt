@@ -58,6 +58,9 @@ impl<S: Start> FileDisk<S> {
     pub fn holding(file: File, size: BlockSize) -> Result<FileDisk<S>, Fault>
         ensures size { IfOk result (λ disk. size_of_blocks disk ≡ size) }
         ensures fresh { IfOk result (λ disk. faults_of disk ≡ 0) }
+        /// A file that is made a disk was asked its length and nothing else, and the disk has its whole blocks. From
+        /// then on it is an honest disk where the record of its calls is that of an honest file
+        /// ([`IsHonest`](crates/jb_disk/specs/File.antt)).
         ensures opened { IfOk result IsMeasured }
     {
         let Ok((host, len)) = Host::of(file) else {

@@ -9,6 +9,8 @@ use crate::{Disk, FileDisk, FuseDisk, MemoryDisk, OneFaultDisk, Start};
 /// some choice of numbers names, as `MemoryDisk::crash` takes one.
 pub fn crash()
     ensures versions { ImagesTakeVersions }
+    /// With `versions`: A crash may leave exactly the images that choices name: those in which each sector is one of
+    /// its versions since the last sync.
     ensures choices { ImagesAreChosen }
 {}
 

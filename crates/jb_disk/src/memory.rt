@@ -89,6 +89,7 @@ impl MemoryDisk {
         ensures size { IfOk result (λ disk. disk.size ≡ self.now.size) }
         ensures count { IfOk result (λ disk. disk.count ≡ self.now.count) }
         ensures grows { OnErr result (0 < self.now.count) }
+        /// A crash of a disk in memory leaves exactly the image of the choice.
         ensures chosen { IfOk result (λ disk. IsChosen self.now choice.now disk.first) }
         ensures allowed { IfOk result (λ disk. MayLeave self.now.first self.now.steps disk.first) }
         ensures fresh { IfOk result (λ disk. (disk.steps ≡ []) × (disk.faults ≡ 0)) }

@@ -47,6 +47,8 @@ impl ReadAhead {
         ensures kept { KeptOn D.Disk (CountsFault result) disk.old disk.new }
         ensures held { IsAhead self.old place → (disk.new ≡ disk.old) × (self.new ≡ self.old) }
         ensures holds { OnOk result (IsAhead self.new place) }
+        /// With `held`: A walk that reads ahead holds the block that it asks for, as it is in the newest content, and
+        /// reads on only where it does not.
         ensures ahead { IsAheadOf D.Disk place end self.new disk.new }
         ensures newest { D.honest disk.new → D.newest disk.new ≡ D.newest disk.old }
         ensures goes { D.honest disk.new → Goes D.may_leave D.moment D.left_since Same disk.old disk.new }

@@ -7,5 +7,6 @@ ghost use Rattle.jb_dump.specs.Laws.{PlainIsDumpedAlike};
 ///
 /// [`DumpFilter::checksums`]: crate::DumpFilter::checksums
 pub fn plain_is_dumped_alike()
+    /// A journal without checksums is dumped alike with the option for them and without.
     ensures { PlainIsDumpedAlike }
 {}

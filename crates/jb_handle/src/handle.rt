@@ -89,6 +89,9 @@ impl<S> Handle<S> {
     /// `Memory` where there is none for a copy of the bytes or for a further block.
     pub fn write(&mut self, home: u64, bytes: &[u8]) -> Result<(), TouchFault>
         ensures seat { holder self.new ≡ holder self.old }
+        /// With `refused`, `granted`, `memory`, `err`, `seat`: A write puts its copy on its block, in place of the
+        /// block's earlier word, and changes nothing else. It is refused exactly for the first of its facts that holds,
+        /// or with `Memory` where none does; the handle is then as it was.
         ensures ok { OnOk result (changes_of self.new ≡ after (changes_of self.old) (Write home bytes.now)) }
         ensures granted { OnOk result (refusal (changes_of self.old) (Write home bytes.now) ≡ None) }
         ensures err { OnErr result (changes_of self.new ≡ changes_of self.old) }
@@ -108,6 +111,7 @@ impl<S> Handle<S> {
     /// the block is new and there is none for it.
     pub fn revoke(&mut self, home: u64) -> Result<(), TouchFault>
         ensures seat { holder self.new ≡ holder self.old }
+        /// A revoke puts a free word there likewise.
         ensures ok { OnOk result (changes_of self.new ≡ after (changes_of self.old) (Revoke home)) }
         ensures granted { OnOk result (refusal (changes_of self.old) (Revoke home) ≡ None) }
         ensures err { OnErr result (changes_of self.new ≡ changes_of self.old) }
@@ -131,6 +135,8 @@ impl<S> Handle<S> {
         ensures ok { OnOk result (changes_of self.new ≡ put_at (changes_of self.old) home word.now) }
         ensures granted { OnOk result (refusal_at (changes_of self.old) home (len_in word.now) ≡ None) }
         ensures err { OnErr result (changes_of self.new ≡ changes_of self.old) }
+        /// With `granted`, `memory`, `ok`, `err`: A word that a text gives is put there by one call: a copy as a write
+        /// of its bytes, a freed block as a revoke, with their refusals in their order.
         ensures refused { IfErr result (λ fault. (fault ≡ Memory)
             ⊎ (refusal_at (changes_of self.old) home (len_in word.now) ≡ Some fault)) }
         ensures memory { IfErr result (λ fault. fault ≡ Memory

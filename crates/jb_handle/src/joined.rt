@@ -16,6 +16,7 @@ impl Words {
     ///
     /// `Memory` where there is none for a copy of the words, and never where no handle has a word.
     pub fn joined(alloc: Global, handles: &[Stopped]) -> Result<Words, Memory>
+        /// The words of several handles are joined as those of one.
         ensures ok { IfOk result (λ words. words ≡ words_of handles.now) }
         ensures err { OnErr result (0 < map.len (words_of handles.now)) }
     {

@@ -8,5 +8,6 @@ ghost use Rattle.jb_handle.specs.declared.op.Op.{Op as OpValue};
 /// cancels an earlier revoke, and a revoke drops an earlier copy.
 #[tactic(auto, using(crate::proofs::LastOp::word_by_last))]
 pub fn last_change_counts()
+    /// After any list of changes each block has the word of the last change on it.
     ensures { (ops : List OpValue) (home : ℕ) → map.get (words_by ops) home ≡ last_word ops home }
 {}

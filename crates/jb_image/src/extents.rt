@@ -34,6 +34,8 @@ impl Extents {
     /// `ListFault::Syntax` where a word is of another form, or the stretches are not in the journal's order;
     /// `ListFault::Memory` where memory ran out for a further stretch: the words up to it are of the form.
     pub fn read(alloc: Global, text: &[u8]) -> Result<Extents, ListFault>
+        /// The extents are those that a text lists, and it is refused exactly where it lists none. Memory runs out only
+        /// at a word that says a further stretch of the journal, where all words up to it are of the form.
         ensures { ReadsList text.now result }
     {
         let mut list = Vec::new(alloc);
@@ -63,6 +65,7 @@ impl Extents {
 
     /// The block of the image that holds block `i` of the journal.
     pub fn place(&self, i: u64) -> Option<u64>
+        /// Where a block of the journal is.
         ensures { result ≡ place_within (list_of self.now) i }
     {
         let mut left = i;
@@ -93,6 +96,7 @@ impl Extents {
     /// # Errors
     /// `Memory` where a growth was refused: they are copied, and sorted.
     pub fn shared(&self, alloc: Global) -> Result<Option<u64>, Memory>
+        /// Which block is the lowest in two extents, or that none is.
         ensures { IfOk result (SharesFirst (list_of self.now)) }
     {
         lowest_shared(alloc, self.list.as_slice())
@@ -113,6 +117,7 @@ impl Extents {
     /// The first block of the journal that does not stand where other extents have it.
     pub fn first_other(&self, other: &Extents) -> Option<u64>
         requires { extents_count (list_of self.now) < 2 ^ 64 - 1 }
+        /// Which block of the journal is the first that is not where other extents have it, or that none is.
         ensures { PartsFirst (list_of self.now) (list_of other.now) result }
     {
         first_parting(self.list.as_slice(), other.list.as_slice())
@@ -120,6 +125,7 @@ impl Extents {
 
     /// The last block of the first of them that is not whole in an image of so many blocks.
     pub fn past(&self, count: u64) -> Option<u64>
+        /// Which extent is not whole in the image, by its last block, or none.
         ensures { result ≡ past_in count (list_of self.now) }
     {
         for extent in &self.list {

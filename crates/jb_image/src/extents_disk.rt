@@ -27,6 +27,10 @@ impl<D: Disk> ExtentsDisk<D> {
 
     /// The disk that an image is, with a journal of so many blocks in these extents.
     pub fn of(disk: D, extents: Extents, journal: u64) -> ExtentsDisk<D>
+        /// With `extents`, `journal`: The disk has the image and the extents that it is made of. It is honest where the
+        /// image is and the extents share no block ([`IsHonestWithin`](crates/jb_image/specs/ExtentImage.antt)): each
+        /// place holds the block of the image that it is. Its `own` says what each read or write of a block and each
+        /// sync does ([README](crates/jb_image/README.md#what-is-proved)), which no row can name.
         ensures disk { whole_disk result ≡ disk }
         ensures extents { extents_of result ≡ extents }
         ensures journal { journal_blocks result ≡ journal }

@@ -34,7 +34,10 @@ pub fn create_image<R: Files<File = File> + AllocGlobal>(
     name: &str,
     geometry: ImageGeometry,
 ) -> Result<FileDisk, MakeFault>
+    /// An image is refused before any file is looked at exactly where a journal may not have the blocks, or a file the
+    /// bytes, that are asked for.
     ensures geometry { (result ≡ Err NoGeometry) ↔ (MakesImage geometry → ⊥) }
+    /// With `failed`: The same of a file of which nothing is supposed.
     ensures made { IfOk result (WasMade geometry) }
     ensures failed { result ≡ Err DeviceFault → MakingFailed unknown geometry }
 {
@@ -51,6 +54,10 @@ pub fn create_holding<S: Start, R: Files<File = File> + AllocGlobal>(
     geometry: ImageGeometry,
 ) -> Result<FileDisk<S>, MakeFault>
     ensures geometry { (result ≡ Err NoGeometry) ↔ (MakesImage geometry → ⊥) }
+    /// With `failed`: The disk that is given is a file of as many blocks as were asked for. If it is honest, the
+    /// journal that was asked for is in it, and a crash since it was opened finds no block changed but block 0. Or a
+    /// call of such a file has failed. That it is locked, and gets its name last, no clause says. [But
+    /// see](docs/WRONG_BODIES.md#readers-writers-and-files).
     ensures made { IfOk result (WasMade geometry) }
     ensures failed { result ≡ Err DeviceFault → MakingFailed S.Start geometry }
 {

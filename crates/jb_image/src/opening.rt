@@ -53,6 +53,7 @@ pub fn open_holding<S: Start, R: Files<File = File> + AllocGlobal>(
 ) -> Result<FileDisk<S>, ImageFault>
     ensures size { IfOk result (λ disk. size_of_blocks disk ≡ size) }
     ensures fresh { IfOk result (λ disk. faults_of disk ≡ 0) }
+    /// A file that is opened was asked its length and nothing else.
     ensures opened { IfOk result IsMeasured }
 {
     let file = open_file(rt, name, opening)?;

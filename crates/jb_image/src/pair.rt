@@ -24,6 +24,10 @@ impl<A: Disk, B: Disk> PairDisk<A, B> {
 
     /// The disk that these two are.
     pub fn of(front: A, back: B) -> PairDisk<A, B>
+        /// With `back`, `fresh`: A pair has the two disks that it is made of, and no call of it was noted yet. It is
+        /// honest where both are, with blocks of one size ([`IsHonestPair`](crates/jb_image/specs/Pair.antt)): it holds
+        /// the blocks of the one and then those of the other. Its `own` says what each read or write of a block and
+        /// each sync does to the two ([README](crates/jb_image/README.md#what-is-proved)), which no row can name.
         ensures front { front_disk result ≡ front }
         ensures back { back_disk result ≡ back }
         ensures fresh { past_states result ≡ [] }

@@ -88,6 +88,8 @@ impl<'a, D: Disk, C: Clock, R: Wait + time::Clock, H: Origin, N: Ledger> Client<
     /// The most credits of a handle: with so many changes it fits in a transaction.
     pub fn most_credits(&self) -> u32
         requires client { IsClient H.begun self.now }
+        /// The most credits that a client names are the greatest number with which a handle always fits in a
+        /// transaction.
         ensures { IsMost (geometry_of (shape_of self.now)) (shape_of self.now).limit result }
     {
         let Shape {
@@ -131,9 +133,14 @@ impl<'a, D: Disk, C: Clock, R: Wait + time::Clock, H: Origin, N: Ledger> Client<
         requires client { IsClient H.begun self.old }
         requires callable { F.IsAlwaysCallable change }
         ensures client { IsClient H.begun self.new }
+        /// A change that answers anything but `Begin` has called its closure with a handle of N credits that had
+        /// changed nothing; `Ok` has what it gave, and `Refused` why it refused. `Begin` with `TooManyCredits` names
+        /// fewer credits than N. After `Ok` the client has stopped one handle more, with the ticket that is given and
+        /// the closure's words, otherwise none. [But see](docs/WRONG_BODIES.md#the-calls-of-a-desk).
         ensures changed { AnswersChange F.FnOnce change (held credits (shape_of self.old) map.empty)
             (client_stops self.old) (client_stops self.new) result }
         ensures stopped { IfOk result (λ given. given.1 < (seen_by self.new).stopped) }
+        /// A change has a higher ticket than all handles that the client knew to have stopped.
         ensures later { IfOk result (λ given. length (client_known self.old).log ≤ given.1) }
         ensures goes_on { ClientGoesOn self.old self.new }
     {
@@ -158,6 +165,13 @@ impl<'a, D: Disk, C: Clock, R: Wait + time::Clock, H: Origin, N: Ledger> Client<
         ensures client { IsClient H.begun self.new }
         ensures answers { ReadsHome D.Disk H.begun (sights_of self.new).stops (sights_of self.old).marks
             (sights_of self.new).marks home (length buf.old) buf.new result }
+        /// A read sees the first handles by ticket, with all that its client knew to be committed, whoever stopped
+        /// them. The bytes are theirs, freed homes aside, if the disk that the run gives back is honest.
+        ///
+        /// With `answers`: A read of a client gives, if the disk was honest at all that the client has seen, what the
+        /// first of the handles that it knows leave in the home, with all that it knew to be committed before. The
+        /// journal that it reads is as it must be since the start, if its disk was honest then. [But
+        /// see](docs/WRONG_BODIES.md#the-calls-of-a-desk).
         ensures reads { OnOk result (ReadsAs H.begun (client_honest self.new) (client_known self.old)
             (client_known self.new) home buf.new) }
         ensures goes_on { ClientGoesOn self.old self.new }
@@ -171,6 +185,8 @@ impl<'a, D: Disk, C: Clock, R: Wait + time::Clock, H: Origin, N: Ledger> Client<
     pub fn see(&mut self, ticket: u64) -> bool
         requires client { IsClient H.begun self.old }
         ensures client { IsClient H.begun self.new }
+        /// What says whether a handle has a ticket: the ticket is among those of the handles that the client knows
+        /// then, so a later change has a higher one. [But see](docs/WRONG_BODIES.md#the-calls-of-a-desk).
         ensures given { IsTrue result ↔ ticket < length (client_known self.new).log }
         ensures goes_on { ClientGoesOn self.old self.new }
         ensures kept { client_stops self.new ≡ client_stops self.old }
@@ -218,6 +234,12 @@ impl<'a, D: Disk, C: Clock, R: Wait + time::Clock, H: Origin, N: Ledger> Client<
         ensures client { IsClient H.begun self.new }
         ensures settled { IfOk result (λ _. ticket < (seen_by self.new).settled) }
         ensures taken { IfErr result (λ fault. fault ≡ Taken → ticket < (seen_by self.new).settled) }
+        /// After a successful wait some note of the library's client lists the ticket under the number that was
+        /// answered; a note is a moment with the trail then.
+        ///
+        /// With `noted_taken`: After a wait the handle is in a note of the client, in the transaction of the number
+        /// that is given; where its entry was taken from the trail, a note shows that it is committed. [But
+        /// see](docs/WRONG_BODIES.md#the-calls-of-a-desk).
         ensures noted { IfOk result (IsInNotes (client_known self.new).notes ticket) }
         ensures noted_taken { IfErr result (NotesTaken (client_known self.new).notes ticket) }
         ensures goes_on { ClientGoesOn self.old self.new }

@@ -46,7 +46,12 @@ pub fn open_holding<S: Start, R: Files<File = File> + AllocGlobal>(
     name: &str,
     size: BlockSize,
 ) -> Result<FileDisk<S>, JournalFault>
+    /// The file that is given had its journal recovered: if it is honest, it holds the recovered image of what it held
+    /// when it was opened, nothing is pending, and what a crash leaves since the first call on it (for its length)
+    /// recovers to the same. [But see](docs/WRONG_BODIES.md#readers-writers-and-files).
     ensures opened { IfOk result (WasRecovered size) }
+    /// Where the fault is one of the recovery, it is that of what some such file held, if that is honest. [But
+    /// see](docs/WRONG_BODIES.md#readers-writers-and-files).
     ensures refused { IfErr result (RefusesImage S.Start size) }
 {
     let mut disk = match jb_image::open_holding::<S, R>(rt, name, size, Opening::Change) {
@@ -74,6 +79,7 @@ pub fn open_or_create<R: Files<File = File> + AllocGlobal>(
     geometry: ImageGeometry,
 ) -> Result<FileDisk, JournalFault>
     ensures size { IfOk result (λ disk. bytes_of (size_of_blocks disk) ≡ bytes_of geometry.block_size) }
+    /// The same of a file of which nothing is supposed, and so of `open`.
     ensures ready { IfOk result (WasRecoveredOrMade geometry) }
 {
     open_or_create_holding(rt, name, geometry)
@@ -89,6 +95,12 @@ pub fn open_or_create_holding<S: Start, R: Files<File = File> + AllocGlobal>(
     geometry: ImageGeometry,
 ) -> Result<FileDisk<S>, JournalFault>
     ensures size { IfOk result (λ disk. bytes_of (size_of_blocks disk) ≡ bytes_of geometry.block_size) }
+    /// The library opens a file with its journal recovered: if the file is honest, it holds the recovered image of what
+    /// it held when it was opened, all durable, and what a crash leaves since its length was asked for recovers to the
+    /// same. Or the journal was made in it.
+    ///
+    /// The same of an image that is opened or made: its journal was recovered, or the one that was asked for was made
+    /// in it, since it was opened.
     ensures ready { IfOk result (WasRecoveredOrMade geometry) }
 {
     match open_whole(rt, name, geometry) {
@@ -147,6 +159,8 @@ pub fn read_home<D: Disk>(disk: &mut D, home: u64, buf: &mut [u8]) -> Result<(),
     ensures buffer { result ≡ Err Length → buf.new ≡ buf.old }
     ensures newest { D.honest disk.new → D.newest disk.new ≡ D.newest disk.old }
     ensures idle { D.honest disk.new → Goes D.may_leave D.moment D.left_since Same disk.old disk.new }
+    /// With `ends`: A home that is read while no journal runs is as recovery leaves it; the refusals are those of a
+    /// peek, but that of a buffer of another length.
     ensures reads { D.honest disk.new → ReadsWhole (D.size disk.old) (D.count disk.old) (D.newest disk.old) home buf.old
         buf.new result }
     ensures ends { D.honest disk.new → OnOk result (IsRecoveredHome (D.size disk.old) (D.count disk.old)

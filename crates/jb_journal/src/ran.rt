@@ -43,6 +43,8 @@ impl<T: Drop, D: Drop> Ran<T, D> {
     /// - Otherwise `NotHome` where the journal has failed, or there was a checkpointer and not all is home.
     pub fn durable(self) -> Result<(D, Vec<T>), NotDurable>
         ensures given { IfOk result (λ given. (given.0 ≡ self.disk) × (given.1 ≡ self.answers)) }
+        /// With `refused`: A run is taken apart without an error exactly where all handles that stopped are settled,
+        /// the journal has not failed, and, if there was a checkpointer, all is home; otherwise the error says which.
         ensures durable { IsOk result ↔ (AllSettled self × IsDoneAtHome self) }
         ensures refused { IfErr result (IsNotDurable self) }
     {

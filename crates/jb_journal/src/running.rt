@@ -57,14 +57,54 @@ pub fn run<
     R: AllocGlobal + Threads + Wait + time::Clock + Sync,
 >(rt: &R, disk: D, clock: C, options: Options, worker: &W) -> Result<Ran<T, D>, NotRun<T, D>>
     requires workers { (1 ≤ options.workers) × (options.workers ≤ 64) }
+    /// `run` promises what `Desk::close` does, of its clients' handles and from a known start. Each note holds: what a
+    /// crash leaves since then, up to the end of the run, recovers to all handles that were durable then, and perhaps
+    /// some that follow by ticket.
+    ///
+    /// The journal on the disk was opened, and it has the same shape at the end: the workers' handles have to fit it,
+    /// and by it their transactions have cost what the trail says.
+    ///
+    /// The answers are as many as the workers, and each is one that the worker at its place may give for a journal of
+    /// that shape, with the handles that its client has stopped and what that knew of the journal.
+    ///
+    /// The handles that the clients have stopped are as many as it says, no two with one ticket, and the journal that
+    /// is left was given the first of them by their tickets, each with its words. The machine of handles accepts a list
+    /// of events in which they stopped in this order, and whose settled groups are those of the trail.
+    ///
+    /// It says how many home blocks these handles changed, each handle's added up.
+    ///
+    /// It says how many blocks of the log are in use, where the journal has not failed. Where none are and the disk is
+    /// honest, each home is on the disk as the first of these handles left it that the journal was given, freed ones
+    /// aside.
+    ///
+    /// What a client knew when its worker answered lasts: the handles are the first of those that stopped. If the disk
+    /// that is given back is honest, what a crash leaves since one of its notes, up to the end of the run, recovers to
+    /// the handles that were committed then, and after them a prefix of the others.
+    ///
+    /// If the disk that is given back is honest, it was so at all that any client has seen, so that each worker's
+    /// answer holds in full.
     ensures ran { IfOk result (RanOn D.Disk disk (started_on D.Disk disk)
         (W.answers worker.now (started_on D.Disk disk)) options.workers) }
+    /// It says how many handles are settled, by the end of the trail, which has no gap: all that have stopped, where it
+    /// says that the committer ended as the desk was over. Of the checkpointer it says whether there was one. [But
+    /// see](docs/WRONG_BODIES.md#runs).
     ensures ends { IfOk result (EndsRun options.checkpoint) }
+    /// If the disk that is given back is honest, it is that of a journal which is as it must be since `run` was called.
     ensures since { IfOk result (λ ran. EndsSince D.Disk (started_on D.Disk disk) ran.disk ran.trail.items) }
+    /// With `asked_not_run`: Where no write and no sync of the disk had failed before: no call of the disk that is
+    /// given back came after one that has failed.
     ensures asked { IfOk result (λ ran. D.well_asked disk → D.may_go_on disk → D.faults ran.disk < most_faults
         → D.well_asked ran.disk) }
     ensures asked_not_run { IfErr result (λ back. D.well_asked disk → D.may_go_on disk
         → D.faults back.disk < most_faults → D.well_asked back.disk) }
+    /// Or it gives the disk back and says why: the journal was not opened, for this; or it was only opened, and there
+    /// was no memory; or, with `Commits::Meanwhile` alone, a thread was missing, and the journal was given no handle;
+    /// no worker has answered then. Or the accounts do not agree. [But
+    /// see](docs/WRONG_BODIES.md#memory-that-was-there).
+    ///
+    /// Where the accounts do not agree: the workers that were called have answered what they may, the journal on the
+    /// disk was given the first of one history of handles and is as it must be since `run` was called, if the disk is
+    /// honest, and what each client knew lasts, as after a run.
     ensures refused { IfErr result (IsNotRun D.Disk disk (started_on D.Disk disk) options.commits
         (W.answers worker.now (started_on D.Disk disk)) options.workers) }
 {

@@ -29,8 +29,14 @@ pub fn plan(
     limit: u32,
 ) -> Result<Planned, Memory>
     requires size { IsWithinSize handles.now }
+    /// A plan's prices are, for each prefix of the handles, the fewest log blocks of a cut within the limit, or none
+    /// where no cut fits ([example: `are_prices`](crates/proof_clients/src/examples/cuts.rt)). Edit:
+    /// `plan_takes_the_longest_first_group`.
     ensures prices { IfOk result (λ planned. ArePrices (piece_cost geometry handles.now) limit (length handles.now)
         planned.prices.items) }
+    /// The plan is a cut within the limit, and no such cut takes fewer log blocks; or it says that none fits, and none
+    /// does. Nothing is said of how long it takes. [But see](docs/WRONG_BODIES.md#time). Edit:
+    /// `plan_stops_at_the_first_misfit_and_says_that_no_cut_fits`.
     ensures answer { IfOk result (λ planned. Answers (piece_cost geometry handles.now) limit (length handles.now)
         planned.prices.items planned.answer) }
 {

@@ -14,6 +14,8 @@ ghost use Rattle.jb_price.specs.Verdict.{PlannedIsAccepted};
 /// prices. It has at least one price, and a cut that it claims has at least one bound.
 #[tactic(auto, using(crate::proofs::ReadBack::read_back))]
 pub fn read_back()
+    /// The text of a certificate that has a price for each number of handles, as it is printed, is read back as the
+    /// same claim.
     ensures { (cert : Cert) (handles : ℕ) → HasText cert → length cert.prices.items ≡ handles + 1
         → read_of handles (cert_text cert) ≡ Ok (claim_of cert) }
 {}
@@ -29,6 +31,7 @@ pub fn spelled()
 /// that is no line of prices; line 2 that is neither `cut none` nor a line of bounds; line 3 that is no total, or that
 /// comes after `cut none`; a fourth line; or, of a text of the form, that there is not one price more than handles.
 pub fn first_fault()
+    /// The fault of a certificate's text is the first one by the grammar.
     ensures { (handles : ℕ) (text : List ℕ) (fault : CertFault) → (read_of handles text ≡ Err fault)
         ↔ FirstCertFault handles text fault }
 {}
@@ -36,5 +39,6 @@ pub fn first_fault()
 /// A least cut, or the answer that none fits, is accepted with prices that are least
 /// totals: such a certificate has none of the six faults, so every certificate of a plan is accepted.
 pub fn planned()
+    /// The certificate of a plan is accepted.
     ensures { PlannedIsAccepted }
 {}

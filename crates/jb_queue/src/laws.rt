@@ -9,6 +9,7 @@ ghost use Rattle.jb_queue.specs.declared.fault.QueueFault.{QueueFault};
 /// zeros, bytes are hexadecimal digits, words follow single spaces, lines are separated by LF, and the last word
 /// of a handle on a block counts. Any other text has a fault.
 pub fn spelled()
+    /// The definition gives a queue exactly where the text spells it by the grammar.
     ensures { (text : List ℕ) (queue : Queue) → (queue_of text ≡ Ok queue) ↔ Spells text queue }
 {}
 
@@ -17,5 +18,6 @@ pub fn spelled()
 /// not `h` and does not begin with `h` and a space; a word that, up to its first `=`, names no home block; or a
 /// word whose `=` is not followed by the hexadecimal text of a block's bytes.
 pub fn first_fault()
+    /// That fault is the first one by the grammar, and the cause says what its line or word lacks.
     ensures { (text : List ℕ) (fault : QueueFault) → (queue_of text ≡ Err fault) ↔ FirstFault text fault }
 {}

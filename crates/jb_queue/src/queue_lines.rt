@@ -88,6 +88,8 @@ impl HandleReader<'_> {
     ///
     /// `Memory` where there is none for the words of the handle; the reader stands after it then, too.
     pub fn read(&mut self, alloc: Global, passed: usize) -> Result<Option<Words>, Memory>
+        /// What is read from it is the handle of the queue at the reader's place, after those that are passed over; the
+        /// reader is after it then.
         ensures { (all : List StoppedValue) (at : ℕ) → StandsAfter self.old all at
             → HasRead all (at + passed) self.new result }
     {

@@ -44,8 +44,11 @@ pub struct QueueText {
 /// The first line that is not of the form, and what is wrong with it. `Memory` at a handle's line says that
 /// memory ran out there, and that all lines before it, and its first word, are of the form.
 pub fn read_queue(alloc: Global, text: &[u8]) -> Result<QueueText, QueueFault>
+    /// A queue that is read is the one that the definition gives of the text.
     ensures ok { IfOk result (λ queue. queue_of text.now ≡ Ok (value_of queue)) }
+    /// A text is refused with its first fault and the line of it.
     ensures err { IfErr result (Reports (queue_of text.now)) }
+    /// Where memory ran out, it names a handle's line, and that line's first word is of the form.
     ensures memory { IfErr result (λ fault. fault.cause ≡ OutOfMemory → MayGrowAt text.now fault.line) }
     ensures within { IfOk result (λ queue. 2 * weight queue.handles.items ≤ length text.now + 1) }
 {
@@ -78,6 +81,8 @@ pub fn read_queue(alloc: Global, text: &[u8]) -> Result<QueueText, QueueFault>
 /// As those of [`read_queue`].
 #[tactic(auto, unfolding(crate::specs::QueueLines::handles_of))]
 pub fn read_lines(alloc: Global, text: Vec<u8>) -> Result<QueueLines, QueueFault>
+    /// With `err`, `memory`: A text that is kept with its handles unread is accepted where it spells a queue, this one,
+    /// and else is refused with its first fault, as by `read_queue`.
     ensures ok { IfOk result (λ queue. queue_of text.items ≡ Ok (queue_in queue)) }
     ensures err { IfErr result (Reports (queue_of text.items)) }
     ensures memory { IfErr result (λ fault. fault.cause ≡ OutOfMemory → MayGrowAt text.items fault.line) }

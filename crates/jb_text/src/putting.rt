@@ -14,6 +14,8 @@ pub struct WriteFault;
 /// # Errors
 /// `WriteFault` where the writer took only the beginning of the text.
 pub fn put<W: Write>(writer: &mut W, text: &[u8]) -> Result<(), WriteFault>
+    /// A text is written whole, or after a fault its beginning. [But
+    /// see](docs/WRONG_BODIES.md#readers-writers-and-files).
     ensures puts { Puts (W.contents writer.old) (W.contents writer.new) text.now result }
     ensures empty { text.now ≡ [] → IsOk result }
 {

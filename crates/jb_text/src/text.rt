@@ -16,6 +16,7 @@ pub fn part(bytes: &[u8], delimiter: u8) -> (&[u8], &[u8])
 
 /// The first line of a text, without the LF at its end, and the text after it; `None` where nothing is left.
 pub fn next_line(text: &[u8]) -> Option<(&[u8], &[u8])>
+    /// The first line of a text and what comes after it, or that there is none.
     ensures { MatchOption result (lines text.now ≡ []) (λ next. FirstLine text.now next.0.now next.1.now) }
 {
     if text.is_empty() {
@@ -31,6 +32,7 @@ pub fn next_line(text: &[u8]) -> Option<(&[u8], &[u8])>
 /// The first word of a text whose words are separated by single spaces, and the text after the space that follows it,
 /// where there is one.
 pub fn next_word(text: &[u8]) -> (&[u8], Option<&[u8]>)
+    /// The first word of a line, and the words after it.
     ensures words { words text.now ≡ result.0.now ∷ words_in (option_copied result.1) }
     ensures shorter { IfSome result.1 (λ rest. length rest.now < length text.now) }
 {
@@ -43,6 +45,7 @@ pub fn next_word(text: &[u8]) -> (&[u8], Option<&[u8]>)
 
 /// The number of at most 64 bits that a text spells in decimal, without leading zeros; `None` for any other text.
 pub fn number(digits: &[u8]) -> Option<u64>
+    /// A number is read exactly where the text is a decimal below 2^64 without leading zeros.
     ensures { result ≡ number_of digits.now }
 {
     if digits.is_empty() {

@@ -31,15 +31,20 @@ pub fn run<
     O: Write,
     E: Write,
 >(rt: &R, words: &[S], input: &mut I, out: &mut O, err: &mut E) -> ProgramEnd
+    /// Without words, the same of `cost -`.
     ensures bare { words.now ≡ [] → Runs (AsksCost (codes "-")) (I.remaining input.old)
         (record { out = O.contents out.old; err = E.contents err.old })
         (record { out = O.contents out.new; err = E.contents err.new }) result }
+    /// Where it finds no fault: the same of the command that it finds; of `load` what it opens, in which order, and
+    /// what it reports. [But see](docs/WRONG_BODIES.md#loads).
     ensures asked { words.now ≢ [] → fault_kinds (map S.text words.now) ≡ []
         → IfSome (wanted_in (map S.text words.now)) (λ wanted. RunsWanted wanted (I.remaining input.old)
         (record { out = O.contents out.old; err = E.contents err.old })
         (record { out = O.contents out.new; err = E.contents err.new }) result
         ⊎ Closes None (Err CommandMemory) (record { out = O.contents out.old; err = E.contents err.old })
         (record { out = O.contents out.new; err = E.contents err.new }) result) }
+    /// Where clap refuses the words: the status, and which output stays as it was. [But
+    /// see](docs/WRONG_BODIES.md#readers-writers-and-files).
     ensures refused { words.now ≢ [] → (fault_kinds (map S.text words.now) ≢ [])
         ⊎ (wanted_in (map S.text words.now) ≡ None)
         → RefusesWords (fault_kinds (map S.text words.now)) (wanted_in (map S.text words.now))

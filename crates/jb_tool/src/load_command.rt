@@ -62,6 +62,11 @@ pub fn load_files<
     R: Files<File = File> + AllocGlobal + Threads + Wait + Clock + Sync,
     I: Read,
 >(rt: &R, load: LoadWords<'a>, input: &mut I) -> LoadDone<'a, S, T>
+    /// `load` over files, wherever the image has its journal: it was not opened; or nothing may be loaded to that file
+    /// system's journal, the text is not there or is refused, or a handle touches a block of a journal within the
+    /// image, and the image is as it was judged; or the queue was loaded and, if the files are honest, the groups that
+    /// are counted are in its journal with the handles that stopped; or `load_on` has no answer, and nothing is said of
+    /// what the image holds once its journal was opened. [But see](docs/WRONG_BODIES.md#loads).
     ensures ends { EndsOfLoad (load_said load.entry) (I.remaining input.old) result.image result.end }
     ensures unread { reads_list (load_said load.entry).extents ≡ false → input.new ≡ input.old }
 {

@@ -40,6 +40,7 @@ impl<'a, S: Start, T: Start> LoadDone<'a, S, T> {
         out: &mut O,
         err: &mut E,
     ) -> Result<ProgramEnd, CommandFault<'a>>
+        /// What came of it, in its lines, once the image is closed.
         ensures tells { TellsLoadEnd self.entry.end (record { out = O.contents out.old; err = E.contents err.old })
             (record { out = O.contents out.new; err = E.contents err.new }) result }
     {

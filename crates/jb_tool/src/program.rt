@@ -39,6 +39,8 @@ pub fn run_program<
     out: &mut O,
     err: &mut E,
 ) -> u8
+    /// The whole program, over any words and streams: its status is that of the answer, both outputs are as the answer
+    /// has left them, and on a terminal the second line of its hint follows, as far as standard error took it.
     ensures ends { EndsProgram terminals.err (λ old new ended. MatchResult words.entry
         (λ words. AnswersWords S.text words.now terminals.input (I.remaining input.old) old new ended)
         (λ kind. RefusesKind kind old new ended))

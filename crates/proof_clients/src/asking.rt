@@ -27,6 +27,9 @@ pub fn ask_file(
     home: u64,
     buf: &mut [u8],
 ) -> Option<FileDisk>
+    /// A file is opened, a batch is committed, a home read, and the oldest transaction written home, each whatever the
+    /// call before it answered: of the file that is given back no call of the system came after a write or a sync that
+    /// failed.
     ensures { IfSome result (λ disk. faults_of disk < most_faults → IsWellAsked disk) }
 {
     jb_deck::laws::none_after::<FileDisk>();
@@ -65,6 +68,7 @@ pub fn run_in_file<
     worker: &W,
 ) -> Option<Ran<T, FileDisk>>
     requires workers { (1 ≤ options.workers) × (options.workers ≤ 64) }
+    /// So it is of a file whose journal is run.
     ensures { IfSome result (λ ran. faults_of ran.disk < most_faults → IsWellAsked ran.disk) }
 {
     let disk = FileDisk::of(file, size).ok()?;

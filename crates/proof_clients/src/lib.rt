@@ -1,5 +1,9 @@
 //! Clients of a disk, a journal, a book and its threads: what the public clauses give a user, proved of a few calls
 //! one after another.
+//!
+//! # Claims
+//! Over honest disks. The proofs use the clauses of public calls and on public laws, and cite a few lemmas of the
+//! crates below. Nothing is said of a home whose last word is free, until it is written in its place.
 #![tactic(auto)]
 
 mod asking;

@@ -60,6 +60,10 @@ pub struct Lived {
 /// The fault of a recovery that was not cut short, or `Memory` where there is none for the disk after a crash or for
 /// the report.
 pub fn run_lives(alloc: Global, disk: MemoryDisk, lives: Vec<Life>) -> Result<Lived, RecoverFault>
+    /// Lives one after another, as many as a list has. Each ends with a crash at any call, a recovery that crashes at
+    /// any call, and a recovery. The disk holds, on the homes as the first recovery left them, of each life the first
+    /// groups of its handles, in order, with all that were reported as committed. Its superblock is the journal's own,
+    /// and its number counts the groups.
     ensures lives { IfOk result (λ lived. HasLives (bytes_of disk.size) disk.count
         (map (λ life. life.handles.items) lives.items) lived.committed.items (newest_of disk) (newest_of lived.disk)) }
 {

@@ -34,6 +34,9 @@ pub fn reuse_home<D: Disk>(
     ensures leaves { D.honest (disk_either result) → LeavesOnly D.moment D.left_since disk (disk_either result)
         (λ c. D.may_leave disk c ⊎ LeftByProgram (D.size disk) (D.count disk) (D.newest disk)
         (commits first ∷ writes home bytes.now ∷ commits second ∷ []) c) }
+    /// A batch, data written into a home that it freed, a read of it, entries taken from the trail, a second batch, and
+    /// the journal is closed: the data is read (its clause `read`), and whatever a crash leaves then is recovered to
+    /// all of this.
     ensures ends { D.honest (disk_either result) → IfOk result (λ closed. AllHave D.may_leave closed
         (HasChanges (D.size disk) (D.count disk) (D.newest disk)
         (all_changes (commits first ∷ writes home bytes.now ∷ commits second ∷ []))

@@ -29,6 +29,8 @@ pub fn commit_three<D: Disk + Drop>(
     third: Prepared,
     stamp: Stamp,
 ) -> Result<Deck<D>, D>
+    /// Two batches, a checkpoint and a third batch: whatever a crash leaves then has the journal's own superblock, and
+    /// is recovered to all handles of the three, at the number that comes next.
     ensures all { D.honest (disk_after result) → IfOk result (λ deck. LeavesAll D.may_leave (D.size disk)
         (D.count disk) (D.newest disk) (first.batch.handles ++ second.batch.handles ++ third.batch.handles)
         (groups_in first.groups + groups_in second.groups + groups_in third.groups) deck.disk) }

@@ -26,6 +26,8 @@ pub fn two_handles<D: Disk>(
     second: Handle<()>,
 ) -> Option<Vec<Entry>>
     ensures told { IfSome result (λ trail. deck.new.trail ≡ deck.old.trail ++ trail.items) }
+    /// With `told`: Of two handles that stop at a new book and are committed, the groups that the journal settles are
+    /// the first ones of a least cut, and have the handles whole.
     ensures stand { IfSome result (λ trail. Stand deck.old.shape (changes_of first).words (changes_of second).words
         trail.items) }
 {

@@ -35,9 +35,14 @@ pub fn recover_files<S: Start, T: Start>(
     ),
     Fault,
 >
+    /// Whatever the files do, the count of their faults is that of the answer.
     ensures faults { IfOk result (λ ran. PassFaults ran.1 0 (files_faults ran.0)) }
+    /// With `again`, `durable`: Two files are opened as one disk and recovered: if their answers were those of honest
+    /// files that held what `S` and `T` say, they hold the recovered image of that after `Ok`, and nothing is pending,
+    /// or what the answer says of a refusal. Recovered again they hold the same, after any answer.
     ensures recovers { IfOk result (λ ran. AreHonestFiles ran.0
         → Recovers (bytes_of size) (files_count ran.0) (S.content 0 ++ T.content 0) (files_content ran.0) ran.1) }
+    /// Then a crash at any call of either left something that recovers to the same image.
     ensures crash { IfOk result (λ ran. AreHonestFiles ran.0 → (c : Image) → FilesLeft ran.0 0 c
         → RecoversAs (bytes_of size) (files_count ran.0) (S.content 0 ++ T.content 0) c) }
     ensures again { IfOk result (λ ran. AreHonestFiles ran.0

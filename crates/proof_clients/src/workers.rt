@@ -19,6 +19,12 @@ pub fn two_workers<
     C: Clock + Drop + Send,
     R: AllocGlobal + Threads + Wait + time::Clock + Sync,
 >(rt: &R, disk: D, clock: C, bytes: [u8; 1024]) -> Result<Ran<Found, D>, NotRun<Found, D>>
+    /// In a program of two threads what one has written and waited for stays, and the other, once it is informed, reads
+    /// it.
+    ///
+    /// One worker writes a home, waits, and tells another one, which reads the home. If the disk that is given back is
+    /// honest, what is written stays in whatever a crash leaves since it was known to be committed, and is what the
+    /// other one has read.
     ensures { IfOk result (TwoHaveWorked D.Disk bytes disk) }
 {
     run(rt, disk, clock, Options::new(2), &Telling::new(bytes))

@@ -31,6 +31,9 @@ impl<D: Disk, S: Origin> Register<D, S> {
     ) -> Result<(), WrongBatch>
         requires settling { IsSettling seen.old.stops end shape done.now }
         requires marked { All (IsMarked seen.old.marks) (entries_of done.now) }
+        /// A settle takes a batch exactly where it is the one that is being committed, by its first ticket, its end and
+        /// its shape, and all of it is committed; otherwise the book has failed and nothing is settled. Edit:
+        /// `settle_loses_the_last_handles`.
         ensures settles { SettlesOrFails end shape done.now self.old.book result self.new.book }
         ensures log { self.new.log ≡ self.old.log }
         ensures kept { SeesSame seen.old seen.new }
@@ -69,6 +72,8 @@ impl<D: Disk, S: Origin> Register<D, S> {
         requires settling { IsSettling seen.old.stops end shape done.now }
         requires marked { All (IsMarked seen.old.marks) (entries_of done.now) }
         requires failed { HasFailedMark seen.old.marks }
+        /// After a failure the settled groups of the batch that is being committed go into the book, and it fails in
+        /// the same step.
         ensures fails { FailsAfter end shape done.now self.old.book result self.new.book }
         ensures log { self.new.log ≡ self.old.log }
         ensures kept { SeesSame seen.old seen.new }

@@ -37,6 +37,10 @@ pub fn renumber_file<'a, S: Start, T: Start, R: Files<File = File> + AllocGlobal
     extents: Option<&'a str>,
     input: &mut I,
 ) -> CommandEnd<'a, S, T>
+    /// `renumber` over a file: the image was not opened (by its first bytes or with the given extents, as `recover`
+    /// opens it); or, if it is honest, its journal has its first number again, also after a crash meanwhile, and where
+    /// it is within the image it was judged before, as for a recovery that is not forced. [But
+    /// see](docs/WRONG_BODIES.md#readers-writers-and-files).
     ensures ends { EndsOfChange Renumbers IsRenumbering RenumbersAs ReportsRenumbered image.entry.now
         (option_map (λ word. word.now) extents.entry) (I.remaining input.old) result.image result.end }
     ensures unread { reads_list (option_map (λ word. word.now) extents.entry) ≡ false → input.new ≡ input.old }
@@ -74,6 +78,7 @@ pub fn widen_file<'a, S: Start, T: Start, R: Files<File = File> + AllocGlobal, I
     extents: Option<&'a str>,
     input: &mut I,
 ) -> CommandEnd<'a, S, T>
+    /// `widen` over a file, likewise. [But see](docs/WRONG_BODIES.md#readers-writers-and-files).
     ensures ends { EndsOfChange Widens IsWidened WidensAs ReportsWidened image.entry.now
         (option_map (λ word. word.now) extents.entry) (I.remaining input.old) result.image result.end }
     ensures unread { reads_list (option_map (λ word. word.now) extents.entry) ≡ false → input.new ≡ input.old }

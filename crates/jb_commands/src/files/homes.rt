@@ -32,6 +32,8 @@ pub fn cat_file<'a, S: Start, T: Start, R: Files<File = File> + AllocGlobal, I: 
     input: &mut I,
     out: &mut O,
 ) -> CommandEnd<'a, S, T>
+    /// `cat` over files: the same of the image, since it was opened, unless a home block that is asked for is the
+    /// journal's own. [But see](docs/WRONG_BODIES.md#readers-writers-and-files).
     ensures ends { EndsOfCat image.entry.now (cat_said options.entry) (I.remaining input.old) (O.contents out.old)
         (O.contents out.new) result.image result.end }
     ensures unread { reads_list (cat_said options.entry).extents ≡ false → input.new ≡ input.old }

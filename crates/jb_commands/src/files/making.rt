@@ -35,6 +35,9 @@ pub fn format_file<'a, S: Start, T: Start, R: Files<File = File> + AllocGlobal>(
     image: &'a str,
     options: FormatOptions<'_>,
 ) -> CommandEnd<'a, S, T>
+    /// `format`: no file is looked at where an option is bad; else the file was not made, or, if it is honest, the
+    /// journal that was asked for is in it, and a crash meanwhile finds no block changed but block 0. [But
+    /// see](docs/WRONG_BODIES.md#readers-writers-and-files).
     ensures ends { EndsOfFormat image.entry.now (options_said options.entry) result.image result.end }
 {
     let new = match new_file(options) {

@@ -45,6 +45,9 @@ pub fn open_counted<'a, S: Start, T: Start, R: Files<File = File> + AllocGlobal>
     sums: Checksums,
 ) -> Result<(ImageDisk<FileDisk<S>, FileDisk<T>>, u64), CommandFault<'a>>
     ensures shut { IfErr result (IsShut name.entry.now (option_map (λ word. word.now) journal.entry)) }
+    /// With `shut`: An image is opened in blocks of the size that its superblock says, as one file, or as two: a
+    /// journal of exactly its superblock's blocks, and home blocks of the same size; its files were asked their lengths
+    /// and nothing else. [But see](docs/WRONG_BODIES.md#readers-writers-and-files).
     ensures opened { IfOk result
         (λ opened. IsImageOpened (option_map (λ word. word.now) journal.entry) opened.0 opened.1) }
 {

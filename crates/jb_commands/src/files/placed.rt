@@ -45,6 +45,9 @@ pub fn open_placed<'a, S: Start, T: Start, R: Files<File = File> + AllocGlobal, 
 ) -> Result<OpenedImage<S, T>, CommandFault<'a>>
     ensures shut { IfErr result (IsShutAt sums S.Start T.Start name.entry.now (I.remaining input.old)
         (option_map (λ word. word.now) journal.entry) (option_map (λ word. word.now) extents.entry)) }
+    /// With `shut`: An image is opened with its journal at the front, in a file of its own, in the extents of a list,
+    /// or as its file system's own; what says where that is is told. [But
+    /// see](docs/WRONG_BODIES.md#readers-writers-and-files).
     ensures opened { IfOk result (λ image. IsOpenedAt sums (I.remaining input.old)
         (option_map (λ word. word.now) journal.entry) (option_map (λ word. word.now) extents.entry)
         image.disk image.homes image.found) }

@@ -38,6 +38,24 @@ pub fn recover_file<'a, S: Start, T: Start, R: Files<File = File> + AllocGlobal,
     options: RecoverOptions<'a>,
     input: &mut I,
 ) -> CommandEnd<'a, S, T>
+    /// `recover` over files: the image was not opened, or, if its files are honest, it was recovered, also after a
+    /// crash meanwhile. Where its journal is not at its front it was judged before, one in a file of its own as an
+    /// older copy too. With `--dry-run` it was only foreseen, and its content stays. [But
+    /// see](docs/WRONG_BODIES.md#readers-writers-and-files).
+    ///
+    /// `recover` over files without `--journal` or `--extents`: the image is opened with the journal at its front, or,
+    /// where none begins there, with the own journal of its file system: in the blocks that `find_journal` finds in the
+    /// file before anything else is asked of it ([`IsOpenedByFront`](crates/jb_commands/specs/OwnPlace.antt)). [But
+    /// see](docs/WRONG_BODIES.md#readers-writers-and-files).
+    ///
+    /// `recover` over files with `--extents`: an image that is opened and is such a file system has, by the same
+    /// search, no other block at any place of its own journal than the list
+    /// ([`IsComparedTo`](crates/jb_commands/specs/OwnPlace.antt)); else nothing is done, forced or not. [But
+    /// see](docs/WRONG_BODIES.md#readers-writers-and-files).
+    ///
+    /// `recover` over files without `--journal` or `--extents`: whether a file system's own journal was found by its
+    /// inode or by the superblock's copy of its map is as the search has it, and the line names the copy; with one of
+    /// these options it never does ([`recovered_line`](crates/jb_commands/specs/Recover.antt)).
     ensures ends { EndsOfRecover image.entry.now (recover_said options.entry) (I.remaining input.old) result.image
         result.end }
     ensures unread { reads_list (recover_said options.entry).extents ≡ false → input.new ≡ input.old }

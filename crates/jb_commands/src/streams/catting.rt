@@ -42,6 +42,9 @@ pub fn cat_on<'a, D: Disk, O: Write>(
     homes: Option<u64>,
     out: &mut O,
 ) -> Result<u8, CommandFault<'a>>
+    /// `cat`: as many home blocks as are asked for, one after the other, each as `peek` gives it, or those before the
+    /// first refusal, or after a failed write a beginning of them. The disk's content stays, and so does what a crash
+    /// could leave.
     ensures cats { CatsOn shown.sums D.Disk homes shown.home shown.count shown.hex disk.old disk.new
         (O.contents out.old) (O.contents out.new) result }
 {

@@ -24,6 +24,7 @@ use std::io::Write;
 /// clean: the disk is as it was; `CommandFault::DeviceFault` where a call of the disk failed: it is to be called
 /// again.
 pub fn renumber_on<'a, D: Disk>(disk: &mut D) -> Result<Report, CommandFault<'a>>
+    /// `renumber` over any disk.
     ensures renumbers { ChangesOn D.Disk Renumbers IsRenumbering RenumbersAs ReportsRenumbered
         disk.old disk.new result }
 {
@@ -37,6 +38,7 @@ pub fn renumber_on<'a, D: Disk>(disk: &mut D) -> Result<Report, CommandFault<'a>
 /// # Errors
 /// As those of `renumber_on`.
 pub fn widen_on<'a, D: Disk>(disk: &mut D) -> Result<Report, CommandFault<'a>>
+    /// `widen` over any disk.
     ensures widens { ChangesOn D.Disk Widens IsWidened WidensAs ReportsWidened disk.old disk.new result }
 {
     let answer = widen(disk);

@@ -32,6 +32,8 @@ impl<'a> CommandFault<'a> {
     /// files it ends with the name of the one that it is about, where that is known. A control character of a name is
     /// written as `\x` and two hexadecimal digits for each of its bytes.
     pub fn tell<E: Write>(self, files: Option<TwoFiles<'_>>, err: &mut E)
+        /// The line of each fault. Of a command over two files it ends with the name of the one that it is about; the
+        /// control characters of a name are escaped.
         ensures { PutsPart (E.contents err.old) (E.contents err.new) (line_of (names_said files.entry) self.entry) }
     {
         let (words, numbers) = words_of(self);

@@ -33,6 +33,7 @@ pub fn recover_on<'a, D: Disk>(
     found: Option<MapSource>,
     sums: Checksums,
 ) -> Result<Report, CommandFault<'a>>
+    /// `recover` over any disk: what it answered is the end.
     ensures recovers { RecoversOn sums D.Disk homes found disk.old disk.new result }
 {
     let answer = recover_by(alloc, disk, sums);

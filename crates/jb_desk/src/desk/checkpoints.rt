@@ -20,6 +20,9 @@ impl<D: Disk, C: Clock, H: Origin, N: Ledger> Desk<D, C, H, N> {
     /// Those of [`Deck::checkpoint_one`](jb_deck::Deck::checkpoint_one). The book does not fail with the
     /// journal: the next batch does that, so that groups which are committed can still be settled.
     pub fn checkpoint_round<R: Wait>(&self, rt: &R) -> Result<Checked, CheckpointFault>
+        /// A round of a checkpointer that answers `Ok` has written the oldest live group of such a journal home; one
+        /// that answers `Nothing` has found none live, and one with another fault a journal that has failed. [But
+        /// see](docs/WRONG_BODIES.md#the-calls-of-a-desk).
         ensures { ChecksRound D.Disk H.begun result }
     {
         self.works.lock(rt).checkpoint()
@@ -38,6 +41,10 @@ impl<D: Disk, C: Clock, H: Origin, N: Ledger> Desk<D, C, H, N> {
         rt: &R,
         level: u32,
     ) -> Result<CheckpointRound, CheckpointFault>
+        /// A round of a checkpointer at a level answers `Low`, with how many blocks of the log are in use, where such a
+        /// journal has not failed and these are fewer than the level. Otherwise at least as many were in use, and it
+        /// has written the live groups home together, all or the 64 oldest; or none was live and the level is 0; or the
+        /// journal has failed. [But see](docs/WRONG_BODIES.md#the-calls-of-a-desk).
         ensures { ChecksAt D.Disk H.begun level result }
     {
         self.works.lock(rt).checkpoint_at(level)
@@ -57,6 +64,8 @@ impl<D: Disk, C: Clock, H: Origin, N: Ledger> Desk<D, C, H, N> {
     /// checkpointer keeps up with them, and need not write home themselves. A home that changes often is written less
     /// often under a high level, and more of the log is read by a recovery.
     pub fn run_checkpointer_at<R: Wait>(&self, rt: &R, level: u32) -> Ended
+        /// A checkpointer that ends `Shut` has a `Drained`, and at some time since the start no group was live in the
+        /// journal; otherwise it ends `Aborted`. At every level. [But see](docs/WRONG_BODIES.md#the-calls-of-a-desk).
         ensures { EndsChecking D.Disk H.begun result }
     {
         for _ in rt.forever() {

@@ -98,14 +98,50 @@ impl<D: Disk + Drop, C: Clock, H: Origin, N: Ledger> Desk<D, C, H, N> {
         seen: Sights<D, H>,
     ) -> Result<Closed<D, C>, CloseFault<D, C, H, N>>
         requires parts { (H.parts ≡ 2 ^ 61 + 1) × (N.parts ≡ 2 ^ 61 + 1) }
+        /// A closed desk gives the sums over what its seats left; neither is above 2^61.
         ensures sums { IfOk result (λ closed. AddsUp lefts.items closed.handles closed.changes) }
+        /// Its trail has the tickets from that of its first entry on without a gap, and none that no handle has.
         ensures trail { IfOk result (λ closed. (past : ℕ) × Follow (start_of closed.trail.items) 0 past
             closed.trail.items × (past ≤ closed.handles)) }
+        /// The disk that it gives is that of a journal that was given some handles, with the tickets from 0 on, each
+        /// with words that a handle may stop with. Where it is honest and no call of it has failed, these are the
+        /// settled ones, and the homes are as they say, freed ones aside. What a crash leaves now is recovered to a
+        /// prefix of them with all settled ones. What one left earlier is recovered to some prefix, or could have been
+        /// left before the start.
+        ///
+        /// The numbers of its trail rise by one, up to the next one of such a journal; where no entry was taken from
+        /// its front and the disk is honest, the first one follows the number of the start.
         ensures since { IfOk result (λ closed. EndsSince D.Disk H.begun closed.disk closed.trail.items) }
+        /// Let the handles that the threads stopped be one list, by ticket, each with its changes, of which the first n
+        /// are durable (n may be 0). If no call of the disk has failed, the homes are as these n say, freed ones aside.
+        /// A crash at the end recovers to these n at least. One after a mark recovers to all that were durable at the
+        /// mark, at least. Any other recovers to some first handles, perhaps none, or its image could have been left
+        /// before the start ([example: `ends_marked`](crates/proof_clients/src/examples/closing.rt)).
+        ///
+        /// Of a closed desk the stops that were handed to it as seen are the first of its history, and each mark that
+        /// was so lasts: if the disk that it gives is honest, it was so at the mark, and what a crash leaves at any
+        /// moment since is recovered to the handles that were settled then, at least.
+        ///
+        /// One history has as many handles as it says have stopped. The stops that all seats have left are this
+        /// history, each once, and the handles that the journal of that disk was given are the first of it: each has
+        /// the words of the stop with its ticket.
+        ///
+        /// It says how many blocks of the log are in use, where that journal has not failed. Where none are and the
+        /// disk is honest, each home is on the disk as these handles left it, freed ones aside.
         ensures stops { IfOk result (λ closed. EndsUsing D.Disk H.begun (map made_left lefts.items) closed.handles
             closed.shape closed.disk closed.trail.items seen.stops seen.marks closed.in_log) }
+        /// When the threads have ended, the machine of handles accepts a list of events whose stopped handles are those
+        /// of the threads, by ticket, and whose last settled groups are the journal's trail. So each handle is whole in
+        /// one group or in none ([example: `came_about`](crates/proof_clients/src/examples/closing.rt)).
+        ///
+        /// One history has the stops which all seats have left, each once, and no others. The machine of handles
+        /// accepts a list of events in which they stopped in this order, and whose settled groups are those of the
+        /// whole trail, in a journal of this shape if the disk is honest.
         ensures came { IfOk result (λ closed. CameAbout D.Disk H.begun (map made_left lefts.items) closed.shape
             closed.disk closed.trail.items) }
+        /// A desk that is not closed is handed back with all that its seats left and what was seen; or a journal is,
+        /// with entries that are not its trail, of which holds what the next row says. [But
+        /// see](docs/WRONG_BODIES.md#the-calls-of-a-desk).
         ensures refused { IfErr result (IsNotClosed D.Disk H.begun self lefts seen) }
     {
         let Desk {
@@ -141,6 +177,9 @@ impl<D: Disk + Drop, C: Clock, H: Origin, N: Ledger> Desk<D, C, H, N> {
     /// is queued or taken is lost. Of the marks that were seen it says that each lasts: what a crash since then leaves
     /// has all that was settled at the mark.
     pub fn end(self, seen: Sights<D, H>) -> (D, C)
+        /// A desk that ends before all seats have left gives the disk of a journal that was given the first of one
+        /// history of stops, which begins with what was seen. It is as it must be since the start, if the disk is
+        /// honest, and each mark that was seen lasts.
         ensures { EndsSeen D.Disk H.begun result.0 seen.stops seen.marks }
     {
         let Desk {

@@ -16,6 +16,7 @@ impl<D: Disk, C: Clock, H: Origin, N: Ledger> Desk<D, C, H, N> {
 
     /// A seat becomes a committer, which holds no batch.
     pub fn committer(&self, seat: Seat<H, N>) -> Committer<H, N>
+        /// A committer holds no batch at first.
         ensures { (seat_of result ≡ seat) × (held_by result ≡ None) }
     {
         Committer { seat, batch: None }
@@ -33,6 +34,8 @@ impl<D: Disk, C: Clock, H: Origin, N: Ledger> Desk<D, C, H, N> {
     ) -> Result<Retired<H, N>, Committer<H, N>>
         ensures seat { IfOk result (λ left. left.seat ≡ seat_of committer) }
         ensures lost { IfOk result (λ left. is_some left.lost ≡ is_some (held_by committer)) }
+        /// With `lost`: Only a committer with a batch is handed back when it retires; where one with a batch retires,
+        /// the book has failed.
         ensures back { IfErr result (λ back. (back ≡ committer) × (is_some (held_by committer) ≡ true)) }
     {
         let Committer { seat, batch } = committer;
@@ -55,6 +58,7 @@ impl<D: Disk, C: Clock, H: Origin, N: Ledger> Desk<D, C, H, N> {
     /// A committer ends. Where it holds a batch, this is lost, and the journal has failed then: no handle is begun,
     /// stopped or committed any more.
     pub fn give_up<R: Wait>(&self, rt: &R, committer: Committer<H, N>) -> Retired<H, N>
+        /// With `lost`: A committer that gives up gives its seat back; where it held a batch, the book has failed.
         ensures seat { result.seat ≡ seat_of committer }
         ensures lost { is_some result.lost ≡ is_some (held_by committer) }
     {

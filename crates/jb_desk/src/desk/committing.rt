@@ -44,6 +44,9 @@ impl<D: Disk, C: Clock, H: Origin, N: Ledger> Desk<D, C, H, N> {
         requires { desk_of (seat_of committer) ≡ desk_id self.now }
         ensures seat { KeepsSeat (seat_of committer) (seat_of result.0) }
         ensures rises { IsWithin (view_of (seat_of committer)) (view_of (seat_of result.0)) }
+        /// With `rises`, `seat`: A committer holds a batch where it ends `Memory` or `Refused`, and none where it ends
+        /// `Shut` or `Aborted`. The counts of its seat do not fall, and what the seat has stopped is as it was. With
+        /// every delay. [But see](docs/WRONG_BODIES.md#the-calls-of-a-desk).
         ensures held { EndsHolding result.1 (held_by result.0) }
     {
         let (mut committer, mut pace) = (committer, Pace::new(delay));

@@ -33,6 +33,11 @@ impl<D: Disk, C: Clock, H: Origin, N: Ledger> Desk<D, C, H, N> {
         home: u64,
         buf: &mut [u8],
     ) -> Result<(), ReadHomeFault>
+        /// With `sees`: A read of a home gives what it holds in a journal that is as it must be since the start, or a
+        /// refusal of the journal's own read, and changes nothing. This journal is a mark that is seen then: it was
+        /// given handles of the history, and has settled what was settled at the marks that were seen. Where the disk
+        /// is honest as the desk is closed with what was seen, it was so in the read. [But
+        /// see](docs/WRONG_BODIES.md#the-calls-of-a-desk).
         ensures reads { ReadsHome D.Disk H.begun seen.new.stops seen.old.marks seen.new.marks home (length buf.old)
             buf.new result }
         ensures sees { SeesMore seen.old seen.new }

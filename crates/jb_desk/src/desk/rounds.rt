@@ -48,14 +48,33 @@ impl<D: Disk, C: Clock, H: Origin, N: Ledger> Desk<D, C, H, N> {
     ) -> Result<Round, RoundFault>
         requires { desk_of (seat_of committer.old) ≡ desk_id self.now }
         ensures seat { KeepsSeat (seat_of committer.old) (seat_of committer.new) }
+        /// A round that answers `Committed` has settled tickets without a gap, one at least, of which the committer's
+        /// seat knows: those of the batch that it held, where it held one. It holds a batch afterwards exactly where it
+        /// answers `Memory` or `Refused`. [But see](docs/WRONG_BODIES.md#the-calls-of-a-desk).
         ensures answers { AnswersRound (held_by committer.old) (held_by committer.new)
             (view_of (seat_of committer.new)).settled result }
         ensures idle { IdleKeeps (length seen.old.stops) (seat_of committer.old) (seat_of committer.new) result }
+        /// With `idle`: A round whose committer held no batch takes up one that has all handles which its caller has
+        /// seen and that were not taken before. After a fault of the disk the committer's seat knows of a prefix of its
+        /// batch and not of all, after another refusal of none. After an idle round it is as it was, and all that its
+        /// caller has seen had stopped when the book was looked at.
         ensures view { SeesRound (length seen.old.stops) (held_by committer.old) (held_by committer.new)
             (view_of (seat_of committer.old)) (view_of (seat_of committer.new)) result }
+        /// With `cut`: The groups of a round that answers `Committed` are a cut of a batch (the held one, where one
+        /// was) that takes the fewest log blocks within the journal's limit. The batch has a handle at least, and its
+        /// handles follow those that the journal was given before. Before and after the commit the journal is as it
+        /// must be since the start. After a fault of the disk the first groups are settled in such a journal, which has
+        /// failed, and the seat knows of them. After `Refused` such a journal, which has not failed, is as it was, and
+        /// does not take the batch that is held then: it begins at another ticket, is for another shape, or needs
+        /// numbers that are spent. [But see](docs/WRONG_BODIES.md#the-calls-of-a-desk).
         ensures round { CommitsRound D.Disk H.begun (length seen.old.stops) (held_by committer.old)
             (held_by committer.new) (view_of (seat_of committer.new)).settled result }
         ensures kept { SeesSame seen.old seen.new }
+        /// A round that answers `Committed` has committed a batch by a cut within the journal's limit that takes the
+        /// fewest log blocks. The batch is not empty: the one that its committer held, or one with all handles which
+        /// were seen and not taken before. The journal's new groups are the cut's, and the handles follow those given
+        /// before. Clause `round` says what the log and the disk hold then, if the start is known and the disk is
+        /// honest at the round's end.
         ensures cut { CutsRound D.Disk H.begun (length seen.old.stops) (held_by committer.old) result }
     {
         let held = committer.batch.take();

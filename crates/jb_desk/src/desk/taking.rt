@@ -19,6 +19,9 @@ impl<D: Disk, C: Clock, H: Origin, N: Ledger> Desk<D, C, H, N> {
     ///
     /// `Memory` where there is none for the entries: none is taken.
     pub fn take_trail<R: Wait>(&self, rt: &R) -> Result<Vec<Entry>, Memory>
+        /// The entries that are taken from the trail are the first ones of such a journal, of groups that are home, and
+        /// never the last one. It was given the same handles after it. [But
+        /// see](docs/WRONG_BODIES.md#the-calls-of-a-desk). Edit: `take_trail_goes_past_the_books_last_group`.
         ensures { GivesTrail D.Disk H.begun result }
     {
         // the book may be behind the journal, never ahead of it; what it has last stays in both

@@ -35,6 +35,10 @@ impl<D: Disk, C: Clock, H: Origin, N: Ledger> Desk<D, C, H, N> {
         seat: Seat<H, N>,
         credits: u32,
     ) -> Result<Handle<Seat<H, N>>, (Seat<H, N>, BeginFault)>
+        /// With `back`, `refused`: A handle that is begun after a wait is untouched, with these credits, and has the
+        /// seat. Where it is refused the seat comes back, and credits that are too many are more than the number that
+        /// is named. The order of arrival and the ten seconds are tested. [But
+        /// see](docs/WRONG_BODIES.md#the-calls-of-a-desk).
         ensures ok { IfOk result (λ handle. (holder handle ≡ seat)
             × (changes_of handle ≡ held credits (shape_in self.now) map.empty)) }
         ensures back { IfErr result (λ back. back.0 ≡ seat) }

@@ -47,6 +47,16 @@ pub fn load_on<
     requires threads { (1 ≤ options.threads) × (options.threads ≤ 64) }
     requires begun { IsBegunOn D.Disk H.begun disk }
     requires any { (words : WordMap) → H.begun.stops words }
+    /// The counts of a load are those of one run of the journal with the handles of the queue. Each worker has stopped
+    /// a prefix of its own handles, and has answered the next one where that was refused; the earliest of these is
+    /// told. The blocks are those of the groups of the trail, which cost what their handles do. `BlockSize` and the
+    /// refusals of the journal come only where their facts hold. [But see](docs/WRONG_BODIES.md#loads).
+    ///
+    /// The groups that it counts, each whole and by the handles' tickets, are those of the journal that was opened,
+    /// which has the disk that is given back and, if that is honest, is as it must be since the start. The handle with
+    /// ticket k has the words of the handle of the text that a worker stopped with ticket k, and each handle of the
+    /// text stops once at most. The machine of handles accepts a list of events in which they stopped in this order,
+    /// and whose settled groups are those of the trail.
     ensures answers { AnswersLoad D.Disk H.begun disk queue.now.bs (handles_of queue.now) options result }
 {
     if queue.bs.bytes() != disk.block_size().bytes() {

@@ -21,6 +21,9 @@ pub fn tell_loaded<O: Write, E: Write>(
     out: &mut O,
     err: &mut E,
 ) -> Result<u8, WriteFault>
+    /// What is written of such counts: their line, the lines of what did not end well, and the status. This is 0 only
+    /// where every handle of the queue is settled, none was refused, and the committer and any checkpointer ended with
+    /// the desk. [But see](docs/WRONG_BODIES.md#readers-writers-and-files).
     ensures { TellsLoad loaded.now (O.contents out.old) (O.contents out.new) (E.contents err.old) (E.contents err.new)
         result }
 {

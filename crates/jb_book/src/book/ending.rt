@@ -1,0 +1,32 @@
+//! How a book ends: it fails with its journal, or begins no more handles.
+use crate::book::Book;
+use crate::origin::Origin;
+
+impl<S: Origin> Book<S> {
+    ghost use Rattle.std.specs.Prelude.{◌≡◌, List, true};
+    ghost use Rattle.jb_book.specs.Account.{failed_of};
+    ghost use Rattle.jb_book.specs.Calls.{Call, Does, Failed, Shut};
+
+    /// The journal has failed: the queue and the batch that is out are lost, and nothing is begun, stopped or taken
+    /// any more. Open seats stay listed until their handles are dropped.
+    pub fn fail(&mut self)
+        ensures value { self.new ≡ failed_of self.old }
+        /// So is a failure.
+        ensures does { (earlier : List Call) → Does Failed earlier self.old self.new }
+    {
+        self.queue.clear();
+        self.credits.clear();
+        self.taken = self.settled;
+        self.line_sum = 0;
+        self.aborted = true;
+    }
+
+    /// From now on no handle is begun. Open handles may still stop.
+    pub fn shut(&mut self)
+        ensures value { self.new ≡ record self.old { shut = true } }
+        /// So is a shut.
+        ensures does { (earlier : List Call) → Does Shut earlier self.old self.new }
+    {
+        self.shut = true;
+    }
+}
