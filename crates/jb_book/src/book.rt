@@ -115,7 +115,7 @@ impl<S: Origin> Book<S> {
         ensures granted { OnOk result (begin_refusal self.old seat credits ≡ None) }
         ensures err { OnErr result (self.new ≡ self.old) }
         ensures refused { IfErr result (RefusesBegin self.old seat credits) }
-        /// A begin is a call of such a list, granted or refused.
+        /// A begin is a call of a book's list of calls, granted or refused.
         ensures does { (earlier : List Call) → Does (Opened seat credits result) earlier self.old self.new }
     {
         if self.aborted {
@@ -173,7 +173,8 @@ impl<S: Origin> Book<S> {
         ensures few { IfOk result (λ given. given.1 ≤ 2 ^ 61) }
         ensures back { IfErr result (λ back. back.0 ≡ handle) }
         ensures refused { IfErr result (λ back. RefusesStop self.old seat (changes_of handle).words back.1) }
-        /// So is a stop, with the ticket that it answers or its refusal. Edit: `enqueue_forgets_the_words`.
+        /// A stop is a call of a book's list of calls, with the ticket that it answers or its refusal. Edit:
+        /// `enqueue_forgets_the_words`.
         ensures does { (earlier : List Call) → Does (Enqueued seat (changes_of handle).words
             (ticket_answered result)) earlier self.old self.new }
     {
@@ -220,7 +221,7 @@ impl<S: Origin> Book<S> {
     /// Drops a seat's open handle with all of its changes. Does nothing where the seat has none.
     pub fn drop_open(&mut self, seat: u64)
         ensures value { self.new ≡ dropped_of seat self.old }
-        /// So is a handle that is dropped.
+        /// A handle that is dropped is a call of a book's list of calls.
         ensures does { (earlier : List Call) → Does (Dropped seat) earlier self.old self.new }
     {
         if let Some(credits) = self.seats.remove(&seat) {
@@ -242,7 +243,8 @@ impl<S: Origin> Book<S> {
         ensures stops { IfSome result (λ batch. AreStops S.begun batch.handles) }
         ensures taken { IfSome result (λ _. CanTake self.old × (self.new ≡ taken_all self.old)) }
         ensures none { IfNone result ((CanTake self.old → ⊥) × (self.new ≡ self.old)) }
-        /// With `idles`: So is a take, with each least cut of its batch, and one that gives none.
+        /// With `idles`: A take is a call of a book's list of calls, with each least cut of its batch, and so is one
+        /// that gives none.
         ensures does { IfSome result (λ batch. (cut : List ℕ) → IsCutOf batch cut → (earlier : List Call)
             → Does (Took batch cut) earlier self.old self.new) }
         ensures idles { IfNone result ((earlier : List Call) → Does TookNone earlier self.old self.new) }
@@ -275,7 +277,8 @@ impl<S: Origin> Book<S> {
             × (self.new ≡ settled_to past (entries_of done.now) self.old)) }
         ensures wrong { OnErr result ((past : ℕ) → Settles self.old past (entries_of done.now) → ⊥) }
         ensures err { OnErr result (self.new ≡ self.old) }
-        /// So is a settle of entries of the first groups that are being committed, and one that is refused.
+        /// A settle of entries of the first groups that are being committed is a call of a book's list of calls, and so
+        /// is one that is refused.
         ensures does { (earlier : List Call) → AreOfFirst (out_of earlier) (entries_of done.now)
             → Does (Settled (entries_of done.now) result) earlier self.old self.new }
     {

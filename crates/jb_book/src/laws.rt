@@ -71,7 +71,7 @@ pub fn commit_tells<D: Disk>()
 /// Of the disk that a desk or a run gives back (the word `EndsSince` of its clauses): no call came after a write or a
 /// sync that failed, where none had failed at the start. (A call may come after a read of a home that failed.)
 pub fn none_after_at_desk<D: Disk, H: Origin>()
-    /// Nor has one of the disk that a desk, or a run, gives back, where no write and no sync had failed when it was
-    /// started.
+    /// No call of the disk that a desk, or a run, gives back has come after a write or a sync that failed, where none
+    /// had failed when it was started.
     ensures { NoneAfterAtDesk D.Disk H.begun }
 {}

@@ -8,7 +8,7 @@ use jb_disk::Disk;
 /// any moment since that mark leaves, on a disk that is honest as the desk is closed, is recovered to the handles of
 /// the history up to this one, at least. The marks are some of those with which the desk was closed.
 pub fn stays<D: Disk, H: Origin>()
-    /// So a handle that was waited for stays: what a crash leaves at any moment from the mark to the close has it.
+    /// A handle that was waited for stays: what a crash leaves at any moment from the mark to the close has it.
     ensures { ShownStays D.Disk H.begun }
 {}
 

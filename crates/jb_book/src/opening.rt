@@ -22,7 +22,7 @@ pub fn open<D: Disk, H: Origin>(alloc: Global, disk: D) -> Result<Deck<D>, (D, O
     ensures new { IfOk result (λ deck. (deck.trail ≡ []) × (deck.aborted ≡ false)) }
     /// A journal that is opened on the disk of a start is as it must be since then.
     ensures since { IfOk result (IsSince D.Disk H.begun) }
-    /// One that is not opened is refused for one of the reasons of jb_deck, and the disk comes back.
+    /// A disk that is not opened is refused for one of the reasons of jb_deck, and comes back.
     ensures refused { IfErr result (λ back. NotOpened D.Disk disk back.0 back.1) }
 {
     Deck::open(alloc, disk)

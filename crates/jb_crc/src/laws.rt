@@ -5,7 +5,7 @@ ghost use Rattle.jb_crc.specs.Laws.{TakesPieces, HasCheckValue, SeesOneByte};
 /// The checksum is CRC-32C, by its check value: that of `123456789` is 0xE3069283, where it is begun with
 /// ones and inverted at the end.
 pub fn has_check_value()
-    /// It is CRC-32C, by its check value.
+    /// The checksum is CRC-32C, by its check value.
     ensures { HasCheckValue }
 {}
 

@@ -143,8 +143,8 @@ pub trait Disk {
         ensures kept { Kept size count faults honest may_go_on well_asked (CountsFault result) self.old self.new }
         ensures spent { IsTrue (fails_next self.old) → IsErr result
             × Untouched newest may_leave moment self.old self.new }
-        /// One that is written does what a write of each of them does. A disk in memory, a fuse, a disk of one fault
-        /// and a file do not say otherwise ([`laws::runs`](crates/jb_disk/src/laws.rt)).
+        /// A run of blocks that is written does what a write of each of them does. A disk in memory, a fuse, a disk of
+        /// one fault and a file do not say otherwise ([`laws::runs`](crates/jb_disk/src/laws.rt)).
         ensures own { IsTrue runs_as_calls
             → AreMade own (λ k. Writes (place + k) (part (size self.old) k bytes.now)) blocks
             self.old self.new (is_ok result) }

@@ -111,7 +111,7 @@ impl<S> Handle<S> {
     /// the block is new and there is none for it.
     pub fn revoke(&mut self, home: u64) -> Result<(), TouchFault>
         ensures seat { holder self.new ≡ holder self.old }
-        /// A revoke puts a free word there likewise.
+        /// A revoke puts a free word at its home's place, as a write puts its bytes.
         ensures ok { OnOk result (changes_of self.new ≡ after (changes_of self.old) (Revoke home)) }
         ensures granted { OnOk result (refusal (changes_of self.old) (Revoke home) ≡ None) }
         ensures err { OnErr result (changes_of self.new ≡ changes_of self.old) }

@@ -37,7 +37,7 @@ pub fn create_image<R: Files<File = File> + AllocGlobal>(
     /// An image is refused before any file is looked at exactly where a journal may not have the blocks, or a file the
     /// bytes, that are asked for.
     ensures geometry { (result ≡ Err NoGeometry) ↔ (MakesImage geometry → ⊥) }
-    /// With `failed`: The same of a file of which nothing is supposed.
+    /// With `failed`: What `create_holding` does, of a file of which nothing is supposed.
     ensures made { IfOk result (WasMade geometry) }
     ensures failed { result ≡ Err DeviceFault → MakingFailed unknown geometry }
 {

@@ -79,7 +79,7 @@ pub fn open_or_create<R: Files<File = File> + AllocGlobal>(
     geometry: ImageGeometry,
 ) -> Result<FileDisk, JournalFault>
     ensures size { IfOk result (λ disk. bytes_of (size_of_blocks disk) ≡ bytes_of geometry.block_size) }
-    /// The same of a file of which nothing is supposed, and so of `open`.
+    /// What `open_or_create_holding` does, of a file of which nothing is supposed, and so of `open`.
     ensures ready { IfOk result (WasRecoveredOrMade geometry) }
 {
     open_or_create_holding(rt, name, geometry)
@@ -99,8 +99,8 @@ pub fn open_or_create_holding<S: Start, R: Files<File = File> + AllocGlobal>(
     /// it held when it was opened, all durable, and what a crash leaves since its length was asked for recovers to the
     /// same. Or the journal was made in it.
     ///
-    /// The same of an image that is opened or made: its journal was recovered, or the one that was asked for was made
-    /// in it, since it was opened.
+    /// Of an image that is opened or made: its journal was recovered, or the one that was asked for was made in it,
+    /// since it was opened.
     ensures ready { IfOk result (WasRecoveredOrMade geometry) }
 {
     match open_whole(rt, name, geometry) {

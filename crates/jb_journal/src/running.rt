@@ -97,9 +97,9 @@ pub fn run<
         → D.well_asked ran.disk) }
     ensures asked_not_run { IfErr result (λ back. D.well_asked disk → D.may_go_on disk
         → D.faults back.disk < most_faults → D.well_asked back.disk) }
-    /// Or it gives the disk back and says why: the journal was not opened, for this; or it was only opened, and there
-    /// was no memory; or, with `Commits::Meanwhile` alone, a thread was missing, and the journal was given no handle;
-    /// no worker has answered then. Or the accounts do not agree. [But
+    /// A run that is refused gives the disk back and says why: the journal was not opened, for this; or it was only
+    /// opened, and there was no memory; or, with `Commits::Meanwhile` alone, a thread was missing, and the journal was
+    /// given no handle; no worker has answered then. Or the accounts do not agree. [But
     /// see](docs/WRONG_BODIES.md#memory-that-was-there).
     ///
     /// Where the accounts do not agree: the workers that were called have answered what they may, the journal on the

@@ -18,6 +18,7 @@ pub fn spelled()
 /// not `h` and does not begin with `h` and a space; a word that, up to its first `=`, names no home block; or a
 /// word whose `=` is not followed by the hexadecimal text of a block's bytes.
 pub fn first_fault()
-    /// That fault is the first one by the grammar, and the cause says what its line or word lacks.
+    /// The fault of a text that is refused is the first one by the grammar, and the cause says what its line or word
+    /// lacks.
     ensures { (text : List ℕ) (fault : QueueFault) → (queue_of text ≡ Err fault) ↔ FirstFault text fault }
 {}

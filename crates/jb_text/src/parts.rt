@@ -16,7 +16,8 @@ const GATHERED: usize = 4096;
 /// # Errors
 /// `WriteFault` where the writer took only the beginning of the text.
 pub fn put_parts<W: Write>(writer: &mut W, parts: &[&str]) -> Result<(), WriteFault>
-    /// The same of a text in parts. [But see](docs/WRONG_BODIES.md#readers-writers-and-files).
+    /// A text in parts is written whole, or after a fault its beginning. [But
+    /// see](docs/WRONG_BODIES.md#readers-writers-and-files).
     ensures puts { Puts (W.contents writer.old) (W.contents writer.new) (spelled (map (λ part. part.now) parts.now))
         result }
     ensures empty { spelled (map (λ part. part.now) parts.now) ≡ [] → IsOk result }

@@ -33,10 +33,10 @@ pub fn commit_and_close<D: Disk>(
     /// and is recovered to all handles of the batch, at the number that comes next.
     ensures all { D.honest (disk_either result) → IfOk result (λ closed. LeavesAll D.may_leave (D.size disk)
         (D.count disk) (D.newest disk) batch.batch.handles (groups_in batch.groups) closed) }
-    /// Of these three, whatever they answer, with the disk of an `Err` too: what a crash leaves at any moment could
-    /// have been left before, or is recovered to a prefix of what the client changes: whole batches and writes, and
-    /// then the first groups of a batch, or some sectors of the data. Nothing has changed but the superblock, the log
-    /// and the homes.
+    /// Of clients that commit, write and close, whatever they answer, with the disk of an `Err` too: what a crash
+    /// leaves at any moment could have been left before, or is recovered to a prefix of what the client changes: whole
+    /// batches and writes, and then the first groups of a batch, or some sectors of the data. Nothing has changed but
+    /// the superblock, the log and the homes.
     ensures leaves { D.honest (disk_either result) → LeavesOnly D.moment D.left_since disk (disk_either result)
         (λ c. D.may_leave disk c ⊎ LeftByProgram (D.size disk) (D.count disk) (D.newest disk) (commits batch ∷ []) c) }
     ensures ends { D.honest (disk_either result) → IfOk result (λ closed. AllHave D.may_leave closed

@@ -33,8 +33,8 @@ pub fn recover_file<S: Start>(
     /// the recovered image of that after `Ok`, or what the answer says of a refusal.
     ensures recovers { IfOk result (λ ran. IsHonest ran.0
         → Recovers (bytes_of size) (count_of ran.0) (S.content 0) (content_of ran.0) ran.1) }
-    /// With `settled`, `again`, `durable`: Then a crash at any call left it as it was, or something that recovers to
-    /// the same image, as it does itself after any answer; after `Ok` nothing is pending.
+    /// With `settled`, `again`, `durable`: If the file is honest, a crash at any call left it as it was, or something
+    /// that recovers to the same image, as it does itself after any answer; after `Ok` nothing is pending.
     ensures crash { IfOk result (λ ran. IsHonest ran.0 → (c : Image) → FileLeft ran.0 0 c
         → (c ≡ S.content 0) ⊎ RecoversAs (bytes_of size) (count_of ran.0) (S.content 0) c) }
     ensures settled { IfOk result (λ ran. IsHonest ran.0 → (c : Image) → FileLeft ran.0 1 c

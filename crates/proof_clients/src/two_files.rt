@@ -42,7 +42,7 @@ pub fn recover_files<S: Start, T: Start>(
     /// or what the answer says of a refusal. Recovered again they hold the same, after any answer.
     ensures recovers { IfOk result (λ ran. AreHonestFiles ran.0
         → Recovers (bytes_of size) (files_count ran.0) (S.content 0 ++ T.content 0) (files_content ran.0) ran.1) }
-    /// Then a crash at any call of either left something that recovers to the same image.
+    /// If both files are honest, a crash at any call of either left something that recovers to the same image.
     ensures crash { IfOk result (λ ran. AreHonestFiles ran.0 → (c : Image) → FilesLeft ran.0 0 c
         → RecoversAs (bytes_of size) (files_count ran.0) (S.content 0 ++ T.content 0) c) }
     ensures again { IfOk result (λ ran. AreHonestFiles ran.0

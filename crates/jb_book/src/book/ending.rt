@@ -11,7 +11,7 @@ impl<S: Origin> Book<S> {
     /// any more. Open seats stay listed until their handles are dropped.
     pub fn fail(&mut self)
         ensures value { self.new ≡ failed_of self.old }
-        /// So is a failure.
+        /// A failure is a call of a book's list of calls.
         ensures does { (earlier : List Call) → Does Failed earlier self.old self.new }
     {
         self.queue.clear();
@@ -24,7 +24,7 @@ impl<S: Origin> Book<S> {
     /// From now on no handle is begun. Open handles may still stop.
     pub fn shut(&mut self)
         ensures value { self.new ≡ record self.old { shut = true } }
-        /// So is a shut.
+        /// A shut is a call of a book's list of calls.
         ensures does { (earlier : List Call) → Does Shut earlier self.old self.new }
     {
         self.shut = true;

@@ -78,7 +78,8 @@ pub fn widen_file<'a, S: Start, T: Start, R: Files<File = File> + AllocGlobal, I
     extents: Option<&'a str>,
     input: &mut I,
 ) -> CommandEnd<'a, S, T>
-    /// `widen` over a file, likewise. [But see](docs/WRONG_BODIES.md#readers-writers-and-files).
+    /// `widen` over a file does with the journal's revoke width what `renumber` does with its number. [But
+    /// see](docs/WRONG_BODIES.md#readers-writers-and-files).
     ensures ends { EndsOfChange Widens IsWidened WidensAs ReportsWidened image.entry.now
         (option_map (λ word. word.now) extents.entry) (I.remaining input.old) result.image result.end }
     ensures unread { reads_list (option_map (λ word. word.now) extents.entry) ≡ false → input.new ≡ input.old }
