@@ -140,7 +140,7 @@ impl<D: Disk + Drop, C: Clock, H: Origin, N: Ledger> Desk<D, C, H, N> {
         ensures came { IfOk result (λ closed. CameAbout D.Disk H.begun (map made_left lefts.items) closed.shape
             closed.disk closed.trail.items) }
         /// A desk that is not closed is handed back with all that its seats left and what was seen; or a journal is,
-        /// with entries that are not its trail, of which the clause `trails_differ` speaks. [But
+        /// with entries that are not its trail, of which what `Desk::end` says holds. [But
         /// see](docs/WRONG_BODIES.md#the-calls-of-a-desk).
         ensures refused { IfErr result (IsNotClosed D.Disk H.begun self lefts seen) }
     {
