@@ -118,7 +118,7 @@ pub enum Hint {
     OwnNoSuper,
     /// A journal has more blocks than its file.
     OwnShort,
-    /// A journal may not have so many blocks.
+    /// A journal may not have this many blocks.
     Geometry,
     /// A block of the journal has a wrong checksum.
     BadChecksum,

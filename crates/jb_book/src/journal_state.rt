@@ -139,7 +139,7 @@ impl<D: Disk, C: Clock, S: Origin> JournalState<D, C, S> {
         self.deck.checkpoint_one()
     }
 
-    /// Writes the committed groups home together, at most 64 of them, where so many blocks of the log are in use at
+    /// Writes the committed groups home together, at most 64 of them, where this many blocks of the log are in use at
     /// least.
     ///
     /// # Errors

@@ -219,7 +219,7 @@ module _ {D E : Type 0} (G : Disks (ImageDisk D E)) where
   RecoversJudged words homes found (Ok done) old new end = DoesRecover (sums_of words.checksums) words.dry_run words.list homes found old new end
   RecoversJudged words homes found (Err fault) old new end = (new ≡ old) × (end ≡ Err fault)
 
-  -- an image with so many home blocks was judged, where its journal is beside them, and then what was asked for was done; what says where
+  -- an image with this many home blocks was judged, where its journal is beside them, and then what was asked for was done; what says where
   -- its journal stands is reported
   abbrev pub RecoversOpened : RecoverWords → ℕ → Option MapSource → ImageDisk D E → ImageDisk D E → Result Report CommandFault → Type 0
   RecoversOpened words homes found old new end =

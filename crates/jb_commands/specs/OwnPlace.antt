@@ -39,7 +39,7 @@ use Rattle.jb_commands.specs.declared.files.shut.FileFault.TheVariants.{Super as
 
 -- ---- the first bytes
 
--- the size of blocks with so many bytes; 1 KiB where a journal's have another one
+-- the size of blocks with this many bytes; 1 KiB where a journal's have another one
 abbrev pub size_said : ℕ → BlockSize
 size_said bytes = if bytes == 2048 then TwoKib else if bytes == 4096 then FourKib else OneKib
 
@@ -104,7 +104,7 @@ IsFrontShut sums start name fault = IsUnread name fault ⊎ ((found : FindFault)
 
 module _ {S T : Type 0} {start : Starts S} {other : Starts T} where
   -- the journal of the file system in a file was found, by what this says, and the image is that file, with the journal in those blocks;
-  -- so many home blocks can be named in it
+  -- this many home blocks can be named in it
   abbrev pub IsOwnOpened : Checksums → ImageDisk (FileDisk S start) (FileDisk T other) → ℕ → Option MapSource → Type 0
   IsOwnOpened sums (One file) homes found = ⊥
   IsOwnOpened sums (Two pair) homes found = ⊥

@@ -18,7 +18,7 @@ use std::io::Write;
 pub enum Report {
     /// It has written all that it had to say, and ends so.
     Said(ProgramEnd),
-    /// A journal was made, with so many log blocks of a transaction at most.
+    /// A journal was made, with this many log blocks of a transaction at most.
     Formatted(u32),
     /// A journal was recovered; what said where it stands, where it was looked for.
     Recovered(Recovered, Option<MapSource>),

@@ -56,12 +56,12 @@ abbrev pub IsNextBatch : ℕ → Option Gathered → Gathered → Type 0
 IsNextBatch seen None b = seen ≤ end_of b
 IsNextBatch seen (Some held) b = b ≡ held
 
--- the batch that a round takes up, where so many handles were seen before: it has a handle at least
+-- the batch that a round takes up, where this many handles were seen before: it has a handle at least
 pub record TakesUp (seen : ℕ) (held : Option Gathered) (b : Gathered) : Type 0 where
   pub next : IsNextBatch seen held b
   pub some : 0 < length b.handles
 
--- What a round makes of them, where so many handles were seen and the committer held such a batch before and after it: nothing where it takes up no batch;
+-- What a round makes of them, where this many handles were seen and the committer held such a batch before and after it: nothing where it takes up no batch;
 -- otherwise its batch is taken, and then committed
 abbrev pub SeesRound : ℕ → Option Gathered → Option Gathered → Front → Front → Result Round RoundFault → Type 0
 SeesRound seen held after old new result =

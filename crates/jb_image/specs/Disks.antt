@@ -27,7 +27,7 @@ refused_calls d = d.failed
 abbrev pub spread_count : ℕ → ℕ → ℕ
 spread_count journal count = min (journal + count) (2 ^ 64 - 1)
 
--- a block, where the image has so many
+-- a block, where the image has this many
 abbrev pub in_image : ℕ → ℕ → Option ℕ
 in_image blocks block = if nat_lt block blocks then Some block else None
 
@@ -44,7 +44,7 @@ abbrev pub own_in : Extents → List ℕ → Option ℕ
 own_in extents [] = None
 own_in extents (home ∷ homes) = if holds_in (list_of extents) home then Some home else own_in extents homes
 
--- so many home blocks from this one on, up to the largest number; of none, as of one
+-- this many home blocks from this one on, up to the largest number; of none, as of one
 abbrev pub asked_homes : ℕ → ℕ → Extent
 asked_homes home count = record { first = home; last = min (home + (max count 1 - 1)) (2 ^ 64 - 1) }
 

@@ -24,7 +24,7 @@ own_home (One disk) homes = None
 own_home (Two pair) homes = None
 own_home (Within disk) homes = own_in (extents_of disk) homes
 
--- one of so many home blocks from this one on that is one of the journal's own
+-- one of this many home blocks from this one on that is one of the journal's own
 abbrev pub own_asked : {D E : Type 0} → ImageDisk D E → ℕ → ℕ → Option ℕ
 own_asked (One disk) home count = None
 own_asked (Two pair) home count = None

@@ -118,7 +118,7 @@ impl Extents {
         first_parting(self.list.as_slice(), other.list.as_slice())
     }
 
-    /// The last block of the first of them that is not whole in an image of so many blocks.
+    /// The last block of the first of them that is not whole in an image of this many blocks.
     pub fn past(&self, count: u64) -> Option<u64>
         ensures { result ≡ past_in count (list_of self.now) }
     {
@@ -163,7 +163,8 @@ fn is_between(byte: u8) -> bool
     matches!(byte, b' ' | b',' | 9..=13)
 }
 
-/// Puts the blocks that a word says after those that are listed, which are so many, and gives how many are listed then.
+/// Puts the blocks that a word says after those that are listed, which are this many, and gives how many are listed
+/// then.
 fn take_word(list: &mut Vec<Extent>, blocks: u64, word: &[u8]) -> Result<u64, ListFault>
     requires counted { blocks ≡ extents_count list.old.items }
     requires forward { AreForward list.old.items }
@@ -208,8 +209,8 @@ fn goes_on(list: &[Extent], extent: Extent) -> bool
     }
 }
 
-/// Whether a stretch that begins at this block of the journal comes next after so many; one that does not say where it
-/// begins does.
+/// Whether a stretch that begins at this block of the journal comes next after this many; one that does not say where
+/// it begins does.
 fn follows(blocks: u64, at: Option<u64>) -> bool
     ensures { result ≡ follows_at blocks at }
 {

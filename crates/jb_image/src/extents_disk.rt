@@ -25,7 +25,7 @@ impl<D: Disk> ExtentsDisk<D> {
     ghost use Rattle.jb_image.specs.Disks.{whole_disk};
     ghost use Rattle.std.specs.Prelude.{◌≡◌};
 
-    /// The disk that an image is, with a journal of so many blocks in these extents.
+    /// The disk that an image is, with a journal of this many blocks in these extents.
     pub fn of(disk: D, extents: Extents, journal: u64) -> ExtentsDisk<D>
         ensures disk { whole_disk result ≡ disk }
         ensures extents { extents_of result ≡ extents }
@@ -68,7 +68,7 @@ impl<D: Disk> ExtentsDisk<D> {
         None
     }
 
-    /// One of so many home blocks from this one on that is one of the journal's own; of none, as of one.
+    /// One of this many home blocks from this one on that is one of the journal's own; of none, as of one.
     pub fn own_among(&self, home: u64, count: u64) -> Option<u64>
         ensures { result ≡ own_among (extents_of self.now) home count }
     {
@@ -149,7 +149,7 @@ impl<D: Disk> Disk for ExtentsDisk<D> {
     }
 }
 
-/// The block of an image of so many that a place of the disk is; none where the extents or the image have it not, or
+/// The block of an image of this many that a place of the disk is; none where the extents or the image have it not, or
 /// a home block is one of the journal's own.
 fn at(extents: &Extents, journal: u64, blocks: u64, place: u64) -> Option<u64>
     ensures value { result ≡ at_block extents.now journal blocks place }

@@ -27,9 +27,9 @@ pub enum ExtentsFault {
     Overlap(u64),
     /// This block is not in the image.
     PastEnd(u64),
-    /// They have so many blocks, and the journal more.
+    /// They have this many blocks, and the journal more.
     Short(u64),
-    /// They have so many blocks, and the journal fewer.
+    /// They have this many blocks, and the journal fewer.
     Long(u64),
     /// No journal begins at the first of them.
     NoJournal,

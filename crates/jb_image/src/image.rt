@@ -38,7 +38,7 @@ impl<D: Disk, E: Disk> ImageDisk<D, E> {
         }
     }
 
-    /// One of so many home blocks from this one on that is one of the journal's own; of none, as of one.
+    /// One of this many home blocks from this one on that is one of the journal's own; of none, as of one.
     pub fn own_among(&self, home: u64, count: u64) -> Option<u64>
         ensures { result ≡ own_asked self.now home count }
     {

@@ -17,7 +17,7 @@ handles_of queue = handles_of_text (bytes_of queue.bs) queue.text.items
 abbrev pub queue_in : QueueLines → Queue
 queue_in queue = record { size = queue.bs; limit = queue.limit; width = queue.width; handles = handles_of queue }
 
--- a reader stands after so many of all handles of a queue: after those, the lines that are left give all
+-- a reader is after this many of all handles of a queue: after those, the lines that are left give all
 pub record StandsAfter (reader : HandleReader) (all : List Stopped) (at : ℕ) : Type 0 where
   pub had : List Stopped
   pub number : length had ≡ at

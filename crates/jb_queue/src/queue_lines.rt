@@ -81,7 +81,7 @@ impl HandleReader<'_> {
     ghost use Rattle.jb_handle.specs.declared.stopped.Stopped.{Stopped as StoppedValue};
     ghost use Rattle.jb_queue.specs.QueueLines.{HasRead, StandsAfter};
 
-    /// Passes over so many handles, and reads the words of the next one; `None` where none is left. The reader then
+    /// Passes over this many handles, and reads the words of the next one; `None` where none is left. The reader then
     /// stands after it. What is passed over takes no memory.
     ///
     /// # Errors
@@ -103,7 +103,7 @@ impl HandleReader<'_> {
     }
 }
 
-/// The text after so many of its lines; no text where it has fewer.
+/// The text after this many of its lines; no text where it has fewer.
 fn pass_lines(text: &[u8], passed: usize) -> &[u8]
     ensures { lines result.now ≡ drop passed (lines text.now) }
 {

@@ -149,7 +149,7 @@ module _ {S T : Type 0} {start : Starts S} {other : Starts T} where
       (mid : ImageDisk (FileDisk S start) (FileDisk T other)) × (judged : Result Unit CommandFault) × JudgesLoad as_files load.journal (is_within disk) disk mid judged × LoadsJudged load options homes judged mid image end
 
   -- the image was not opened, and nothing was done; or it was, wherever its journal is, in blocks of the size that its first bytes say, with
-  -- so many home blocks, and it was judged, and then the text came
+  -- this many home blocks, and it was judged, and then the text came
   abbrev pub EndsOfLoad : Loading → Option (List ℕ) → Option (ImageDisk (FileDisk S start) (FileDisk T other)) → Result LoadReport CommandFault → Type 0
   EndsOfLoad load input image end =
       ((fault : CommandFault) × (image ≡ None) × (end ≡ Err fault) × IsLoadUnopened start other load input fault)

@@ -19,8 +19,8 @@ pub data Part : Type 0 where
   commits : Planned → Part
   writes : ℕ → List ℕ → Part
 
--- These changes are a first part of what the program changes, with so many groups: some whole parts, and then the first
--- groups of a batch, or some sectors of the bytes.
+-- These changes are a first part of what the program changes, with this many groups: some whole parts, and then the
+-- first groups of a batch, or some sectors of the bytes.
 pub data IsPartOf : List Part → List Change → ℕ → Type 0 where
   no_more : (parts : List Part) → IsPartOf parts [] 0
   in_batch : (batch : Planned) (parts : List Part) (groups : ℕ) → groups ≤ groups_in batch.groups
@@ -47,7 +47,7 @@ all_groups [] = 0
 all_groups (commits batch ∷ parts) = groups_in batch.groups + all_groups parts
 all_groups (writes home bytes ∷ parts) = all_groups parts
 
--- The image is of the journal that this one has, with these changes since and so many groups: it is recovered to the
+-- The image is of the journal that this one has, with these changes since and this many groups: it is recovered to the
 -- handles that were settled, at the number that follows, and each home then holds what the changes say. Its superblock
 -- is the one that stood, with the feature for revoke blocks or without it; and nothing has changed but that, the log
 -- and the homes.

@@ -19,8 +19,8 @@ use jb_handle::Stopped;
 use jb_recover::{RecoverFault, recover};
 use std::alloc::Global;
 
-/// A power failure: it comes after so many calls of the disk, and the choice says which version is left of each sector
-/// that was written since the last sync ([`MemoryDisk::crash`]).
+/// A power failure: it comes after this many calls of the disk, and the choice says which version is left of each
+/// sector that was written since the last sync ([`MemoryDisk::crash`]).
 #[derive(Drop)]
 pub struct Failure {
     pub calls: u64,
@@ -92,7 +92,7 @@ fn live(alloc: Global, disk: MemoryDisk, life: Life) -> Result<(MemoryDisk, bool
 {
     jb_deck::laws::holds_on();
     jb_recover::laws::recovered();
-    jb_disk::laws::runs_as_calls::<FuseDisk<MemoryDisk>>(); // a failure comes after so many blocks
+    jb_disk::laws::runs_as_calls::<FuseDisk<MemoryDisk>>(); // a failure comes after this many blocks
     let Life {
         handles,
         stamp,

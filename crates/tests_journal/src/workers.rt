@@ -20,7 +20,7 @@ pub type Found = (
     Option<u8>,
 );
 
-/// Each worker writes one more than its place to two homes, by one handle of so many credits; the second home is this
+/// Each worker writes one more than its place to two homes, by one handle of this many credits; the second home is this
 /// much after the first.
 #[derive(Drop)]
 pub struct Pairs {

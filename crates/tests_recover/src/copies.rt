@@ -55,7 +55,7 @@ fn check_left(test: &impl Bench, case: &Case, disk: &MemoryDisk, version: u32, c
     }
 }
 
-/// Checks the homes of a recovery that is broken off after so many calls; whether it had ended.
+/// Checks the homes of a recovery that is broken off after this many calls; whether it had ended.
 fn check_broken(test: &impl Bench, case: &Case, calls: u64) -> bool {
     let mut fuse = FuseDisk::of(before(test, case), calls);
     let ended = recovers(test, case, &mut fuse);

@@ -1,5 +1,5 @@
 //! Loads over disks that fail at each of their calls: the counts add up, all threads end, and recovery finds the homes
-//! as the first so many handles leave them.
+//! as the first this many handles leave them.
 
 use crate::checks::{check_at, fail};
 use crate::lent::Fails;

@@ -55,7 +55,7 @@ pub fn format_file<'a, S: Start, T: Start, R: Files<File = File> + AllocGlobal>(
     make_file(rt, image, new, limit)
 }
 
-/// The most log blocks of a transaction of a new journal, or `None` where a journal may not have so many blocks.
+/// The most log blocks of a transaction of a new journal, or `None` where a journal may not have this many blocks.
 fn limit_of(new: ImageGeometry) -> Option<u32>
     ensures good { IsSome result ↔ IsJournalLength new.journal }
     ensures value { IfSome result (λ limit. limit ≡ new_limit_of new) }

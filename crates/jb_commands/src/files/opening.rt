@@ -119,7 +119,7 @@ fn open_log<S: Start, R: Files<File = File> + AllocGlobal>(
     }
 }
 
-/// Whether a file of so many blocks is a journal with this superblock and nothing more.
+/// Whether a file of this many blocks is a journal with this superblock and nothing more.
 fn judge_length(blocks: u64, sb: &Super) -> Result<(), PairFault>
     requires { SaysSuper sb.now }
     ensures shut { IfErr result IsPairShut }
@@ -187,7 +187,7 @@ pub(crate) fn counted<D: Disk>(disk: D, sb: &Super) -> (D, u64)
     (disk, homes)
 }
 
-/// How many home blocks are after the journal on a disk of so many blocks, and can be named in it.
+/// How many home blocks are after the journal on a disk of this many blocks, and can be named in it.
 fn homes_after(sb: &Super, blocks: u64) -> u64
     ensures { result ≡ homes_in sb.now blocks }
 {

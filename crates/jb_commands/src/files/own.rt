@@ -140,7 +140,7 @@ fn said_size(system: Option<FileSystem>) -> Option<BlockSize>
     }
 }
 
-/// The size of blocks with so many bytes; of 1 KiB where a journal's have another one, which is refused once the
+/// The size of blocks with this many bytes; of 1 KiB where a journal's have another one, which is refused once the
 /// superblock is read.
 fn size_said(bytes: u32) -> BlockSize
     ensures { result ≡ size_said bytes }

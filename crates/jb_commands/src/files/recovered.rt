@@ -86,7 +86,7 @@ fn opening_of(dry_run: bool, force: bool) -> Opening
     }
 }
 
-/// The same of an image that is open, with so many home blocks.
+/// The same of an image that is open, with this many home blocks.
 fn recover_opened<'a, D: Disk, E: Disk>(
     alloc: Global,
     disk: &mut ImageDisk<D, E>,
