@@ -122,7 +122,7 @@ pub enum Hint {
     Geometry,
     /// A block of the journal has a wrong checksum.
     BadChecksum,
-    /// A commit block of a later transaction is behind the end of a log.
+    /// A commit block of a later transaction is after the end of a log.
     Lost,
     /// A revoke block is damaged.
     BadRevoke,

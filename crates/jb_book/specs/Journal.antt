@@ -149,7 +149,7 @@ module _ {D : Type 0} (G : Ghosts D) (b : Begun) where
     pub none : deck.groups ≡ []
 
   -- The desk's journal before and after a home was read into this many bytes, which then are these: what is answered, in the words of the journal's own read.
-  -- Nothing that the journal knows has changed, nor has what an honest disk holds; where the read has ended well, the bytes are what stands in the home. The journal was
+  -- Nothing that the journal knows has changed, nor has what an honest disk holds; where the read has ended well, the bytes are what the home holds. The journal was
   -- given the handles of this history, and has settled what it had settled at the marks that were seen before. As it was after the read it is one of the marks that are seen
   -- then: where the disk is honest at a later time at which these last, it was so here.
   pub record ReadsHome (known : List WordMap) (marks marks_after : List (OpenDeck D)) (home bytes : ℕ) (found : List ℕ) (result : Result (Unit {0}) ReadHomeFault) : Type 0 where

@@ -98,7 +98,7 @@ IsBadFormat o _ = ⊥
 
 module _ {S T : Type 0} {start : Starts S} {other : Starts T} where
   -- the new image is one file, in which a journal was made since it was opened, and its limit is the end. If the file is honest, the
-  -- journal stands in it
+  -- journal is in it
   abbrev pub IsMade : ImageGeometry → ImageDisk (FileDisk S start) (FileDisk T other) → Result Report CommandFault → Type 0
   IsMade g (One new) end = WasMade g new × (end ≡ Ok (Formatted (new_limit_of g)))
   IsMade g (Two pair) end = ⊥

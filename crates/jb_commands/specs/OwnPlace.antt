@@ -48,7 +48,7 @@ abbrev pub said_size : Option FileSystem → Option BlockSize
 said_size None = None
 said_size (Some system) = Some (size_said system.block_size)
 
--- the size of the blocks of the file system whose superblock stands after 1,024 of these bytes, if there is one
+-- the size of the blocks of the file system whose superblock is after 1,024 of these bytes, if there is one
 abbrev pub system_size : List ℕ → Option BlockSize
 system_size front = if nat_lt (length front) 2048 then None else said_size (system_in (drop 1024 front))
 
@@ -112,7 +112,7 @@ module _ {S T : Type 0} {start : Starts S} {other : Starts T} where
       (own : FoundJournal) × LooksFor sums (Ok own) (whole_disk disk) × (list_of (extents_of disk) ≡ own.0) × (journal_blocks disk ≡ own.2.maxlen)
       × (homes ≡ homes_in own.2 (spread_count (journal_blocks disk) (count_of (whole_disk disk)))) × (found ≡ Some own.1)
 
-  -- the image is open, by its first bytes: with the journal at its front, or with its file system's own, and what says where that stands
+  -- the image is open, by its first bytes: with the journal at its front, or with its file system's own, and what says where that is
   abbrev pub IsOpenedByFront : Checksums → ImageDisk (FileDisk S start) (FileDisk T other) → ℕ → Option MapSource → Type 0
   IsOpenedByFront sums disk homes found = (IsImageOpened None disk homes × (found ≡ None)) ⊎ IsOwnOpened sums disk homes found
 
@@ -164,7 +164,7 @@ module _ {S T : Type 0} {start : Starts S} {other : Starts T} where
   AreFew (Two pair) = ⊤
   AreFew (Within disk) = extents_count (list_of (extents_of disk)) < 2 ^ 64 - 1
 
-  -- an image whose journal stands within it was compared with its file system's own
+  -- an image whose journal is within it was compared with its file system's own
   abbrev pub IsComparedImage : Checksums → ImageDisk (FileDisk S start) (FileDisk T other) → ImageDisk (FileDisk S start) (FileDisk T other) → Type 0
   IsComparedImage sums (Within old) (Within new) = IsComparedTo sums old new
   IsComparedImage sums old new = new ≡ old

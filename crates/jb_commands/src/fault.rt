@@ -52,7 +52,7 @@ pub enum CommandFault<'a> {
     Own(OwnFault),
     /// The block at this place of the journal, of a committed transaction, has a wrong checksum.
     BadChecksum(Summed, u64),
-    /// The block at this place of the journal, behind the end of its log, is the commit block of the next transaction
+    /// The block at this place of the journal, after the end of its log, is the commit block of the next transaction
     /// or of a later one.
     Lost(u64),
     /// The block at this place of the journal, of a committed transaction, is a revoke block whose `r_count` is above

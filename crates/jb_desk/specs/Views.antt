@@ -32,7 +32,7 @@ RefusesWait ticket old new wait.Aborted = new ≡ old
 RefusesWait ticket old new wait.Taken = view_of new ≡ with_settled (ticket + 1) (view_of old)
 RefusesWait ticket old new wait.Unknown = new ≡ old
 
--- what the commit of a taken batch makes of them: the batch is settled whole, or after a fault of the disk a first part of it
+-- what the commit of a taken batch makes of them: the batch is settled whole, or after a fault of the disk a prefix of it
 -- and not all, or nothing is
 abbrev pub SeesCommit : Gathered → Front → Front → Result Round RoundFault → Type 0
 SeesCommit b old new (Ok (Idle seen)) = ⊥

@@ -1,4 +1,4 @@
--- A journal and the file system that it stands in, as one disk.
+-- A journal and the file system that it is in, as one disk.
 use Rattle.std.specs.Prelude.{◌≡◌, ℕ, ◌+◌, ◌-◌, ◌^◌, Bool, false, if◌then◌else◌, List, [], ◌∷◌, max, min, nat_lt, Option, Some, None, option_and_then}
 use Rattle.jb_disk.specs.OneCall.{Called, Reads, Writes, Syncs}
 use Rattle.jb_disk.specs.Faults.{CountsCall, CountsOne}
@@ -11,7 +11,7 @@ use Rattle.jb_image.specs.declared.extents.Extents.{Extents}
 abbrev pub whole_disk : {D : Type 0} → ExtentsDisk D → D
 whole_disk d = d.disk
 
--- where the journal stands in it
+-- where the journal is in it
 abbrev pub extents_of : {D : Type 0} → ExtentsDisk D → Extents
 extents_of d = d.extents
 

@@ -1,4 +1,4 @@
--- What an image holds, as the disk of a journal that stands within it gives it.
+-- What an image holds, as the disk of a journal that is within it gives it.
 use Rattle.std.proofs.Common.{◌≡◌, ◌<◌, ◌≤◌, ◌-◌, ◌⊎◌, ℕ, Bool, false, cond, List, [], length, map, replicate, Option, Some, None, refl, sym, ◌∙◌, ap, subst, inl, inr, ⊎_elim, arith}
 use Rattle.std.specs.List.{range_with_len}
 use Rattle.std.specs.Prelude.{nat_lt, option_and_then}

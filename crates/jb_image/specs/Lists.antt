@@ -67,11 +67,11 @@ abbrev pub times : List Extent → ℕ → ℕ
 times [] block = 0
 times (e ∷ es) block = (if has_block e block then 1 else 0) + times es block
 
--- no block stands in two of them
+-- no block is in two of them
 abbrev pub AreDisjoint : List Extent → Type 0
 AreDisjoint es = (block : ℕ) → times es block ≤ 1
 
--- no block stands in two of them; or this is the lowest that does
+-- no block is in two of them; or this is the lowest that is
 abbrev pub SharesFirst : List Extent → Option ℕ → Type 0
 SharesFirst es None = AreDisjoint es
 SharesFirst es (Some block) = (2 ≤ times es block) × ((lower : ℕ) → lower < block → times es lower ≤ 1)

@@ -12,7 +12,7 @@ use jb_block::Memory;
 use jb_map::Extent;
 use std::alloc::Global;
 
-/// Where the blocks of a journal stand in an image: in stretches, one after the other, none of which goes on where the
+/// Where the blocks of a journal are in an image: in stretches, one after the other, none of which goes on where the
 /// one before it ends.
 #[derive(Drop)]
 pub struct Extents {
@@ -88,7 +88,7 @@ impl Extents {
         false
     }
 
-    /// The lowest block that stands in two of them.
+    /// The lowest block that is in two of them.
     ///
     /// # Errors
     /// `Memory` where a growth was refused: they are copied, and sorted.
@@ -110,7 +110,7 @@ impl Extents {
         None
     }
 
-    /// The first block of the journal that does not stand where other extents have it.
+    /// The first block of the journal that is not where other extents have it.
     pub fn first_other(&self, other: &Extents) -> Option<u64>
         requires { extents_count (list_of self.now) < 2 ^ 64 - 1 }
         ensures { PartsFirst (list_of self.now) (list_of other.now) result }

@@ -7,7 +7,7 @@ use jb_block::BlockSize;
 use jb_disk::{Disk, Fault};
 use jb_map::Extent;
 
-/// A journal and the file system that it stands in, as one disk: first the blocks of the journal, where the extents
+/// A journal and the file system that it is in, as one disk: first the blocks of the journal, where the extents
 /// have them, and after them all blocks of the image by their own numbers.
 ///
 /// A home block that is one of the journal's own is neither read nor written: such a call is a fault. So no block of
@@ -47,7 +47,7 @@ impl<D: Disk> ExtentsDisk<D> {
         self.disk
     }
 
-    /// The image, where the journal stands in it, and how many blocks the journal has.
+    /// The image, where the journal is in it, and how many blocks the journal has.
     pub fn into_parts(self) -> (D, Extents, u64)
         ensures disk { result.0 ≡ whole_disk self }
         ensures extents { result.1 ≡ extents_of self }

@@ -21,7 +21,7 @@ impl<D: Disk, E: Disk> ImageDisk<D, E> {
     ghost use Rattle.std.specs.Prelude.{◌≡◌};
     ghost use Rattle.jb_image.specs.Images.{is_within, own_asked, own_home};
 
-    /// Whether the journal stands within the home blocks.
+    /// Whether the journal is within the home blocks.
     pub fn is_within(&self) -> bool
         ensures { result ≡ is_within self.now }
     {

@@ -16,7 +16,7 @@ use std::fs::File;
 use std::rt::Files;
 
 /// Makes an image with a new journal and home blocks of zeros, whole or not at all: under another name in the same
-/// folder (`.jb-unfinished` after its own), formatted and synced, and then by its own name, which stands after a crash.
+/// folder (`.jb-unfinished` after its own), formatted and synced, and then by its own name, which survives a crash.
 /// What a killed process has left of one is removed: a file of the other name that is empty, or has zeros alone, or
 /// zeros after the superblock of a journal without a transaction. The disk is locked as one that is
 /// [opened](crate::open_image) for change.

@@ -208,7 +208,7 @@ impl<'a, D: Disk, C: Clock, R: Wait + time::Clock, H: Origin, N: Ledger> Client<
     }
 
     /// Waits until the handle with this ticket is committed, and gives the number of its transaction
-    /// (`jbd2_log_wait_commit`). It stands after a crash then.
+    /// (`jbd2_log_wait_commit`). It survives a crash then.
     ///
     /// # Errors
     /// `Aborted` where the journal has failed and the handle is not committed; `Taken` where it is committed and the

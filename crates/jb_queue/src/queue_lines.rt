@@ -56,7 +56,7 @@ impl QueueLines {
         self.count == 0
     }
 
-    /// A reader that stands at the first handle.
+    /// A reader at the first handle.
     #[tactic(auto, unfolding(crate::specs::QueueLines::handles_of))]
     pub fn reader(&self) -> HandleReader<'_>
         ensures { StandsAfter result (handles_of self.now) 0 }
@@ -82,11 +82,11 @@ impl HandleReader<'_> {
     ghost use Rattle.jb_queue.specs.QueueLines.{HasRead, StandsAfter};
 
     /// Passes over this many handles, and reads the words of the next one; `None` where none is left. The reader then
-    /// stands after it. What is passed over takes no memory.
+    /// is after it. What is passed over takes no memory.
     ///
     /// # Errors
     ///
-    /// `Memory` where there is none for the words of the handle; the reader stands after it then, too.
+    /// `Memory` where there is none for the words of the handle; the reader is after it then, too.
     pub fn read(&mut self, alloc: Global, passed: usize) -> Result<Option<Words>, Memory>
         ensures { (all : List StoppedValue) (at : ℕ) → StandsAfter self.old all at
             → HasRead all (at + passed) self.new result }

@@ -118,7 +118,7 @@ fn load_opened<
 }
 
 /// Whether the journal of an image may have home blocks of this image in it; one at its front may. `within` says
-/// whether it stands among them.
+/// whether it is among them.
 ///
 /// # Errors
 /// Those of `judge_on`.

@@ -63,7 +63,7 @@ pub data AreLives (own : Superblock) (count last : ℕ) : List (List Stopped) �
 
 -- A journal that was recovered: there is nothing to recover, its superblock is its own, with the feature for revoke
 -- blocks or without it, and this is the last number; and each home holds what these changes say, counted from how the
--- homes stood at first.
+-- homes were at first.
 pub record HoldsChanges (own : Superblock) (last size count : ℕ) (before : ℕ → List ℕ) (changes : List Change)
     (c : Image) : Type 0 where
   pub sb : Superblock

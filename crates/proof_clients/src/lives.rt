@@ -49,7 +49,7 @@ pub struct Lived {
 /// Recovers the journal of a disk. Then the journal has these lives, one after the other: it is opened, the handles are
 /// committed, and perhaps a transaction is checkpointed; the power fails at any call of the disk, and again at any call
 /// of the recovery of what the crash left; and what that left is recovered. The disk that is given back holds the homes
-/// as they stood after the first recovery, with what the lives changed, in order: of each life its handles, or those of
+/// as they were after the first recovery, with what the lives changed, in order: of each life its handles, or those of
 /// the first groups of them, or none; all of those that were reported as committed. Its superblock is the journal's
 /// own, and its numbers count the groups.
 ///

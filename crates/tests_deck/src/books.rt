@@ -1,4 +1,4 @@
-//! Two handles are stopped with a book, and the groups in which they stand are compared.
+//! Two handles are stopped with a book, and the groups that have them are compared.
 
 use crate::checks::By;
 use crate::draws::formatted;
@@ -40,7 +40,7 @@ fn handle(test: &impl Bench, shape: Shape, from: u64, homes: u32) -> Handle<()> 
     handle
 }
 
-/// Whether two handles stand in the groups of a row.
+/// Whether two handles are in the groups of a row.
 fn stands<D: Disk>(test: &impl Bench, deck: &mut Deck<D>, row: &Row) -> bool {
     let (one, two, _, wanted) = *row;
     let first = handle(test, deck.shape(), 0, one);

@@ -56,7 +56,7 @@ static AFTER: [Row; 4] = [
     (0, 0x3F0, [7, 7, 7, 7]),
 ];
 
-/// An image: its disk, how many blocks stand before the log, and the place of home block 0.
+/// An image: its disk, how many blocks are before the log, and the place of home block 0.
 #[derive(Drop)]
 pub struct Image {
     pub disk: MemoryDisk,

@@ -1,4 +1,4 @@
-//! Home blocks are read as they stand, beside the plain model of them.
+//! Home blocks are read as they are, beside the plain model of them.
 
 use crate::checks::By;
 use crate::contents::fill;

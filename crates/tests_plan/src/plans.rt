@@ -46,7 +46,7 @@ static PLANS: [Row; 10] = [
     ),
 ];
 
-/// The certificate of a text, with a price for each first part of the handles.
+/// The certificate of a text, with a price for each prefix of the handles.
 pub fn cert_of(test: &impl Test, alloc: Global, text: &str, handles: usize) -> Cert
     ensures { length result.prices.items ≡ handles + 1 }
 {

@@ -73,7 +73,7 @@ fn open_one<S: Start, T: Start, R: Files<File = File> + AllocGlobal>(
     }
 }
 
-/// The file of this name as a disk behind a journal in the file of the other name, and the number of its home blocks.
+/// The file of this name as a disk after a journal in the file of the other name, and the number of its home blocks.
 fn open_two<S: Start, T: Start, R: Files<File = File> + AllocGlobal>(
     rt: &R,
     name: &str,
@@ -178,7 +178,7 @@ fn paired<A: Disk, B: Disk>(log: A, rest: B, sb: &Super) -> (PairDisk<A, B>, u64
     counted(PairDisk::of(log, rest), sb)
 }
 
-/// A disk behind a journal, or with one, and the number of its home blocks.
+/// A disk after a journal, or with one, and the number of its home blocks.
 pub(crate) fn counted<D: Disk>(disk: D, sb: &Super) -> (D, u64)
     ensures disk { result.0 ≡ disk }
     ensures homes { result.1 ≡ homes_in sb.now (D.count disk) }

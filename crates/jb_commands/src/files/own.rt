@@ -120,7 +120,7 @@ fn front_in(front: &[u8], sums: Checksums) -> Result<ImageFront, FileFault>
     }
 }
 
-/// The size of the blocks of the file system whose superblock stands after 1,024 of these bytes, if there is one.
+/// The size of the blocks of the file system whose superblock is after 1,024 of these bytes, if there is one.
 fn system_size(front: &[u8]) -> Option<BlockSize>
     ensures { result ≡ system_size front.now }
 {
@@ -223,7 +223,7 @@ fn open_own<S: Start, T: Start>(
     }
 }
 
-/// An image whose journal stands in the extents of a list. Where it is a file system of ext2, ext3 or ext4, these have
+/// An image whose journal is in the extents of a list. Where it is a file system of ext2, ext3 or ext4, these have
 /// to be the blocks of its own journal.
 ///
 /// # Errors
