@@ -12,7 +12,7 @@ use Rattle.jb_tool.specs.declared.loading.loaded.Refused.{Refused}
 abbrev pub queued_at : List Stopped → ℕ → Stopped
 queued_at queue place = get_or queue place (record { ticket = 0; words = map.empty })
 
--- stops with the words of handles of the queue: of the one at this place, and of others each this many places after the one before
+-- stops with the words of handles of the queue: of the one at this place, and of others, each this many places after the one before
 abbrev pub StepsBy : List Stopped → ℕ → ℕ → List Stop → Type 0
 StepsBy queue step from [] = Unit {0}
 StepsBy queue step from (s ∷ ss) = (from < length queue) × (s.1 ≡ (queued_at queue from).words) × StepsBy queue step (from + step) ss
