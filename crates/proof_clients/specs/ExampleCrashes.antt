@@ -1,4 +1,4 @@
--- Values of the examples on what a crash leaves: three handles, each its own group, and how homes are.
+-- Values of the examples on what a crash leaves: three handles, each its own group, and what homes hold.
 use Rattle.std.specs.Prelude.{◌≡◌, ℕ, ◌<◌, cond, List, [], ◌∷◌, length, None, Ok}
 use Rattle.std.specs.List.{list_any}
 use Rattle.std.specs.Ordering.{nat_cmp, eq_by_cmp}

@@ -47,7 +47,7 @@ pub fn by_hand(test: &impl Test, alloc: Global, words: &str) -> Vec<u8> {
     journal
 }
 
-/// The first bytes, this many.
+/// The first bytes, this many of them.
 pub fn front(journal: &[u8], len: usize) -> &[u8] {
     &journal[..len.min(journal.len())]
 }

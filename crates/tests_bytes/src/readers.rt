@@ -68,7 +68,7 @@ static READ: [(&str, &str, usize); 2] = [
 ];
 
 /// Checks a dump of a journal and one byte after it, which stays unread, from a reader of this many bytes a call: it
-/// gives the text, unless one of the this many calls fails that the journal takes.
+/// gives the text, unless one of the calls fails that the journal takes, this many of them.
 fn check_halting(
     test: &impl Test,
     alloc: Global,
