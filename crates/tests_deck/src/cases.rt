@@ -60,7 +60,7 @@ fn lay(test: &impl Test, case: &Case, disk: &mut MemoryDisk) {
     put(test, disk, &case.rows)
 }
 
-/// Checks the disk that the calls of a case left, and what a crash leaves of it: all that stands on the disk, since
+/// Checks the disk that the calls of a case left, and what a crash leaves of it: all that is on the disk, since
 /// every call that changes it ends with a sync. Then it is recovered.
 fn check_left(test: &impl Bench, case: &Case, disk: &mut MemoryDisk) {
     let mut wanted = small(test, disk.blocks(), case.image, &[]);

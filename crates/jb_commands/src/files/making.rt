@@ -25,7 +25,7 @@ const EXISTS: i32 = 17;
 /// blocks of zeros after it. Reports the most log blocks of a transaction.
 ///
 /// # Errors
-/// `CommandFault::BadOption` where an option is bad, and `CommandFault::Geometry` where a journal may not have so
+/// `CommandFault::BadOption` where an option is bad, and `CommandFault::Geometry` where a journal may not have this
 /// many blocks, before any file is looked at; `CommandFault::CannotMake` where the file is there already, another
 /// process makes it, another file has its name with `.jb-unfinished` after it, or the system refuses it;
 /// `CommandFault::NoLinks` where its file system has no links; `CommandFault::Memory` where memory ran out;
