@@ -41,7 +41,7 @@ def revoke(number, homes, count=None, wide=False):
 
 
 def descriptor(number, tags, uuid=UUID, wide=False):
-    """`tags` are (home, flags); the UUID stands after the first."""
+    """`tags` are (home, flags); the UUID comes after the first."""
     raw = be32(MAGIC, DESCRIPTOR, number)
     for home, flags in tags:
         raw += be32(home % 2**32) + struct.pack(">HH", 0, flags) + be32(home >> 32) * wide + (b"" if flags & SAME_UUID else uuid)

@@ -10,7 +10,7 @@ def row(words, status, out="", err="", files=(), stdin=b"", after=(), how="", to
     """One run of the program in an empty folder.
 
     words     its words, as one text; in a word `~` stands for a space and `^` for an LF, '' is an empty one, and a NUL is never needed
-    files     the files that are there before, by their names; None makes a folder, a number a file of so many zeros, a text that kind
+    files     the files that are there before, by their names; None makes a folder, a number a file of this many zeros, a text that kind
               of file
     after     the files that differ afterwards, or are new, or `...` for one that is gone; all others must be as they were, and there may
               be no other; a function judges the bytes instead

@@ -148,7 +148,7 @@ for words in "recover a --journal j", "load a q --journal j --hold --checkpoint"
 row("load a q --journal j --hold --checkpoint", 1, err="jb: FileSystem BlockSize 4096 a\n",
     files={**parted(over(image(superblock(3), dated(7)), system(log=2, mounted=8))), "q": queue("w3")})
 ONE_BLOCK = "handles 1 changes 1 settled 1 groups 1 blocks 3\n"
-# a clean copy beside a file system that needs recovery is not its journal as it stands now; beside one that needs none it may be
+# a clean copy beside a file system that needs recovery is not its journal as it is now; beside one that needs none it may be
 row("load a q --journal j --hold --checkpoint", 1, err="jb: FileSystem Unrecovered a\n", files={**parted(dated_image(superblock(3), (7,), 8)), "q": queue("w3")})
 row("load a q --journal j --hold --checkpoint", 0, ONE_BLOCK, files={**parted(over(image(superblock(3), dated(7)), system(incompat=0, mounted=8))), "q": queue("w3")},
     after=parted(over(image(superblock(4), [*group(4, {3: data()}), commit(2, 7)]), system(incompat=0, mounted=8))))

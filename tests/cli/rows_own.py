@@ -46,7 +46,7 @@ OWN = [
     (dict(fields=((0x18, "I", 3),)), "Field s_log_block_size 3"), (dict(fields=((0x14, "I", 0),)), "Field s_first_data_block 0"), (dict(blocks=1201), "Field s_blocks_count 1201"),
     (dict(blocks=0), "Field s_blocks_count 0"), (dict(fields=((0x20, "I", 7),)), "Field s_blocks_per_group 7"), (dict(fields=((0x58, "H", 130),)), "Field s_inode_size 130"),
     (dict(fields=((0x28, "I", 0),)), "Field s_inodes_per_group 0"), (dict(incompat=4 | EXTENTS | 0x80), "Field s_desc_size 0"), (dict(inum=9), "Field s_journal_inum 9"),
-    # where the inode stands
+    # where the inode is
     (dict(laid={2: le("III", 4, 4, 1201)}), "Table 1201"), (dict(laid={2: le("III", 4, 4, 0)}), "Table 0"),
     # the inode
     (dict(inode=((0x00, "H", 0x4180),)), "Inode NotRegular"), (dict(inode=((0x1A, "H", 0),)), "Inode NoLink"), (dict(inode=((0x20, "I", 0x80800),)), "Inode Encrypted"),

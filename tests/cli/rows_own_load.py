@@ -1,4 +1,4 @@
-"""Rows of the table: loads onto a journal that stands within its file system."""
+"""Rows of the table: loads onto a journal that is within its file system."""
 from images import BS, data, group, image, superblock
 from rows import BLOCK_5, CLEAN, FULL, HANDLE, MISSING, ONE, SMALL, queue, row
 from rows_load import LOADED

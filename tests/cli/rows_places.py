@@ -66,7 +66,7 @@ row("recover a --journal j", 1, err="jb: DeviceFault\n", files=parted(FULL), how
 
 
 def within(content, parts, blocks=60):
-    """An image whose journal stands in these stretches of its home blocks, each the first of them and how many."""
+    """An image whose journal is in these stretches of its home blocks, each the first of them and how many."""
     whole = bytearray(content[33 * BS:].ljust(blocks * BS, b"\0"))
     at = 0
     for first, count in parts:

@@ -109,7 +109,7 @@ for log, fault in [(changed(0, BS - 1), "revoke 1"), (changed(0, 19), "revoke 1"
     for words in ASKED:
         row(words, 1, err="jb: BadChecksum %s\n" % fault, files={"a": made(V3, log)})
         row(words, 1, err="jb: BadChecksum %s\n" % fault, files=ext(made(V3, log)))
-# behind the first 60 bytes a commit block may be old
+# after the first 60 bytes a commit block may be old
 row("recover a --checksums", 0, DONE, files={"a": made(V3, changed(3, 700))}, after={"a": image(front(V3, 3, 0), changed(3, 700), written={5: BLOCK_5, 9: data(b"nine")})})
 # data: a dump says so in its line
 row("dump a --checksums", 0, told(V3, " wrong"), files={"a": made(V3, changed(2, 700))})
@@ -164,15 +164,15 @@ def turned(start):
     return blocks
 
 
-# a header is damaged: the log ends before it, and the commit block behind the end shows what is lost
+# a header is damaged: the log ends before it, and the commit block after the end shows what is lost
 NO_HEAD, OTHER = bytes(BS), summed_descriptor(V3, 9, [(6, LAST_TAG, data(b"six"))])
 for log, out, lost in [
         (TWO, ENDS[2], None), (TWO[:5], ENDS[1], None), (with_block(3, NO_HEAD), ENDS[1], 6), (with_block(3, OTHER), ENDS[1], 6), (with_block(0, NO_HEAD), NO_LINES, 3),
-        # behind the end: of a later number, of one 2^31 - 1 after the next, of one that counts as before it, of the one before, a wrong one, none at all
+        # after the end: of a later number, of one 2^31 - 1 after the next, of one that counts as before it, of the one before, a wrong one, none at all
         ([*TWO, NO_HEAD, summed(commit(9), 16)], ENDS[2], 8), ([*TWO[:3], NO_HEAD, summed(commit((3 + 2**31 - 1) % 2**32), 16)], ENDS[1], 5),
         ([*TWO[:3], NO_HEAD, summed(commit(3 + 2**31), 16)], ENDS[1], None), ([*TWO[:3], NO_HEAD, summed(commit(2), 16)], ENDS[1], None),
         ([*TWO[:3], NO_HEAD, commit(3)], ENDS[1], None), ([*TWO[:3], NO_HEAD, summed(summed_revoke(V3, 3, [7]), 16)], ENDS[1], None),
-        # behind the first 60 bytes a commit block may be old; the first of two is told
+        # after the first 60 bytes a commit block may be old; the first of two is told
         (with_block(3, NO_HEAD)[:5] + [over(TWO[5], 700, b"old")], ENDS[1], 6), ([*with_block(3, NO_HEAD), summed(commit(4), 16)], ENDS[1], 6),
         # data of a committed transaction that looks like one is none
         ([summed_descriptor(V3, 2, [(5, LAST_TAG, summed(commit(3), 16))]), summed(commit(3), 16), TWO[2]], None, None)]:

@@ -13,7 +13,7 @@ def le(form, *numbers):
 
 
 def stretches(parts, places=PLACES, spare=100):
-    """The journal's stretches in the image, each its first block and how many, up to so many places: these, and then blocks that nothing else has."""
+    """The journal's stretches in the image, each its first block and how many, up to this many places: these, and then blocks that nothing else has."""
     parts = list(parts)
     left = places - sum(count for _, count in parts)
     if left:

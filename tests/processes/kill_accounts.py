@@ -18,7 +18,7 @@ LINE = b"the accounts hold 100000\n"
 
 
 def run(program, image, moves, patience):
-    """What one run printed, or None where it was killed after so many seconds."""
+    """What one run printed, or None where it was killed after this many seconds."""
     started = subprocess.Popen([program, image, str(moves)], stdin=subprocess.DEVNULL, stdout=subprocess.PIPE,
                                stderr=subprocess.STDOUT)
     try:

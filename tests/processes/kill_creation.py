@@ -30,7 +30,7 @@ class Program:
         self.name, self.words, self.given, self.prints = name, words, given, prints
 
     def start(self, words, patience=None):
-        """The status and the output of a start, or None where it was killed after so many seconds."""
+        """The status and the output of a start, or None where it was killed after this many seconds."""
         started = subprocess.Popen(words, stdin=subprocess.PIPE, stdout=subprocess.PIPE, stderr=subprocess.STDOUT)
         try:
             out = started.communicate(self.given, timeout=patience)[0]

@@ -5,7 +5,7 @@ A queue of handles is loaded into a new image, in turn with each list of options
   - killed: strace kills the program at the entry of the k-th pwrite64 or fdatasync of a thread, for each k until none is left;
   - power: strace notes the bytes of each call of a run that ends. At each moment of it the sectors of 512 bytes that were
     written since the last fdatasync each keep any of their versions, as chosen by SEED (0 where it is left out).
-Each image that is left is recovered by JB, and its home blocks must be those of a first part of the handles of each thread,
+Each image that is left is recovered by JB, and its home blocks must be those of a prefix of the handles of each thread,
 with each handle whole. A second recovery must find nothing. Handles that a power cut cannot take are not lost at a later one.
 Needs strace. Prints a line for each list of options."""
 import os

@@ -4,8 +4,8 @@
     tests/processes/kill_store.py PROGRAM [KILLS]
 
 The image stays from run to run. Each run is asked for the value of every key, and then told to put and to delete at random. What it has
-answered stands, and of the command after these it stands or not: the values of the next run must be those of one of the two. Prints how many runs there
-were, how many commands were answered and how many of the commands in hand stood, and ends with 1 where a value was wrong.
+answered is kept, and the command after these is kept or not: the values of the next run must be those of one of the two. Prints how many runs there
+were, how many commands were answered and how many of the commands in hand were kept, and ends with 1 where a value was wrong.
 """
 import os
 import random
@@ -18,7 +18,7 @@ KEYS = range(1, 100)
 
 
 def run(program, image, commands, patience):
-    """The whole lines of one run, and whether it ended by itself before it was killed after so many seconds."""
+    """The whole lines of one run, and whether it ended by itself before it was killed after this many seconds."""
     started = subprocess.Popen([program, image], stdin=subprocess.PIPE, stdout=subprocess.PIPE, stderr=subprocess.STDOUT)
     ended = True
     try:

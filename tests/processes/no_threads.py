@@ -24,7 +24,7 @@ def expect(what, is_so, *found):
 
 
 def begin(words, given, stack=None):
-    """A program with this input; a new thread of it wants so many MiB of the 1,536 that it has."""
+    """A program with this input; a new thread of it wants this many MiB of the 1,536 that it has."""
 
     def limits():
         if stack is not None:

@@ -1,6 +1,6 @@
 /* Refuses one allocation of a program: the one of number REFUSE, counted from 0, between an open of "/refuse/on" and one of
  * "/refuse/off", or from the start where REFUSE_FROM_START is set. At the end it says on descriptor REFUSE_TO whether one was
- * refused. Where REFUSE_WRITES is set, no block of a file is written; where REFUSE_LENGTH is set, a file gets so many bytes more than
+ * refused. Where REFUSE_WRITES is set, no block of a file is written; where REFUSE_LENGTH is set, a file gets this many bytes more than
  * are asked for. It is preloaded with LD_PRELOAD. */
 #define _GNU_SOURCE
 #include <dlfcn.h>

@@ -4,7 +4,7 @@
     tests/processes/two_at_once.py JB STORE ACCOUNTS [ROUNDS]
 
 A copy of example_accounts that moves money for a second has its image open: another copy, example_store, and each command of `jb` that opens an image are
-refused then, and the accounts hold what they must at the end. Then, in each of so many rounds (10, if no number is given), eight copies of example_accounts,
+refused then, and the accounts hold what they must at the end. Then, in each of this many rounds (10, if no number is given), eight copies of example_accounts,
 and eight of example_store, are started at once where there is no image: each ends well or is refused, one at least ends well, and what those
 that ended well have put is in the store. Ends with 1 where it was otherwise."""
 import os

@@ -33,7 +33,7 @@ impl Worker<Result<(), JournalFault>> for Moving {
                 last = Some(ticket);
             }
         }
-        // what is waited for stands after a crash
+        // what is waited for survives a crash
         if let Some(ticket) = last {
             client.wait(ticket)?;
         }

@@ -5,10 +5,10 @@
 //! example_durable [IMAGE THREADS SECONDS [LEVEL [MICROS HANDLES]]]
 //! ```
 //!
-//! `IMAGE` is made where there is no such file. Each of `THREADS` threads, 1 to 64, makes handles for so many seconds.
-//! `LEVEL` is how many blocks of the log are in use until committed transactions are written home. Each commit is put
-//! off until `HANDLES` handles wait for it, but for `MICROS` microseconds at most. Without words the disk is in memory,
-//! each of four threads makes 250 handles, and no time is printed.
+//! `IMAGE` is made where there is no such file. Each of `THREADS` threads, 1 to 64, makes handles for this many
+//! seconds. `LEVEL` is how many blocks of the log are in use until committed transactions are written home. Each commit
+//! is put off until `HANDLES` handles wait for it, but for `MICROS` microseconds at most. Without words the disk is in
+//! memory, each of four threads makes 250 handles, and no time is printed.
 #![tactic(auto)]
 
 ghost use Rattle.std.specs.Prelude.{◌≤◌};
@@ -34,7 +34,7 @@ use std::time::{Clock, Duration, Instant};
 /// How many blocks the journal has.
 const JOURNAL: u32 = 1024;
 
-/// How the handles are made: by so many threads, so many by each at most, and for so many microseconds.
+/// How the handles are made: by this many threads, this many by each at most, and for this many microseconds.
 #[derive(Clone, Copy)]
 struct Load {
     threads: usize,
@@ -44,7 +44,7 @@ struct Load {
     delay: Delay,
 }
 
-/// As many workers as a run may have: so many, but from 1 to 64.
+/// As many workers as a run may have: this many, but from 1 to 64.
 fn workers(threads: usize) -> usize
     ensures { (1 ≤ result) × (result ≤ 64) }
 {

@@ -52,7 +52,7 @@ pub struct Waited {
 }
 
 impl Times {
-    /// Of no worker yet, where so many transactions were committed.
+    /// Of no worker yet, where this many transactions were committed.
     pub fn new(alloc: Global, groups: usize) -> Times {
         Times {
             begun: u64::MAX,

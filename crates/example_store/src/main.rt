@@ -1,5 +1,5 @@
 //! A map from keys to values in the home blocks of a journal. It obeys the commands of its standard input, a line each:
-//! `put KEY VALUE`, `get KEY` and `delete KEY`, and answers each by a line. What it has answered stands after a crash.
+//! `put KEY VALUE`, `get KEY` and `delete KEY`, and answers each by a line. What it has answered survives a crash.
 //!
 //! ```sh
 //! example_store [IMAGE]

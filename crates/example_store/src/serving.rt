@@ -10,7 +10,7 @@ use std::sync::ledger::Ledger;
 use std::sync::{Mutex, Wait};
 use std::time;
 
-/// A worker that obeys the commands in their order, and answers each once what it did stands.
+/// A worker that obeys the commands in their order, and answers each once what it did is durable.
 #[derive(Drop)]
 pub struct Serving {
     /// What it obeys.

@@ -66,7 +66,7 @@ fn is_stepped(alloc: Global, state: &mut State, row: &Row) -> bool {
     }
 }
 
-/// Whether a new machine makes the first so many steps.
+/// Whether a new machine makes the first steps, this many of them.
 fn are_stepped(alloc: Global, state: &mut State, count: usize) -> bool {
     for row in STEPS.iter().take(count) {
         if !is_stepped(alloc, state, row) {

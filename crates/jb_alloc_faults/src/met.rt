@@ -10,8 +10,8 @@ pub enum Met {
     Ample,
     /// The first call answered that memory ran out, and the second one as with ample memory.
     Memory,
-    /// The disk in memory failed a call for want of memory, and the first call answered so; what must stand then
-    /// stands.
+    /// The disk in memory failed a call for want of memory, and the first call answered so; what must be kept then
+    /// is kept.
     Fault,
 }
 

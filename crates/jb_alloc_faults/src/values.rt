@@ -13,7 +13,7 @@ use std::alloc::Global;
 use std::fs::File;
 use std::rt::Files;
 
-/// The least numbers of blocks for the first parts of the three handles.
+/// The least numbers of blocks for the prefixes of the three handles.
 pub const PRICES: [Option<u64>; 4] = [Some(0), Some(5), Some(7), Some(7)];
 
 /// The rows of the calls over the three handles, by their names.

@@ -104,7 +104,7 @@ load_app =
     let held = with_rule (with_rule found (number_or (codes "threads") (codes "1"))) (flag (codes "hold")) in
     with_rule (with_rule held (number_or (codes "stamp") (codes "0"))) (flag (codes "checkpoint"))
 
--- a command over one image, whose journal may stand in extents of it
+-- a command over one image, whose journal may be in extents of it
 abbrev pub change_app : Text → App
 change_app name = with_rule (image_app name) extents_option
 

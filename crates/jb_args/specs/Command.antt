@@ -42,7 +42,7 @@ load_in rows =
     (flag_in (codes "checkpoint") rows)) (number_in (codes "stamp") rows))
     (flag_in (codes "hold") rows)) (number_in (codes "threads") rows)) (file_in rows)) (image_in rows)
 
--- the command of this name, with the words that stand under the names of its arguments
+-- the command of this name, with the words that are under the names of its arguments
 abbrev pub wanted : Text → List Row → Option Wanted
 wanted name rows =
     if bytes_eq name (codes "load") then option_map (λ load. WantsLoad load) (load_in rows)

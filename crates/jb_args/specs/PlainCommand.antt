@@ -163,7 +163,7 @@ cat_in rows =
     option_map (λ checksums. AsksCat image (record { home = home; count = count; hex = hex; journal = journal_asked rows; extents = extents_asked rows; checksums = checksums }))
     (flag_in (codes "checksums") rows)) (flag_in (codes "hex") rows)) (number_in (codes "n") rows)) (number_in (codes "HOME") rows)) (image_in rows)
 
--- the command of this name, with the words that stand under the names of its arguments
+-- the command of this name, with the words that are under the names of its arguments
 abbrev pub asked : Text → List Row → Option Asked
 asked name rows =
     if bytes_eq name (codes "cost") then option_map (λ file. AsksCost file) (file_in rows)

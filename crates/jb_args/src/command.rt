@@ -18,7 +18,7 @@ pub struct LoadWords<'a> {
     pub file: &'a str,
     /// `--journal`: the file with the journal, where the image has the home blocks alone.
     pub journal: Option<&'a str>,
-    /// `--extents`: where the journal stands within the image.
+    /// `--extents`: where the journal is within the image.
     pub extents: Option<&'a str>,
     /// `--threads`: how many threads run the handles.
     pub threads: u64,

@@ -21,7 +21,7 @@ pub(crate) struct CommandRow<'a> {
     name: &'a str,
     /// What the help of `jb` says of it.
     about: &'a str,
-    /// What stands at the end of its long help.
+    /// What is at the end of its long help.
     more: &'a str,
     /// What it takes, in the order of the help.
     words: &'a [Word<'a>],

@@ -118,11 +118,11 @@ pub enum Hint {
     OwnNoSuper,
     /// A journal has more blocks than its file.
     OwnShort,
-    /// A journal may not have so many blocks.
+    /// A journal may not have this many blocks.
     Geometry,
     /// A block of the journal has a wrong checksum.
     BadChecksum,
-    /// A commit block of a later transaction is behind the end of a log.
+    /// A commit block of a later transaction is after the end of a log.
     Lost,
     /// A revoke block is damaged.
     BadRevoke,

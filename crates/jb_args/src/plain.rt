@@ -51,14 +51,14 @@ pub enum Plain<'a> {
     Renumber {
         /// The file with the journal and the home blocks.
         image: &'a str,
-        /// `--extents`: where the journal stands within the image.
+        /// `--extents`: where the journal is within the image.
         extents: Option<&'a str>,
     },
     /// `jb widen IMAGE ..`: the journal of an image, clean, with block numbers of 64 bits.
     Widen {
         /// The file with the journal and the home blocks.
         image: &'a str,
-        /// `--extents`: where the journal stands within the image.
+        /// `--extents`: where the journal is within the image.
         extents: Option<&'a str>,
     },
 }
@@ -76,7 +76,7 @@ pub struct DumpOptions<'a> {
     pub summary: bool,
     /// `--journal`: the file with the journal, where the file has the home blocks alone.
     pub journal: Option<&'a str>,
-    /// `--extents`: where the journal stands within the file.
+    /// `--extents`: where the journal is within the file.
     pub extents: Option<&'a str>,
     /// `--checksums`: whether a journal with checksums is taken, too.
     pub checksums: bool,
@@ -95,7 +95,7 @@ pub struct CatOptions<'a> {
     pub hex: bool,
     /// `--journal`: the file with the journal, where the image has the home blocks alone.
     pub journal: Option<&'a str>,
-    /// `--extents`: where the journal stands within the image.
+    /// `--extents`: where the journal is within the image.
     pub extents: Option<&'a str>,
     /// `--checksums`: whether a journal with checksums is taken, too.
     pub checksums: bool,
@@ -106,7 +106,7 @@ pub struct CatOptions<'a> {
 pub struct RecoverOptions<'a> {
     /// `--journal`: the file with the journal, where the image has the home blocks alone.
     pub journal: Option<&'a str>,
-    /// `--extents`: where the journal stands within the image.
+    /// `--extents`: where the journal is within the image.
     pub extents: Option<&'a str>,
     /// `--force`: whether a journal that seems not to be the file system's own is recovered.
     pub force: bool,

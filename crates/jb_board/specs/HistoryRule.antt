@@ -20,7 +20,7 @@ module _ {E : Type 0} where
   abbrev pub IsFirstPart : List E → List E → Type 0
   IsFirstPart es log = IsPrefix es log
 
-  -- the entry stands at its place
+  -- the entry is at its place
   abbrev pub StandsIn : List E → ℕ × E → Type 0
   StandsIn log e = slice_get log e.0 ≡ Some e.1
 

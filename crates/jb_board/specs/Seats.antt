@@ -23,6 +23,6 @@ seat_board s = s.seat.table_id
 abbrev pub seat_view : BoardSeat → Front
 seat_view s = s.seat.me.0
 
--- so many tickets were given at least
+-- this many tickets were given at least
 abbrev pub given_by : {L : Type 0} → Tickets L → ℕ
 given_by t = t.count

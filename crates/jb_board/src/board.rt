@@ -112,7 +112,7 @@ impl<L: Ledger> Board<L> {
         }
     }
 
-    /// Raises the count of stopped tickets to `count`, or leaves it where it is higher. So many tickets
+    /// Raises the count of stopped tickets to `count`, or leaves it where it is higher. That many tickets
     /// were given, as `tickets` shows.
     pub fn raise_stopped(&self, seat: &mut BoardSeat, count: u64, tickets: &Tickets<L>)
         requires here { seat_board seat.old ≡ board_id self.now }
@@ -128,7 +128,7 @@ impl<L: Ledger> Board<L> {
             .fetch_max::<RaiseStopped>(&mut seat.seat, STOPPED, count);
     }
 
-    /// Raises the count of taken tickets to `count`, or leaves it where it is higher. So many tickets
+    /// Raises the count of taken tickets to `count`, or leaves it where it is higher. That many tickets
     /// have stopped, as the seat is sure.
     pub fn raise_taken(&self, seat: &mut BoardSeat, count: u64)
         requires here { seat_board seat.old ≡ board_id self.now }
@@ -142,7 +142,7 @@ impl<L: Ledger> Board<L> {
             .fetch_max::<RaiseTaken>(&mut seat.seat, TAKEN, count);
     }
 
-    /// Raises the count of settled tickets to `count`, or leaves it where it is higher. So many tickets
+    /// Raises the count of settled tickets to `count`, or leaves it where it is higher. That many tickets
     /// were taken, as the seat is sure.
     pub fn raise_settled(&self, seat: &mut BoardSeat, count: u64)
         requires here { seat_board seat.old ≡ board_id self.now }

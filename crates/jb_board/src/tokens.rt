@@ -22,7 +22,7 @@ impl<E, L: Place> Model for Appender<E, L> {
         × (s.seat.me.0.keeps ≡ true) × (s.seat.me.0.mine ≡ []) };
 }
 
-/// A first part of the history, which was seen.
+/// A prefix of the history, which was seen.
 #[derive(Drop)]
 pub struct Prefix<E, L: Place> {
     pub(crate) seat: Seat<E, View<E>>,

@@ -88,7 +88,7 @@ pub record IsNewBook (shape : Shape) (usable : ℕ) (a : Account) : Type 0 where
   pub shut : a.shut ≡ false
   pub aborted : a.aborted ≡ false
 
--- the account once so many credits were granted to a seat
+-- the account once this many credits were granted to a seat
 abbrev pub granted_to : ℕ → ℕ → Account → Account
 granted_to seat credits a = record a { shadow = begun seat credits a.shadow; granted = a.granted + credits }
 
@@ -130,7 +130,7 @@ last_start (e ∷ f ∷ es) = last_start (f ∷ es)
 
 -- ---- what each call refuses
 
--- no room for so many credits more, no ticket left, or too many credits granted in all
+-- no room for this many credits more, no ticket left, or too many credits granted in all
 abbrev pub has_no_room : Account → ℕ → Bool
 has_no_room a credits = nat_lt a.usable (reserved_in a.shadow + credits) || nat_le (2 ^ 61) (a.shadow.next + length a.shadow.seats) || nat_lt (2 ^ 61) (a.granted + credits)
 
@@ -143,7 +143,7 @@ abbrev pub RefusesBegin : Account → ℕ → ℕ → BeginFault → Type 0
 RefusesBegin a seat credits Memory = begin_refusal a seat credits ≡ None
 RefusesBegin a seat credits fault = begin_refusal a seat credits ≡ Some fault
 
--- the seat has an open handle of so many credits, and the words are within them and fit the shape
+-- the seat has an open handle of this many credits, and the words are within them and fit the shape
 pub record IsOpenFor (a : Account) (seat : ℕ) (words : WordMap) (credits : ℕ) : Type 0 where
   pub listed : credits_at a.shadow seat ≡ Some credits
   pub within : map.len words ≤ credits

@@ -97,7 +97,7 @@ abbrev pub handles_in : List Stopped → Entry → List Stopped
 handles_in stops e = slice_range stops e.first e.past
 
 -- The stops have the tickets 0, 1 and so on. While the book has not failed, the settled groups, the groups that are out and the queue,
--- joined in order, are the stops, each handle whole and once; the settled ones are always a first part of them. The trail has an
+-- joined in order, are the stops, each handle whole and once; the settled ones are always a prefix of them. The trail has an
 -- entry for each settled group, and its tickets are those of the group's handles
 pub record KeepsWhole (shape : Shape) (calls : List Call) (a : Account) : Type 0 where
   pub same_shape : a.shape ≡ shape

@@ -95,7 +95,7 @@ pub record IsRegistered (a : Account) (log : List WordMap) : Type 0 where
   pub queued : All (IsInHistory log) a.shadow.queue
   pub led : IsLed log a
 
--- the entries are those of the first groups of a batch that stands in the history that was seen, and that ends at this ticket
+-- the entries are those of the first groups of a batch that is in the history that was seen, and that ends at this ticket
 pub record IsSettling (sight : List WordMap) (end : ℕ) (shape : Shape) (done : Done) : Type 0 where
   pub planned : Planned
   pub is : IsPlanned planned

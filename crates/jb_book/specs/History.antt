@@ -23,7 +23,7 @@ pub record AreAllStops (log : List WordMap) (stops : List (ℕ × WordMap)) : Ty
   pub stand : All (StandsIn log) stops
   pub once : (weight : ℕ × WordMap → ℕ) → sum_by weight stops ≡ sum_by weight (with_places 0 log)
 
--- How a desk ends whose seats have stopped these handles: there is one history of so many stops, which has them all and no others, and the
+-- How a desk ends whose seats have stopped these handles: there is one history of this many stops, which has them all and no others, and the
 -- journal on the disk was given the first handles of this history
 pub record EndsWith {D : Type 0} (G : Ghosts D) (b : Begun) (stops : List (List (ℕ × WordMap))) (handles : ℕ) (shape : Shape) (disk : D) (trail : List Entry) : Type 0 where
   pub log : List WordMap

@@ -44,8 +44,8 @@ blocks_in_use d = log_blocks (transactions d.log d.groups)
 abbrev pub most_at_once : ℕ
 most_at_once = 64
 
--- What a checkpoint at a level answers, and what it makes of the journal, of which so many calls had failed before it and after it. The journal has not failed
--- and fewer blocks of its log than the level are in use, exactly where it answers `Low`, with how many: it does nothing then. Otherwise it is the journal's own, of so many groups at most
+-- What a checkpoint at a level answers, and what it makes of the journal, of which this many calls had failed before it and after it. The journal has not failed
+-- and fewer blocks of its log than the level are in use, exactly where it answers `Low`, with how many: it does nothing then. Otherwise it is the journal's own, of this many groups at most
 abbrev pub AnswersAt : {D : Type 0} → ℕ → ℕ → ℕ → OpenDeck D → OpenDeck D → Result CheckpointRound CheckpointFault → Type 0
 AnswersAt level before after old new (Ok (Low used)) = (old.aborted ≡ false) × (used ≡ blocks_in_use old) × (used < level) × (new ≡ old)
 AnswersAt level before after old new (Ok (Home run)) = (level ≤ blocks_in_use old) × AnswersRun most_at_once before after old new (Ok run)
@@ -148,8 +148,8 @@ module _ {D : Type 0} (G : Ghosts D) (b : Begun) where
     pub up : deck.aborted ≡ false
     pub none : deck.groups ≡ []
 
-  -- The desk's journal before and after a home was read into so many bytes, which then are these: what is answered, in the words of the journal's own read.
-  -- Nothing that the journal knows has changed, nor has what an honest disk holds; where the read has ended well, the bytes are what stands in the home. The journal was
+  -- The desk's journal before and after a home was read into this many bytes, which then are these: what is answered, in the words of the journal's own read.
+  -- Nothing that the journal knows has changed, nor has what an honest disk holds; where the read has ended well, the bytes are what the home holds. The journal was
   -- given the handles of this history, and has settled what it had settled at the marks that were seen before. As it was after the read it is one of the marks that are seen
   -- then: where the disk is honest at a later time at which these last, it was so here.
   pub record ReadsHome (known : List WordMap) (marks marks_after : List (OpenDeck D)) (home bytes : ℕ) (found : List ℕ) (result : Result (Unit {0}) ReadHomeFault) : Type 0 where
@@ -182,7 +182,7 @@ module _ {D : Type 0} (G : Ghosts D) (b : Begun) where
   ChecksRound (Err checkpoint.Aborted) = HasFailed
   ChecksRound (Err checkpoint.DeviceFault) = HasFailed
 
-  -- fewer blocks of the log than the level are in use in the desk's journal, which has not failed: so many
+  -- fewer blocks of the log than the level are in use in the desk's journal, which has not failed: this many
   pub record IsLow (level used : ℕ) : Type 0 where
     pub deck : OpenDeck D
     pub since : IsSince G b deck
@@ -190,7 +190,7 @@ module _ {D : Type 0} (G : Ghosts D) (b : Begun) where
     pub in_use : used ≡ blocks_in_use deck
     pub low : used < level
 
-  -- the desk's journal before and after its live groups were written home together, at most so many of them, where so many blocks of the log were in use at least
+  -- the desk's journal before and after its live groups were written home together, at most this many of them, where this many blocks of the log were in use at least
   pub record TakesHomeAt (level : ℕ) (run : CheckedRun) : Type 0 where
     pub old : OpenDeck D
     pub new : OpenDeck D
@@ -202,7 +202,7 @@ module _ {D : Type 0} (G : Ghosts D) (b : Begun) where
     pub before : IsSince G b old
     pub after : IsSince G b new
 
-  -- What a round of a checkpointer at a level has done: fewer blocks of the log are in use; or as many were, and the oldest groups are home, all that were live or so many;
+  -- What a round of a checkpointer at a level has done: fewer blocks of the log are in use; or as many were, and the oldest groups are home, all that were live or this many;
   -- or none was live, and the level is 0; or the journal has failed
   abbrev pub ChecksAt : ℕ → Result CheckpointRound CheckpointFault → Type 0
   ChecksAt level (Ok (Low used)) = IsLow level used

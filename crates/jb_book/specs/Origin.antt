@@ -20,7 +20,7 @@ pub record Begun : Type 1 where
   pub faults : ℕ
   -- the journal's superblock
   pub own : Superblock
-  -- how the homes stood
+  -- what the homes held
   pub homes : ℕ → List ℕ
   -- a moment, and what a crash since it might have left until the start
   pub since : ℕ

@@ -32,7 +32,7 @@ reserved_in s = sum (values_of s.seats) + sum s.credits
 abbrev pub fresh : Shadow
 fresh = record { seats = []; queue = []; credits = []; settled = 0; taken = 0; next = 0 }
 
--- a seat has begun a handle of so many credits
+-- a seat has begun a handle of this many credits
 abbrev pub begun : ℕ → ℕ → Shadow → Shadow
 begun seat credits s = record s { seats = seats.set s.seats seat credits }
 

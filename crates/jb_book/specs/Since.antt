@@ -1,4 +1,4 @@
--- How a journal stands since its desk was started: which handles it was given, what its homes hold, and what a crash leaves.
+-- The state of a journal since its desk was started: which handles it was given, what its homes hold, and what a crash leaves.
 use Rattle.std.specs.Prelude.{◌≡◌, ◌⊎◌, ℕ, ◌+◌, ◌-◌, ◌<◌, ◌≤◌, ◌^◌, false, List, [], ◌∷◌, All, length, take}
 use Rattle.jb_disk.specs.Image.{Image}
 use Rattle.jb_disk.specs.Faults.{most_faults}
@@ -56,7 +56,7 @@ pub record WasGiven {D : Type 0} (is : Stopped → Type 0) (given : List Stopped
   pub numbers : NumberedFrom first d.trail
   pub next : first + length d.trail ≡ d.log.next
 
--- The journal of the start, on its disk, after it was given these handles. While it has not failed its homes stand as they say, those
+-- The journal of the start, on its disk, after it was given these handles. While it has not failed its homes are as they say, those
 -- that are free aside.
 pub record Since {D : Type 0} (G : Ghosts D) (b : Begun) (given : List Stopped) (d : OpenDeck D) : Type 0 where
   pub same_size : G.size d.disk ≡ b.size
@@ -89,7 +89,7 @@ pub record IsSinceOf {D : Type 0} (G : Ghosts D) (b : Begun) (is : Stopped → T
 abbrev pub IsSince : {D : Type 0} → Ghosts D → Begun → OpenDeck D → Type 0
 IsSince G b d = IsSinceOf G b (may_stop b) d
 
--- the disk and the trail are those of a journal that stands as it must since the start
+-- the disk and the trail are those of a journal that is as it must be since the start
 pub record EndsSince {D : Type 0} (G : Ghosts D) (b : Begun) (disk : D) (trail : List Entry) : Type 0 where
   pub deck : OpenDeck D
   pub same_disk : deck.disk ≡ disk
@@ -101,7 +101,7 @@ pub record EndsSince {D : Type 0} (G : Ghosts D) (b : Begun) (disk : D) (trail :
 abbrev pub NoneAfterAtDesk : {D : Type 0} → Ghosts D → Begun → Type 0
 NoneAfterAtDesk {D} G b = (disk : D) (trail : List Entry) → EndsSince G b disk trail → b.none_failed → G.faults disk < most_faults → G.well_asked disk
 
--- The start is that of the journal on this disk, once it is opened: its homes stood as recovery leaves them, and what a crash might
+-- The start is that of the journal on this disk, once it is opened: its homes were as recovery leaves them, and what a crash might
 -- have left has what it might leave before the journal is opened and meanwhile. Where it says that no write and no sync had failed, none has.
 pub record IsBegunOn {D : Type 0} (G : Ghosts D) (b : Begun) (disk : D) : Type 0 where
   pub same_size : G.size disk ≡ b.size

@@ -37,7 +37,7 @@ pub record Lasts {D : Type 0} (G : Ghosts D) (b : Begun) (given : List Stopped) 
   pub earlier : b.is_known → G.honest d.disk → G.moment m.disk ≤ G.moment d.disk
   pub leaves : b.is_known → G.honest d.disk → (c : Image) → G.left_since d.disk (G.moment m.disk) c → HasFirst b given (past_after 0 m.trail) c
 
--- a journal that stands as it must since the start, whose marks last
+-- a journal that is as it must be since the start, whose marks last
 pub record IsMarkedOf {D : Type 0} (G : Ghosts D) (b : Begun) (is : Stopped → Type 0) (marks : List (OpenDeck D)) (d : OpenDeck D) : Type 0 where
   pub since : IsSinceOf G b is d
   pub marks_last : All (Lasts G b since.given d) marks

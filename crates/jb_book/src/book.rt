@@ -75,7 +75,7 @@ impl<S: Origin> Book<S> {
     ghost use Rattle.jb_book.specs.Calls.{Call, Does, Opened, Enqueued, Dropped, Took, TookNone, Settled};
     ghost use Rattle.jb_book.specs.Calls.{AreOfFirst, IsCutOf, out_of, ticket_answered};
 
-    /// A book in which nothing has happened yet, for a journal of this shape with so many usable log blocks. It
+    /// A book in which nothing has happened yet, for a journal of this shape with this many usable log blocks. It
     /// takes no memory.
     pub fn new(alloc: Global, shape: Shape, usable: u64) -> Book<S>
         requires { usable ≤ 2147483646 }
@@ -104,7 +104,7 @@ impl<S: Origin> Book<S> {
         }
     }
 
-    /// A seat begins a handle of so many credits (`jbd2_journal_start`).
+    /// A seat begins a handle of this many credits (`jbd2_journal_start`).
     ///
     /// # Errors
     ///
@@ -143,7 +143,7 @@ impl<S: Origin> Book<S> {
         }
     }
 
-    /// Whether there is no room for so many credits more, no ticket left, or too much granted in all.
+    /// Whether there is no room for this many credits more, no ticket left, or too much granted in all.
     fn is_full(&self, credits: u32) -> bool
         ensures { result ≡ has_no_room self.now credits }
     {

@@ -13,7 +13,7 @@ use std::marker::{Model, PhantomData};
 const MOST_AT_ONCE: usize = 64;
 
 /// What the second lock of a desk guards: the journal on its disk, and the clock that stamps its
-/// groups, with a first part of the history of stops, and the right to add marks. The journal stands as it must since
+/// groups, with a prefix of the history of stops, and the right to add marks. The journal is as it must be since
 /// the desk was started, and was given the first handles of this history. Its marks last: a crash at any moment since
 /// one leaves all that was settled then.
 #[derive(Drop)]
@@ -59,7 +59,7 @@ impl<D: Disk, C: Clock, S: Origin> JournalState<D, C, S> {
     ghost use Rattle.jb_book.specs.Since.{IsSince};
     ghost use Rattle.jb_book.specs.JournalValue.{worked};
 
-    /// A journal that stands as it must since the start and has committed nothing, a clock, what was seen
+    /// A journal that is as it must be since the start and has committed nothing, a clock, what was seen
     /// of the history, and the right to add marks, of which there is one: the journal as it is.
     pub fn new(
         deck: Deck<D>,
@@ -143,7 +143,7 @@ impl<D: Disk, C: Clock, S: Origin> JournalState<D, C, S> {
         self.deck.checkpoint_one()
     }
 
-    /// Writes the committed groups home together, at most 64 of them, where so many blocks of the log are in use at
+    /// Writes the committed groups home together, at most 64 of them, where this many blocks of the log are in use at
     /// least.
     ///
     /// # Errors
@@ -165,7 +165,7 @@ impl<D: Disk, C: Clock, S: Origin> JournalState<D, C, S> {
         }
     }
 
-    /// Reads a home block as it stands. All that the journal was given is seen then; what was settled at the marks that
+    /// Reads a home block as it is. All that the journal was given is seen then; what was settled at the marks that
     /// were seen is settled in it. The journal is marked then, whatever came of the read, and the mark is seen: a disk
     /// that is honest later was so in the read.
     ///

@@ -44,7 +44,7 @@ pub fn tied()
 
 /// Any list of calls of a new book is a list of events that the machine accepts. So the settled groups, the
 /// groups that are out and the queue, joined in order, are the handles that stopped, each whole and once; and
-/// the settled groups, those of the book's trail, are always a first part of them.
+/// the settled groups, those of the book's trail, are always a prefix of them.
 pub fn every_run()
     /// In any list of calls of a new book (each `take` with a least cut of its batch, each `settle` of the first groups
     /// that are being committed) each stopped handle is once and whole in a settled group, in one that is being

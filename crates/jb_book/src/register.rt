@@ -53,7 +53,7 @@ impl<D: Disk, S: Origin> Register<D, S> {
     ghost use Rattle.jb_book.specs.Marks.{HasFailedMark, HasShapeMark, IsMarked, SeesSame, SeesStop};
     ghost use Rattle.jb_book.specs.Origin.{AreStops};
 
-    /// A book in which nothing has happened yet, for a journal of this shape with so many usable log blocks, as was
+    /// A book in which nothing has happened yet, for a journal of this shape with this many usable log blocks, as was
     /// seen at a mark, and a history without an entry. Takes no memory.
     pub fn new(
         alloc: Global,
@@ -76,7 +76,7 @@ impl<D: Disk, S: Origin> Register<D, S> {
         }
     }
 
-    /// A seat begins a handle of so many credits.
+    /// A seat begins a handle of this many credits.
     ///
     /// # Errors
     ///

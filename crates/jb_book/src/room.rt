@@ -5,7 +5,7 @@ use jb_block::Memory;
 use jb_deck::Entry;
 use jb_handle::Stopped;
 
-/// Makes room for so many further entries, and for one more handle with its credits.
+/// Makes room for this many further entries, and for one more handle with its credits.
 pub fn make_room(
     trail: &mut Vec<Entry>,
     queue: &mut Vec<Stopped>,

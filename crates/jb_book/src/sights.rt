@@ -19,7 +19,7 @@ pub struct Histories<D: Disk, S: Origin> {
     pub marks: History<Deck<D>, Marks<S>>,
 }
 
-/// What was seen of the two histories of a desk: a first part of each.
+/// What was seen of the two histories of a desk: a prefix of each.
 #[derive(Drop)]
 pub struct Sights<D: Disk, S: Origin> {
     /// Of the handles that stopped.

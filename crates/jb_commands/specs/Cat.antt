@@ -71,7 +71,7 @@ PutsText text old new (Err WriteFault) = PutsPart old new text
 PutsText text old new (Err Memory) = new ≡ old
 PutsText text old new (Err _) = ⊥
 
--- so many blocks were asked for, and all of them are written; or their beginning; or all before one that was not peeked at, or had no
+-- this many blocks were asked for, and all of them are written; or their beginning; or all before one that was not peeked at, or had no
 -- memory for its rows
 abbrev pub TellsHomes : (CheckedPeekFault → Type 0) → Option ℕ → Bool → ℕ → ℕ → List ℕ → Option (List ℕ) → Option (List ℕ) → Result ℕ CommandFault → Type 0
 TellsHomes IsRefused homes hex n done text out_old out_new (Ok status) = (status ≡ 0) × (done ≡ n) × Appends out_old out_new text

@@ -1,4 +1,4 @@
--- How the journal of an image is renumbered or widened, wherever it stands.
+-- How the journal of an image is renumbered or widened, wherever it is.
 use Rattle.std.specs.Prelude.{◌≡◌, ℕ, false, List, Option, Some, None, Result, Ok, Err}
 use Rattle.jb_disk.specs.Image.{Image}
 use Rattle.jb_disk.specs.declared.disk.Disk.{Ghosts as Disks}
@@ -23,7 +23,7 @@ module _ {D E R : Type 0} (G : Disks (ImageDisk D E)) where
   ChangesJudged Does IsMidst EndsAlike report (Ok done) old new end = ChangesOn G Does IsMidst EndsAlike report old new end
   ChangesJudged Does IsMidst EndsAlike report (Err fault) old new end = (new ≡ old) × (end ≡ Err fault)
 
-  -- an image was judged, where its journal stands within the home blocks, as before a recovery in its place that is not forced; and then its
+  -- an image was judged, where its journal is within the home blocks, as before a recovery in its place that is not forced; and then its
   -- clean journal was changed
   abbrev pub ChangesOpened : (ℕ → ℕ → Image → Image → Result R ChangeFault → Type 0) → (ℕ → ℕ → Image → Image → Type 0) → (ℕ → ℕ → Image → Image → Type 0) → (R → Report)
       → ImageDisk D E → ImageDisk D E → Result Report CommandFault → Type 0

@@ -1,4 +1,4 @@
--- The journal that `jb dump` writes the text of, wherever it stands.
+-- The journal that `jb dump` writes the text of, wherever it is.
 use Rattle.std.specs.Prelude.{◌≡◌, ◌⊎◌, ◌&&◌, ℕ, Bool, true, false, not, if◌then◌else◌, List, Option, Some, None, Result, Ok, Err, codes}
 use Rattle.std.specs.Str.{bytes_eq}
 use Rattle.jb_args.specs.PlainCommand.{DumpWords}

@@ -237,7 +237,7 @@ abbrev pub format_fault : FormatFault → CommandFault
 format_fault formatting.DeviceFault = DeviceFault
 format_fault formatting.Geometry = Geometry
 
--- what a fault of a recovery is reported as, of an image with so many home blocks, where that is known
+-- what a fault of a recovery is reported as, of an image with this many home blocks, where that is known
 abbrev pub recover_fault : Option ℕ → CheckedFault → CommandFault
 recover_fault homes recovering.DeviceFault = DeviceFault
 recover_fault homes (recovering.Super fault) = super_fault fault
@@ -246,7 +246,7 @@ recover_fault homes (recovering.BadRevoke place) = BadRevoke place
 recover_fault homes (recovering.HomeOutOfRange home number) = HomeOutOfRange home number homes
 recover_fault homes recovering.Memory = Memory
 
--- what a fault of a peek is reported as, into an image with so many home blocks, where that is known
+-- what a fault of a peek is reported as, into an image with this many home blocks, where that is known
 abbrev pub peek_fault : Option ℕ → CheckedPeekFault → CommandFault
 peek_fault homes peeking.DeviceFault = DeviceFault
 peek_fault homes (peeking.Super fault) = super_fault fault

@@ -42,7 +42,7 @@ SaysSuper sb = (front : List ℕ) × (super_in front ≡ Ok sb)
 abbrev pub IsShort : CommandFault → Type 0
 IsShort fault = (fault ≡ Super NoGeometry) × ((sb : Superblock) × (blocks : ℕ) × SaysSuper sb × (blocks < sb.maxlen))
 
--- the same where its file has more blocks: so many, where the superblock says so many
+-- the same where its file has more blocks: this many, where the superblock says this many
 abbrev pub IsLong : CommandFault → Type 0
 IsLong (JournalLength blocks maxlen) = (maxlen < blocks) × ((sb : Superblock) × SaysSuper sb × (maxlen ≡ sb.maxlen))
 IsLong _ = ⊥
@@ -70,7 +70,7 @@ module _ {S T : Type 0} {start : Starts S} {other : Starts T} where
   IsHeldBy (Some journal) (Within disk) sb = ⊥
   IsHeldBy (Some journal) (Two pair) sb = AreTwoFiles pair sb
 
-  -- some first bytes are a superblock, which says the image's block size; so many home blocks are after the journal that it says, and
+  -- some first bytes are a superblock, which says the image's block size; this many home blocks are after the journal that it says, and
   -- can be named in it
   abbrev pub IsImageOpened : Option (List ℕ) → ImageDisk (FileDisk S start) (FileDisk T other) → ℕ → Type 0
   IsImageOpened journal disk homes =
@@ -90,7 +90,7 @@ abbrev pub IsNotMade : List ℕ → CommandFault → Type 0
 IsNotMade name DeviceFault = ⊤
 IsNotMade name fault = IsUnnamed name fault
 
--- the file of this name was not made: an option is bad; or none is, and a journal may not have so many blocks
+-- the file of this name was not made: an option is bad; or none is, and a journal may not have this many blocks
 abbrev pub IsBadFormat : Options → CommandFault → Type 0
 IsBadFormat o (BadOption option) = IsFirstBad o option
 IsBadFormat o BadGeometry = AreGood o × (IsJournalLength o.journal → ⊥)
@@ -98,7 +98,7 @@ IsBadFormat o _ = ⊥
 
 module _ {S T : Type 0} {start : Starts S} {other : Starts T} where
   -- the new image is one file, in which a journal was made since it was opened, and its limit is the end. If the file is honest, the
-  -- journal stands in it
+  -- journal is in it
   abbrev pub IsMade : ImageGeometry → ImageDisk (FileDisk S start) (FileDisk T other) → Result Report CommandFault → Type 0
   IsMade g (One new) end = WasMade g new × (end ≡ Ok (Formatted (new_limit_of g)))
   IsMade g (Two pair) end = ⊥

@@ -31,7 +31,7 @@ abbrev pub apart_end : Option ℕ → Option MapSource → Bool → Foreseen →
 apart_end None found list told = Ok (ReportsForeseen told list found)
 apart_end (Some home) found list told = Err (InExtents (Home home))
 
--- what was foreseen of an image, as the command's end: its text, with what said where the journal stands; or its fault with the number of home blocks; or that a home block
+-- what was foreseen of an image, as the command's end: its text, with what said where the journal is; or its fault with the number of home blocks; or that a home block
 -- that would be written is one of the journal's own
 abbrev pub foreseen_end : {D E : Type 0} → ImageDisk D E → ℕ → Option MapSource → Bool → Result Foreseen CheckedFault → Result Report CommandFault
 foreseen_end disk homes found list (Ok told) = apart_end (own_home disk told.homes.items) found list told

@@ -115,7 +115,7 @@ pub record IsFoundWithin (sb : Superblock) : Type 0 where
   pub says : SaysSuper sb
   pub chosen : IsTried (Ok sb)
 
--- some bytes are the superblock of a file system, whose blocks have a size that a journal's cannot have, and so many bytes
+-- some bytes are the superblock of a file system, whose blocks have a size that a journal's cannot have, and this many bytes
 abbrev pub IsOtherSize : FileSystemFault → Type 0
 IsOtherSize (system.BlockSize size) = (read : FileSystem) × IsReadOf (Some read) × (size ≡ read.block_size) × (IsBlockSize size → ⊥)
 IsOtherSize _ = ⊥

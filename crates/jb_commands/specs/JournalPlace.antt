@@ -117,14 +117,14 @@ module _ {S T : Type 0} {start : Starts S} {other : Starts T} where
   IsOpenedCompared sums input word disk homes =
       (old : ImageDisk (FileDisk S start) (FileDisk T other)) × IsOpenedListed input word old homes × IsComparedImage sums old disk
 
-  -- it is open, wherever its journal is, and this says where that stands, where it was looked for
+  -- it is open, wherever its journal is, and this says where that is, where it was looked for
   abbrev pub IsOpenedAt : Checksums → Option (List ℕ) → Option (List ℕ) → Option (List ℕ) → ImageDisk (FileDisk S start) (FileDisk T other) → ℕ → Option MapSource → Type 0
   IsOpenedAt sums input None None disk homes found = IsOpenedByFront sums disk homes found
   IsOpenedAt sums input (Some journal) None disk homes found = IsImageOpened (Some journal) disk homes × (found ≡ None)
   IsOpenedAt sums input None (Some word) disk homes found = IsOpenedCompared sums input word disk homes × (found ≡ None)
   IsOpenedAt sums input (Some journal) (Some word) disk homes found = ⊥
 
--- the list that a word says was not read, or the image was not opened with it; or it was, and the file system's own journal stands
+-- the list that a word says was not read, or the image was not opened with it; or it was, and the file system's own journal is
 -- elsewhere, or is not found
 abbrev pub IsShutCompared : {S T : Type 0} → Checksums → Starts S → Starts T → List ℕ → Option (List ℕ) → List ℕ → CommandFault → Type 0
 IsShutCompared {S} {T} sums start other name input word fault =
@@ -219,8 +219,8 @@ module _ {D E : Type 0} (G : Disks (ImageDisk D E)) where
   RecoversJudged words homes found (Ok done) old new end = DoesRecover (sums_of words.checksums) words.dry_run words.list homes found old new end
   RecoversJudged words homes found (Err fault) old new end = (new ≡ old) × (end ≡ Err fault)
 
-  -- an image with so many home blocks was judged, where its journal is beside them, and then what was asked for was done; what says where
-  -- its journal stands is reported
+  -- an image with this many home blocks was judged, where its journal is beside them, and then what was asked for was done; what says where
+  -- its journal lies is reported
   abbrev pub RecoversOpened : RecoverWords → ℕ → Option MapSource → ImageDisk D E → ImageDisk D E → Result Report CommandFault → Type 0
   RecoversOpened words homes found old new end =
       (mid : ImageDisk D E) × (judged : Result Unit CommandFault) × JudgesBeside (sums_of words.checksums) G (is_beside words.journal (is_within old)) (use_of words.journal) words.force old mid judged × RecoversJudged words homes found judged mid new end

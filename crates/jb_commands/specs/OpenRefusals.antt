@@ -93,7 +93,7 @@ module _ {S : Type 0} {start : Starts S} where
       (list_of (extents_of disk) ≡ es) × (journal_blocks disk ≡ sb.maxlen) × IsHeldWithin es sb (count_of (whole_disk disk)) × IsMeasured (whole_disk disk)
 
 module _ {S T : Type 0} {start : Starts S} {other : Starts T} where
-  -- some bytes are a superblock, which says the image's block size; so many home blocks can be named in it, and its journal stands in
+  -- some bytes are a superblock, which says the image's block size; this many home blocks can be named in it, and its journal is in
   -- these extents
   abbrev pub IsOpenedOver : List Extent → ImageDisk (FileDisk S start) (FileDisk T other) → ℕ → Type 0
   IsOpenedOver es disk homes =

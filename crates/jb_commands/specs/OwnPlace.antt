@@ -39,7 +39,7 @@ use Rattle.jb_commands.specs.declared.files.shut.FileFault.TheVariants.{Super as
 
 -- ---- the first bytes
 
--- the size of blocks with so many bytes; 1 KiB where a journal's have another one
+-- the size of blocks with this many bytes; 1 KiB where a journal's have another one
 abbrev pub size_said : ℕ → BlockSize
 size_said bytes = if bytes == 2048 then TwoKib else if bytes == 4096 then FourKib else OneKib
 
@@ -48,7 +48,7 @@ abbrev pub said_size : Option FileSystem → Option BlockSize
 said_size None = None
 said_size (Some system) = Some (size_said system.block_size)
 
--- the size of the blocks of the file system whose superblock stands after 1,024 of these bytes, if there is one
+-- the size of the blocks of the file system whose superblock is after 1,024 of these bytes, if there is one
 abbrev pub system_size : List ℕ → Option BlockSize
 system_size front = if nat_lt (length front) 2048 then None else said_size (system_in (drop 1024 front))
 
@@ -104,7 +104,7 @@ IsFrontShut sums start name fault = IsUnread name fault ⊎ ((found : FindFault)
 
 module _ {S T : Type 0} {start : Starts S} {other : Starts T} where
   -- the journal of the file system in a file was found, by what this says, and the image is that file, with the journal in those blocks;
-  -- so many home blocks can be named in it
+  -- this many home blocks can be named in it
   abbrev pub IsOwnOpened : Checksums → ImageDisk (FileDisk S start) (FileDisk T other) → ℕ → Option MapSource → Type 0
   IsOwnOpened sums (One file) homes found = ⊥
   IsOwnOpened sums (Two pair) homes found = ⊥
@@ -112,7 +112,7 @@ module _ {S T : Type 0} {start : Starts S} {other : Starts T} where
       (own : FoundJournal) × LooksFor sums (Ok own) (whole_disk disk) × (list_of (extents_of disk) ≡ own.0) × (journal_blocks disk ≡ own.2.maxlen)
       × (homes ≡ homes_in own.2 (spread_count (journal_blocks disk) (count_of (whole_disk disk)))) × (found ≡ Some own.1)
 
-  -- the image is open, by its first bytes: with the journal at its front, or with its file system's own, and what says where that stands
+  -- the image is open, by its first bytes: with the journal at its front, or with its file system's own, and what says where that is
   abbrev pub IsOpenedByFront : Checksums → ImageDisk (FileDisk S start) (FileDisk T other) → ℕ → Option MapSource → Type 0
   IsOpenedByFront sums disk homes found = (IsImageOpened None disk homes × (found ≡ None)) ⊎ IsOwnOpened sums disk homes found
 
@@ -164,7 +164,7 @@ module _ {S T : Type 0} {start : Starts S} {other : Starts T} where
   AreFew (Two pair) = ⊤
   AreFew (Within disk) = extents_count (list_of (extents_of disk)) < 2 ^ 64 - 1
 
-  -- an image whose journal stands within it was compared with its file system's own
+  -- an image whose journal is within it was compared with its file system's own
   abbrev pub IsComparedImage : Checksums → ImageDisk (FileDisk S start) (FileDisk T other) → ImageDisk (FileDisk S start) (FileDisk T other) → Type 0
   IsComparedImage sums (Within old) (Within new) = IsComparedTo sums old new
   IsComparedImage sums old new = new ≡ old

@@ -18,13 +18,13 @@ abbrev pub found_word : Option MapSource → List ℕ
 found_word (Some Backup) = codes " backup"
 found_word _ = []
 
--- the line of a recovery, of a journal of which this said where it stands
+-- the line of a recovery, of a journal of which this said where it is
 abbrev pub recovered_line : Option MapSource → Recovered → List ℕ
 recovered_line found r = spelled (
     codes "transactions " ∷ decimal r.transactions ∷ codes " copies " ∷ decimal r.copies ∷ codes " revoked " ∷ decimal r.revoked
     ∷ codes " next " ∷ decimal r.next ∷ found_word found ∷ codes "\n" ∷ [])
 
--- what a recovery answered, as the command's end: its counts, and what said where the journal stands; or its fault with the number of
+-- what a recovery answered, as the command's end: its counts, and what said where the journal is; or its fault with the number of
 -- home blocks
 abbrev pub recovery_end : Option ℕ → Option MapSource → Result Recovered CheckedFault → Result Report CommandFault
 recovery_end homes found (Ok done) = Ok (ReportsRecovered done found)

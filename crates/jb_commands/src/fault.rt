@@ -41,7 +41,7 @@ pub enum CommandFault<'a> {
     ChecksumType(u8),
     /// The journal's `s_checksum` is not the checksum of its superblock.
     SuperChecksum,
-    /// The journal's own file has so many blocks, more than its superblock says (`s_maxlen`), which is the second
+    /// The journal's own file has this many blocks, more than its superblock says (`s_maxlen`), which is the second
     /// number.
     JournalLength(u64, u32),
     /// The journal is not recovered into this file system.
@@ -52,7 +52,7 @@ pub enum CommandFault<'a> {
     Own(OwnFault),
     /// The block at this place of the journal, of a committed transaction, has a wrong checksum.
     BadChecksum(Summed, u64),
-    /// The block at this place of the journal, behind the end of its log, is the commit block of the next transaction
+    /// The block at this place of the journal, after the end of its log, is the commit block of the next transaction
     /// or of a later one.
     Lost(u64),
     /// The block at this place of the journal, of a committed transaction, is a revoke block whose `r_count` is above
@@ -179,7 +179,7 @@ impl<'a> CommandFault<'a> {
         }
     }
 
-    /// A fault of a recovery of an image with so many home blocks, where that is known.
+    /// A fault of a recovery of an image with this many home blocks, where that is known.
     pub(crate) fn of_recovery(fault: CheckedFault, homes: Option<u64>) -> CommandFault<'a>
         ensures value { result ≡ recover_fault homes fault }
     {
@@ -195,7 +195,7 @@ impl<'a> CommandFault<'a> {
         }
     }
 
-    /// A fault of a peek into an image with so many home blocks, where that is known.
+    /// A fault of a peek into an image with this many home blocks, where that is known.
     pub(crate) fn of_peek(fault: CheckedPeekFault, homes: Option<u64>) -> CommandFault<'a>
         ensures value { result ≡ peek_fault homes fault }
     {

@@ -50,7 +50,7 @@ pub(crate) fn new_file(options: FormatOptions<'_>) -> Result<ImageGeometry, Opti
     })
 }
 
-/// The block size of so many bytes.
+/// The block size of this many bytes.
 fn size_of(bs: u64) -> Option<BlockSize>
     ensures good { IsSome result ↔ IsBlockSize bs }
     ensures value { IfSome result (λ size. bytes_of size ≡ bs) }
@@ -86,7 +86,7 @@ fn width_of(wide: bool) -> Width
     if wide { Width::Wide } else { Width::Narrow }
 }
 
-/// Whether a file may have as many bytes as so many blocks of journal and homes.
+/// Whether a file may have as many bytes as this many blocks of journal and homes.
 fn is_file_len(journal: u64, homes: u64, bs: u64) -> bool
     ensures { IsTrue result ↔ ((journal + homes) * bs < 2 ^ 63) }
 {

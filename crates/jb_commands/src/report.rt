@@ -18,9 +18,9 @@ use std::io::Write;
 pub enum Report {
     /// It has written all that it had to say, and ends so.
     Said(ProgramEnd),
-    /// A journal was made, with so many log blocks of a transaction at most.
+    /// A journal was made, with this many log blocks of a transaction at most.
     Formatted(u32),
-    /// A journal was recovered; what said where it stands, where it was looked for.
+    /// A journal was recovered; what said where it is, where it was looked for.
     Recovered(Recovered, Option<MapSource>),
     /// A recovery would answer so; whether its home blocks are to be listed too, and the same of its journal.
     Foreseen(Foreseen, bool, Option<MapSource>),

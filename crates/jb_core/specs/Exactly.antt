@@ -1,8 +1,8 @@
--- A cut of so many log blocks, and what is left to judge of one from some bound on.
+-- A cut of this many log blocks, and what is left to judge of one from some bound on.
 use Rattle.std.specs.Prelude.{◌≡◌, ℕ, ◌≤◌, List}
 use Rattle.jb_cost.specs.Cut.{RisesTo, EachFrom, total_from, total, FitsCut}
 
--- the bounds are a cut of n handles that fits the limit and takes so many blocks
+-- the bounds are a cut of n handles that fits the limit and takes this many blocks
 abbrev pub CostsExactly : (ℕ → ℕ → ℕ) → ℕ → ℕ → ℕ → List ℕ → Type 0
 CostsExactly c limit n blocks bounds = FitsCut c limit n bounds × (total c bounds ≡ blocks)
 

@@ -22,7 +22,7 @@ pub record IsSame (old new : Line) : Type 0 where
   pub queue : new.queue ≡ old.queue
   pub credits : new.credits ≡ old.credits
 
--- a handle of so many credits has come to the queue's end
+-- a handle of this many credits has come to the queue's end
 pub record IsPushed (handle : Stopped) (granted : ℕ) (old new : Line) : Type 0 where
   pub settled : new.settled ≡ old.settled
   pub taken : new.taken ≡ old.taken

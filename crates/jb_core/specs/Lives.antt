@@ -83,7 +83,7 @@ PastKept [] groups = groups ≡ []
 PastKept (order ∷ orders) groups = (n : ℕ) × (rest : List Stopped) × (joined (drop n groups) ++ rest ≡ handles_of_order order) × PastKept orders (take n groups)
 
 -- What a machine has kept of its lives. While it is up, the groups that this life settled, the taken groups and the queue, joined in order, are
--- the life's stop order, each handle whole and once; once it has crashed, the settled ones are a first part of it. So it was in each life before
+-- the life's stop order, each handle whole and once; once it has crashed, the settled ones are a prefix of it. So it was in each life before
 pub record IsWhole (log : Log) (m : Machine) : Type 0 where
   pub up : m.up ≡ true → settled_now m ++ (joined m.taken ++ m.queue) ≡ handles_of_order (stop_order log)
   pub crashed : m.up ≡ false → (rest : List Stopped) × (settled_now m ++ rest ≡ handles_of_order (stop_order log))

@@ -53,7 +53,7 @@ held_at m seat = unwrap_or (handle_at m seat) (held 0 m.shape map.empty)
 abbrev pub reserved : Machine → ℕ
 reserved m = sum_by (λ h. h.credits) (values_of m.handles) + sum m.credits
 
--- no room for so many credits more, or no ticket left
+-- no room for this many credits more, or no ticket left
 abbrev pub is_full : Machine → ℕ → Bool
 is_full m credits = nat_lt 2147483646 (reserved m + credits) || nat_le (2 ^ 61) (m.next + length m.handles)
 

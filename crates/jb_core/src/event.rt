@@ -7,7 +7,7 @@ use thiserror::Error;
 /// Something that can happen to the machine, in one step.
 #[derive(Drop)]
 pub enum Event {
-    /// A seat begins a handle of so many credits (`jbd2_journal_start`).
+    /// A seat begins a handle of this many credits (`jbd2_journal_start`).
     Open {
         /// Whose handle it is.
         seat: u64,
@@ -83,7 +83,7 @@ pub enum CoreFault {
     /// So many credits are reserved that there is no room for more, or no ticket is left.
     #[error("no room beside {0} reserved credits; settle handles first")]
     Full(u64),
-    /// The home block is new to the handle, and all of its credits, so many, are used.
+    /// The home block is new to the handle, and all of its credits, this many, are used.
     #[error("all {0} credits of the handle are used; open one with more")]
     NoCredit(u32),
     /// The home block of this number is none of the journal's.

@@ -31,7 +31,7 @@ pub fn is_least(
     }
 }
 
-/// Whether the bounds are a cut of the handles into groups within the limit that takes so many log
+/// Whether the bounds are a cut of the handles into groups within the limit that takes this many log
 /// blocks.
 fn costs_exactly(
     alloc: Global,

@@ -145,7 +145,7 @@ impl State {
         }
     }
 
-    /// Whether there is no room for so many credits more, or no ticket left.
+    /// Whether there is no room for this many credits more, or no ticket left.
     fn is_full(&self, credits: u32) -> bool
         ensures { result ≡ is_full self.now credits }
     {

@@ -5,7 +5,7 @@ ghost use Rattle.jb_cost.specs.Cost.{cost, worst_cost_of, AreCopies};
 
 use crate::geometry::Geometry;
 
-/// The most log blocks that a handle of so many credits can take as a group of its own: a commit
+/// The most log blocks that a handle of this many credits can take as a group of its own: a commit
 /// block, a copy for each credit, and their descriptors (compare `jbd2_journal_start`, whose
 /// `nblocks` are the credits).
 pub fn worst_cost(credits: u32, geometry: Geometry) -> u64

@@ -1,7 +1,7 @@
 ghost use Rattle.std.specs.Prelude.{◌≡◌, ◌↔◌, ◌+◌, ◌*◌, ◌^◌, ◌<◌, ◌≤◌};
 ghost use Rattle.std.specs.Int.{div_ceil};
 
-/// Entries that are put into blocks, of which each holds so many, and the blocks that they take.
+/// Entries that are put into blocks, of which each holds this many, and the blocks that they take.
 #[derive(Clone, Copy)]
 pub(crate) struct Filled {
     pub(crate) per: u32,
@@ -15,7 +15,7 @@ pub(crate) struct Filled {
 }
 
 impl Filled {
-    /// No entries, of which a block holds so many.
+    /// No entries, of which a block holds this many.
     pub(crate) fn none(per: u32) -> Filled
         requires { 1 ≤ per }
         ensures per { result.per ≡ per }
@@ -29,7 +29,7 @@ impl Filled {
         }
     }
 
-    /// With so many entries more. Only where they need a further block is there a division.
+    /// With this many entries more. Only where they need a further block is there a division.
     pub(crate) fn with(self, more: u64) -> Filled
         requires { self.entries + more ≤ 2 ^ 62 }
         ensures per { result.per ≡ self.per }

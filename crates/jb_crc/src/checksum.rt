@@ -39,7 +39,7 @@ fn of_eight(crc: u32, bytes: &[u8]) -> u32
                                 ^ table_1()[usize::from(bytes[7])]))))))
 }
 
-/// The bytes behind the first eight.
+/// The bytes after the first eight.
 #[inline]
 fn behind_eight(bytes: &[u8]) -> &[u8]
     requires { 8 ≤ length bytes.now }

@@ -15,7 +15,7 @@ use Rattle.jb_desk.specs.declared.committer.RoundFault.{RoundFault}
 use Rattle.jb_desk.specs.declared.committer.RoundFault.TheVariants.{Aborted, Memory, DeviceFault, Refused}
 
 module _ {D : Type 0} (G : Ghosts D) (b : Begun) where
-  -- What a round has done of a committer that held such a batch before it and after it, where so many handles were seen before, and whose seat is then sure of so many settled
+  -- What a round has done of a committer that held such a batch before it and after it, where this many handles were seen before, and whose seat is then sure of this many settled
   -- tickets: a batch is committed, of one handle at least; or the journal has failed, and the seat is sure of what is settled in it; or the journal, which has not failed, does not
   -- take the batch that is held then, and is as it was
   abbrev pub CommitsRound : ℕ → Option Gathered → Option Gathered → ℕ → Result Round RoundFault → Type 0

@@ -61,7 +61,7 @@ abbrev pub StaysHeld : Option Gathered → Option Gathered → Type 0
 StaysHeld None new = is_some new ≡ true
 StaysHeld (Some b) new = new ≡ Some b
 
--- What a round answers, where the committer held such a batch before and after it, and its seat is sure of so many settled
+-- What a round answers, where the committer held such a batch before and after it, and its seat is sure of this many settled
 -- tickets: a batch that is committed is settled whole, one handle at least, and the seat is sure of it; a batch stays held where it
 -- may still be committed, and only there.
 abbrev pub AnswersRound : Option Gathered → Option Gathered → ℕ → Result Round RoundFault → Type 0

@@ -71,7 +71,7 @@ pub record CountsStop {H N : Type 0} {O : Ghosts H} {P : Places H} (ticket : ℕ
   pub counted : AddsStop ticket handle old new
   pub view : view_of new ≡ raised_stopped (view_of old) (ticket + 1)
 
--- what seats have left adds up to so many handles, and to so many home blocks that these had touched; neither is above 2 ^ 61
+-- what seats have left adds up to this many handles, and to this many home blocks that these had touched; neither is above 2 ^ 61
 pub record AddsUp {H N : Type 0} {O : Ghosts H} {P : Places H} (lefts : List (Left H N O P)) (handles touched : ℕ) : Type 0 where
   pub all_handles : handles ≡ sum_by stops_left lefts
   pub all_touched : touched ≡ sum_by changes_left lefts

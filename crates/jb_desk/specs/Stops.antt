@@ -21,7 +21,7 @@ pub record IsStopped {H N : Type 0} {O : Ghosts H} {P : Places H} (handle : Hand
   pub few : ticket ≤ 2 ^ 61
   pub counted : AddsStop ticket (changes_of handle) (holder handle) seat
 
--- why it has not, and what stands
+-- why it has not, and what is kept
 abbrev pub RefusesStopOf : {H N : Type 0} {O : Ghosts H} {P : Places H} → Handle (Seat H N O P) → Account → StopFault H N O P → Account → Type 0
 RefusesStopOf handle old (Aborted seat) new = (old.aborted ≡ true) × (seat ≡ holder handle) × (new ≡ dropped_of seat.number old)
 RefusesStopOf handle old (NotOpen back) new = RefusesStop old (holder handle).number (changes_of handle).words book.NotOpen × (back ≡ handle) × (new ≡ old)

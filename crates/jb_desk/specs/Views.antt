@@ -32,7 +32,7 @@ RefusesWait ticket old new wait.Aborted = new ≡ old
 RefusesWait ticket old new wait.Taken = view_of new ≡ with_settled (ticket + 1) (view_of old)
 RefusesWait ticket old new wait.Unknown = new ≡ old
 
--- what the commit of a taken batch makes of them: the batch is settled whole, or after a fault of the disk a first part of it
+-- what the commit of a taken batch makes of them: the batch is settled whole, or after a fault of the disk a prefix of it
 -- and not all, or nothing is
 abbrev pub SeesCommit : Gathered → Front → Front → Result Round RoundFault → Type 0
 SeesCommit b old new (Ok (Idle seen)) = ⊥
@@ -56,12 +56,12 @@ abbrev pub IsNextBatch : ℕ → Option Gathered → Gathered → Type 0
 IsNextBatch seen None b = seen ≤ end_of b
 IsNextBatch seen (Some held) b = b ≡ held
 
--- the batch that a round takes up, where so many handles were seen before: it has a handle at least
+-- the batch that a round takes up, where this many handles were seen before: it has a handle at least
 pub record TakesUp (seen : ℕ) (held : Option Gathered) (b : Gathered) : Type 0 where
   pub next : IsNextBatch seen held b
   pub some : 0 < length b.handles
 
--- What a round makes of them, where so many handles were seen and the committer held such a batch before and after it: nothing where it takes up no batch;
+-- What a round makes of them, where this many handles were seen and the committer held such a batch before and after it: nothing where it takes up no batch;
 -- otherwise its batch is taken, and then committed
 abbrev pub SeesRound : ℕ → Option Gathered → Option Gathered → Front → Front → Result Round RoundFault → Type 0
 SeesRound seen held after old new result =

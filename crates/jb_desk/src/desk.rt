@@ -148,7 +148,7 @@ impl<D: Disk, C: Clock, H: Origin, N: Ledger> Desk<D, C, H, N> {
         self.signals.tell();
     }
 
-    /// A seat begins a handle of so many credits (`jbd2_journal_start`). It does not stand in the line of
+    /// A seat begins a handle of this many credits (`jbd2_journal_start`). It does not wait in the line of
     /// [`Desk::begin_waiting`]: it takes room before those that wait for it there, who may then wait in vain.
     ///
     /// # Errors

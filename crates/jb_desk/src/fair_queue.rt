@@ -24,7 +24,7 @@ struct Line {
 }
 
 impl FairQueue {
-    /// A line in which nobody stands.
+    /// A line in which nobody waits.
     pub(crate) fn new() -> FairQueue {
         FairQueue {
             line: Mutex::new(Line {
@@ -36,7 +36,7 @@ impl FairQueue {
         }
     }
 
-    /// Whether nobody stands in the line.
+    /// Whether nobody waits in the line.
     pub(crate) fn is_empty<R: Wait>(&self, rt: &R) -> bool {
         let line = self.line.lock(rt);
         line.gone == line.came

@@ -9,7 +9,7 @@ use jb_handle::Words;
 use std::marker::Model;
 
 /// A batch of one handle at least, which has a cut within the journal's limit, and whose handles stopped with words
-/// that a handle may stop with (`S.begun`); that its tickets were given and are out; and a first part of the history
+/// that a handle may stop with (`S.begun`); that its tickets were given and are out; and a prefix of the history
 /// of stops that has its handles. It must be used up, as the batch in it.
 #[must_use]
 pub struct HeldBatch<S: Origin> {

@@ -18,7 +18,7 @@ pub struct StopLedger {
 }
 
 impl StopLedger {
-    /// A ledger of so many parts, and a history.
+    /// A ledger of this many parts, and a history.
     ///
     /// # Errors
     ///

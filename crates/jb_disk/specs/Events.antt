@@ -69,7 +69,7 @@ NoneAfter (e ∷ older) = NoneFailed older
 abbrev pub NotesAtMost : (ℕ → Bool → List ℕ → Event) → Bool → List Event → List Event → Type 0
 NotesAtMost kind ok old new = ((at : ℕ) × (bytes : List ℕ) × (new ≡ kind at ok bytes ∷ old)) ⊎ ((ok ≡ true) × (new ≡ old))
 
--- the answers are those of a file that had this content after each so many calls
+-- the answers are those of a file that had this content after each number of calls
 abbrev pub Agree : ℕ → (ℕ → Image) → List Event → Type 0
 Agree size content [] = Unit {0}
 Agree size content (e ∷ older) = Agree size content older × Makes size e (content (length older)) (content (length (e ∷ older)))
@@ -92,6 +92,6 @@ abbrev pub LeftFrom : ℕ → (ℕ → Image) → List Event → ℕ → Image �
 LeftFrom size content [] t c = (t ≤ 0) × Leaves size content [] c
 LeftFrom size content (e ∷ older) t c = ((t ≤ length older + 1) × Leaves size content (e ∷ older) c) ⊎ LeftFrom size content older t c
 
--- a record of calls is that of an honest file, which had this content after each so many calls
+-- a record of calls is that of an honest file, which had this content after each number of calls
 abbrev pub IsHonestFile : ℕ → ℕ → (ℕ → Image) → List Event → Type 0
 IsHonestFile size count content events = ((t : ℕ) → HasShape count size (content t)) × Agree size content events

@@ -54,7 +54,7 @@ module _ {S : Type 0} {start : Ghosts S} where
   abbrev pub FileLeaves : FileDisk S start → Image → Type 0
   FileLeaves f = Leaves (bytes_of (size_of_blocks f)) start.content (events_of f)
 
-  -- what a crash may have left of it when so many calls had been made, or later, if it is honest
+  -- what a crash may have left of it when this many calls had been made, or later, if it is honest
   abbrev pub FileLeft : FileDisk S start → ℕ → Image → Type 0
   FileLeft f = LeftFrom (bytes_of (size_of_blocks f)) start.content (events_of f)
 

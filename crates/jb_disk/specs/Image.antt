@@ -28,7 +28,7 @@ Same old new = new ≡ old
 abbrev pub Only : Image → (Image → Type 0) → Type 0
 Only c outcomes = (d : Image) → outcomes d → d ≡ c
 
--- so many blocks, each of so many bytes
+-- this many blocks, each of this many bytes
 pub record HasShape (count size : ℕ) (c : Image) : Type 0 where
   pub blocks : length c ≡ count
   pub bytes : (place : ℕ) → place < count → length (block c place) ≡ size

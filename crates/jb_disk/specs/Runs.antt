@@ -2,11 +2,11 @@
 use Rattle.std.specs.Prelude.{◌≡◌, ◌≢◌, ◌<◌, ◌≤◌, ◌⊎◌, ℕ, ◌+◌, ◌*◌, ◌^◌, List, length, take, drop}
 use Rattle.jb_disk.specs.Image.{Image, block, sector}
 
--- the k-th of the blocks of so many bytes that a buffer holds
+-- the k-th of the blocks of this many bytes that a buffer holds
 abbrev pub part : ℕ → ℕ → List ℕ → List ℕ
 part size k bytes = take size (drop (size * k) bytes)
 
--- n blocks from a place on, one at least, are on a disk with blocks of this size and so many of them, no place of them wraps, and so many
+-- n blocks from a place on, one at least, are on a disk with blocks of this size and this many of them, no place of them wraps, and this many
 -- bytes have their length
 pub record IsRunOn (size count place n bytes : ℕ) : Type 0 where
   pub some : 0 < n

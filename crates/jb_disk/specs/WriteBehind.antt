@@ -15,7 +15,7 @@ size_behind b = bytes_of b.size
 abbrev pub HoldsNoBlock : WriteBehind → Type 0
 HoldsNoBlock b = b.count ≡ 0
 
--- the buffer is a new one, for blocks of so many bytes
+-- the buffer is a new one, for blocks of this many bytes
 pub record IsNewFor (size : ℕ) (b : WriteBehind) : Type 0 where
   pub same_size : size_behind b ≡ size
   pub none : HoldsNoBlock b

@@ -166,7 +166,7 @@ fn offset_of(place: u64, size: BlockSize) -> u64
     place * u64::from(size.bytes())
 }
 
-/// How many whole blocks so many bytes have.
+/// How many whole blocks this many bytes have.
 fn whole_blocks(len: u64, size: BlockSize) -> u64
     ensures value { result ≡ len / bytes_of size }
     ensures addressed { result * bytes_of size < 2 ^ 64 }

@@ -5,7 +5,7 @@ ghost use Rattle.jb_disk.specs.Faults.{CountsFault, CountsOne, counted};
 use crate::{Disk, Fault};
 use jb_block::BlockSize;
 
-/// A disk that passes so many calls on to another, and fails every later one without passing it on.
+/// A disk that passes this many calls on to another, and fails every later one without passing it on.
 /// Reads, writes and syncs count; `block_size` and `blocks` do not.
 #[derive(Drop)]
 pub struct FuseDisk<D: Disk> {

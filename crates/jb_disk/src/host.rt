@@ -66,7 +66,7 @@ impl Host {
     }
 }
 
-/// Whether so many bytes were moved, and no fewer.
+/// Whether this many bytes were moved, and no fewer.
 fn is_whole(answer: &io::Result<usize>, len: usize) -> bool
     ensures { IsTrue result ↔ (answer.now ≡ Ok len) }
 {

@@ -44,7 +44,7 @@ impl Model for MemoryDisk {
 }
 
 impl MemoryDisk {
-    /// A disk of so many blocks of zeros. One of no blocks takes no memory.
+    /// A disk of this many blocks of zeros. One of no blocks takes no memory.
     ///
     /// # Errors
     ///
@@ -180,7 +180,7 @@ impl Disk for MemoryDisk {
     }
 }
 
-/// So many blocks of zeros.
+/// This many blocks of zeros.
 fn zeros(alloc: Global, size: BlockSize, blocks: u64) -> Result<Vec<Vec<u8>>, Memory>
     ensures image { IfOk result (λ image. image_of image.items ≡ replicate blocks (replicate (bytes_of size) 0)) }
     ensures grows { OnErr result (0 < blocks) }

@@ -58,7 +58,7 @@ fn replay_calls(image: &mut [Vec<u8>], calls: &[Call])
     }
 }
 
-/// No writes of so many blocks.
+/// No writes of this many blocks.
 fn no_writes<'a>(alloc: Global, count: usize) -> Result<Vec<Vec<&'a [u8]>>, Memory>
     ensures places { IfOk result (λ table. length table.items ≡ count) }
     ensures none { IfOk result (λ table. (place : ℕ) → writes_at (table_of table.items) place ≡ []) }
@@ -71,7 +71,7 @@ fn no_writes<'a>(alloc: Global, count: usize) -> Result<Vec<Vec<&'a [u8]>>, Memo
     Ok(table)
 }
 
-/// The writes of each of so many blocks, in order.
+/// The writes of each of this many blocks, in order.
 fn writes_by_place<'a>(
     alloc: Global,
     count: usize,

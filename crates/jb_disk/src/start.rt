@@ -5,7 +5,7 @@ ghost use Rattle.jb_disk.specs.Image.{Image};
 /// What a file holds, which its caller supposes. A function over `S: Start` is proved for all contents: its clauses
 /// say what holds where the record of the calls is that of an honest file which had them.
 pub trait Start {
-    /// The blocks after each so many calls; after none, what the file held when it was made a disk.
+    /// The blocks after each number of calls; after none, what the file held when it was made a disk.
     ghost content: { ℕ → Image };
 }
 

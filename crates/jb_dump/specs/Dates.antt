@@ -13,16 +13,16 @@ pub record DayOf : Type 0 where
 abbrev pub day_at : ℕ → DayOf
 day_at n = record { year = n / 31 / 12; month = n / 31 % 12 + 1; day = n % 31 + 1 }
 
--- the month has this day, and it is the one so many days after 1970-01-01
+-- the month has this day, and it is the one this many days after 1970-01-01
 abbrev pub is_day : ℕ → DayOf → Bool
 is_day days d = not (nat_lt (days_in_month (pos d.year) d.month) d.day) && nat_eq (day_count (pos d.year) d.month d.day) (day_count (pos 1970) 1 1 + days)
 
--- of the days with a number below this one, the last that is so many days after 1970-01-01
+-- of the days with a number below this one, the last that is this many days after 1970-01-01
 unfoldable pub day_before : ℕ → ℕ → DayOf
 day_before days zero = day_at 0
 day_before days (suc n) = if is_day days (day_at n) then day_at n else day_before days n
 
--- the day so many days after 1970-01-01, up to the year 9999: there is one such day and no other
+-- the day this many days after 1970-01-01, up to the year 9999: there is one such day and no other
 unfoldable pub date_of : ℕ → DayOf
 date_of days = day_before days 3_720_000
 

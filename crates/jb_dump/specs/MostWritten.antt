@@ -24,7 +24,7 @@ copies_to homes home = count_by (λ other. nat_eq other home) homes
 abbrev pub written_rows : List ℕ → List (ℕ × ℕ)
 written_rows homes = map (λ home. (home, copies_to homes home)) (homes_among [] homes)
 
--- a row among others that are in the order of their rank: it stands before the first that is written less often
+-- a row among others that are in the order of their rank: it comes before the first that is written less often
 abbrev pub ranked_among : ℕ × ℕ → List (ℕ × ℕ) → List (ℕ × ℕ)
 ranked_among row [] = row ∷ []
 ranked_among row (other ∷ rows) = if nat_lt other.1 row.1 then row ∷ other ∷ rows else other ∷ ranked_among row rows
@@ -35,7 +35,7 @@ ranked rows [] = rows
 ranked rows (row ∷ more) = ranked (ranked_among row rows) more
 
 -- the first ten of the rows by their rank: those that are written most, most first, and of those that are written as often the
--- lowest homes, which stand first in the rows
+-- lowest homes, which come first in the rows
 abbrev pub foremost : List (ℕ × ℕ) → List (ℕ × ℕ)
 foremost rows = take 10 (ranked [] rows)
 

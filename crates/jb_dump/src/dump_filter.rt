@@ -4,7 +4,7 @@ pub struct DumpFilter {
     /// Where there is one, the lines alone that speak of this home block: its copies, and the descriptor blocks and
     /// revoke blocks that name it, which say the number of the transaction.
     pub home: Option<u64>,
-    /// Where there is a number, no line of a transaction before so many last ones.
+    /// Where there is a number, no line of a transaction before the last ones, this many of them.
     pub last: Option<u64>,
     /// Whether the superblock alone is shown, whatever the lines are that the two before let stay: that of any journal
     /// of version 2, also of one that is refused.

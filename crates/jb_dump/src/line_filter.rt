@@ -20,7 +20,7 @@ pub(crate) struct LineFilter {
 }
 
 impl LineFilter {
-    /// That of the transaction of an index, where there are so many transactions.
+    /// That of the transaction of an index, where there are this many transactions.
     pub(crate) fn of(choice: DumpFilter, total: usize, index: usize) -> LineFilter
         ensures { result ≡ record { choice = choice; total = total; index = index } }
     {

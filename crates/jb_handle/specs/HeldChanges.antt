@@ -70,7 +70,7 @@ abbrev pub is_misfit : Shape → Option ℕ → Bool
 is_misfit shape None = false
 is_misfit shape (Some len) = not (len == bytes_of shape.bs)
 
--- the first reason against a change of a home, by a write of so many bytes or by a revoke
+-- the first reason against a change of a home, by a write of this many bytes or by a revoke
 abbrev pub refusal_at : Held → ℕ → Option ℕ → Option TouchFault
 refusal_at h home len = first_of ((is_spent h home, NoCredit h.credits) ∷ (nat_le h.shape.homes home, OutOfRange home) ∷ (is_misfit h.shape len, Length) ∷ [])
 

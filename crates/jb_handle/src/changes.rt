@@ -14,7 +14,7 @@ use thiserror::Error;
 /// Why a handle refuses a change. The handle is as it was.
 #[derive(Clone, Copy, Debug, PartialEq, Eq, Error)]
 pub enum TouchFault {
-    /// The home block is new to the handle, and all of its credits, so many blocks, are used.
+    /// The home block is new to the handle, and all of its credits, this many blocks, are used.
     #[error("all {0} credits of the handle are used; begin a handle with more")]
     NoCredit(u32),
     /// The home block of this number is none of the journal's.
@@ -70,7 +70,7 @@ impl Changes {
     ghost use Rattle.jb_handle.specs.declared.op.Op.TheVariants.{Write, Revoke};
     ghost use Rattle.jb_handle.specs.declared.changes.TouchFault.TheVariants.{Memory as OutOfMemory};
 
-    /// No changes, and so many credits. Takes no memory.
+    /// No changes, and this many credits. Takes no memory.
     pub fn new(alloc: Global, credits: u32, shape: Shape) -> Changes
         ensures { result ≡ held credits shape map.empty }
     {
@@ -214,7 +214,7 @@ impl Changes {
         self.keep(home, word)
     }
 
-    /// The first reason against a change of this home block, by a write of so many bytes or a revoke.
+    /// The first reason against a change of this home block, by a write of this many bytes or a revoke.
     fn admit(&self, home: u64, len: Option<usize>) -> Result<(), TouchFault>
         ensures ok { OnOk result (refusal_at self.now home len ≡ None) }
         ensures err { IfErr result (λ fault. refusal_at self.now home len ≡ Some fault) }

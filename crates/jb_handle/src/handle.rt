@@ -24,7 +24,7 @@ impl<S> Handle<S> {
     ghost use Rattle.jb_handle.specs.declared.op.Op.TheVariants.{Write, Revoke};
     ghost use Rattle.jb_handle.specs.declared.changes.TouchFault.TheVariants.{Memory};
 
-    /// A handle of so many credits (`jbd2_journal_start`), without changes. Takes no memory.
+    /// A handle of this many credits (`jbd2_journal_start`), without changes. Takes no memory.
     pub fn new(alloc: Global, seat: S, credits: u32, shape: Shape) -> Handle<S>
         ensures seat { holder result ≡ seat }
         ensures changes { changes_of result ≡ held credits shape map.empty }

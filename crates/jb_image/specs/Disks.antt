@@ -1,4 +1,4 @@
--- A journal and the file system that it stands in, as one disk.
+-- A journal and the file system that it is in, as one disk.
 use Rattle.std.specs.Prelude.{◌≡◌, ℕ, ◌+◌, ◌-◌, ◌^◌, Bool, false, if◌then◌else◌, List, [], ◌∷◌, max, min, nat_lt, Option, Some, None, option_and_then}
 use Rattle.jb_disk.specs.OneCall.{Called, Reads, Writes, Syncs}
 use Rattle.jb_disk.specs.Faults.{CountsCall, CountsOne}
@@ -11,7 +11,7 @@ use Rattle.jb_image.specs.declared.extents.Extents.{Extents}
 abbrev pub whole_disk : {D : Type 0} → ExtentsDisk D → D
 whole_disk d = d.disk
 
--- where the journal stands in it
+-- where the journal is in it
 abbrev pub extents_of : {D : Type 0} → ExtentsDisk D → Extents
 extents_of d = d.extents
 
@@ -27,7 +27,7 @@ refused_calls d = d.failed
 abbrev pub spread_count : ℕ → ℕ → ℕ
 spread_count journal count = min (journal + count) (2 ^ 64 - 1)
 
--- a block, where the image has so many
+-- a block, where the image has this many
 abbrev pub in_image : ℕ → ℕ → Option ℕ
 in_image blocks block = if nat_lt block blocks then Some block else None
 
@@ -44,7 +44,7 @@ abbrev pub own_in : Extents → List ℕ → Option ℕ
 own_in extents [] = None
 own_in extents (home ∷ homes) = if holds_in (list_of extents) home then Some home else own_in extents homes
 
--- so many home blocks from this one on, up to the largest number; of none, as of one
+-- this many home blocks from this one on, up to the largest number; of none, as of one
 abbrev pub asked_homes : ℕ → ℕ → Extent
 asked_homes home count = record { first = home; last = min (home + (max count 1 - 1)) (2 ^ 64 - 1) }
 

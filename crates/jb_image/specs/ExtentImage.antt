@@ -1,4 +1,4 @@
--- What an image holds, as the disk of a journal that stands within it gives it.
+-- What an image holds, as the disk of a journal that is within it gives it.
 use Rattle.std.proofs.Common.{◌≡◌, ◌<◌, ◌≤◌, ◌-◌, ◌⊎◌, ℕ, Bool, false, cond, List, [], length, map, replicate, Option, Some, None, refl, sym, ◌∙◌, ap, subst, inl, inr, ⊎_elim, arith}
 use Rattle.std.specs.List.{range_with_len}
 use Rattle.std.specs.Prelude.{nat_lt, option_and_then}
@@ -25,7 +25,7 @@ abbrev pub block_given : ℕ → Image → Option ℕ → List ℕ
 block_given size c (Some b) = block c b
 block_given size c None = replicate size 0
 
--- an image of so many blocks of this size, place by place
+-- an image of this many blocks of this size, place by place
 abbrev pub spread : Extents → ℕ → ℕ → ℕ → Image → Image
 spread extents journal size blocks c =
     map (λ place. block_given size c (at_block extents journal blocks place)) (range_with_len 0 (spread_count journal blocks))

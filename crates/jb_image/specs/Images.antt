@@ -1,4 +1,4 @@
--- An image as a disk: one disk, two, or one in extents of which the journal stands.
+-- An image as a disk: one disk, two, or one in extents of which the journal is.
 use Rattle.std.proofs.Common.{◌≤◌, ℕ, Bool, true, false, List, ◌++◌, length, Option, None, refl}
 use Rattle.jb_block.specs.Size.{IsBlockSize}
 use Rattle.jb_disk.specs.OneCall.{Called}
@@ -12,7 +12,7 @@ use Rattle.jb_image.specs.Pair.{back_disk, front_disk, joined_count, past_states
 use Rattle.jb_image.specs.declared.image.ImageDisk.{ImageDisk}
 use Rattle.jb_image.specs.declared.image.ImageDisk.TheVariants.{One, Two, Within}
 
--- the journal stands within the home blocks
+-- the journal is within the home blocks
 abbrev pub is_within : {D E : Type 0} → ImageDisk D E → Bool
 is_within (One disk) = false
 is_within (Two pair) = false
@@ -24,7 +24,7 @@ own_home (One disk) homes = None
 own_home (Two pair) homes = None
 own_home (Within disk) homes = own_in (extents_of disk) homes
 
--- one of so many home blocks from this one on that is one of the journal's own
+-- one of this many home blocks from this one on that is one of the journal's own
 abbrev pub own_asked : {D E : Type 0} → ImageDisk D E → ℕ → ℕ → Option ℕ
 own_asked (One disk) home count = None
 own_asked (Two pair) home count = None

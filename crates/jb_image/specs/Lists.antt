@@ -67,16 +67,16 @@ abbrev pub times : List Extent → ℕ → ℕ
 times [] block = 0
 times (e ∷ es) block = (if has_block e block then 1 else 0) + times es block
 
--- no block stands in two of them
+-- no block is in two of them
 abbrev pub AreDisjoint : List Extent → Type 0
 AreDisjoint es = (block : ℕ) → times es block ≤ 1
 
--- no block stands in two of them; or this is the lowest that does
+-- no block is in two of them; or this is the lowest that is
 abbrev pub SharesFirst : List Extent → Option ℕ → Type 0
 SharesFirst es None = AreDisjoint es
 SharesFirst es (Some block) = (2 ≤ times es block) × ((lower : ℕ) → lower < block → times es lower ≤ 1)
 
--- the last block of the first of them that is not whole in an image of so many blocks
+-- the last block of the first of them that is not whole in an image of this many blocks
 abbrev pub past_in : ℕ → List Extent → Option ℕ
 past_in count [] = None
 past_in count (e ∷ es) = if nat_lt e.last count then past_in count es else Some e.last
@@ -98,7 +98,7 @@ abbrev pub reaches_to : Option Extent → ℕ → Bool
 reaches_to None block = false
 reaches_to (Some e) block = not (nat_lt e.last block)
 
--- a stretch that begins there comes next after so many blocks; one that does not say where it begins does
+-- a stretch that begins there comes next after this many blocks; one that does not say where it begins does
 abbrev pub follows_at : ℕ → Option ℕ → Bool
 follows_at blocks None = true
 follows_at blocks (Some at) = at == blocks

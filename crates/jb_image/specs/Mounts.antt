@@ -2,7 +2,7 @@
 use Rattle.std.specs.Prelude.{ℕ, List, drop, Option, option_and_then, option_map}
 use Rattle.jb_text.specs.Parts.{before, number_of, onward}
 
--- the bytes behind the first `delimiter`
+-- the bytes after the first `delimiter`
 abbrev pub behind_first : ℕ → List ℕ → List ℕ
 behind_first delimiter bytes = drop 1 (onward delimiter bytes)
 

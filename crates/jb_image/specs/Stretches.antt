@@ -10,7 +10,7 @@ no_end = 2 ^ 64 - 1
 abbrev pub all_bytes : Stretch
 all_bytes = record { from = 0; end = no_end }
 
--- so many bytes from a place on; all from there on, where the length is 0
+-- this many bytes from a place on; all from there on, where the length is 0
 abbrev pub bytes_from : ℕ → ℕ → Stretch
 bytes_from from len = record { from = from; end = if len == 0 then no_end else min (from + len) no_end }
 

@@ -25,7 +25,7 @@ abbrev pub IsForward : Named → Type 0
 IsForward Nothing = ⊤
 IsForward (Blocks at e) = e.first ≤ e.last
 
--- blocks of the journal that stand in as many of the image
+-- blocks of the journal that are in as many of the image
 abbrev pub stretch_in : Extent → Extent → Option Named
 stretch_in own blocks = if extent_count own == extent_count blocks then Some (Blocks (Some own.first) blocks) else None
 
@@ -37,7 +37,7 @@ is_ended rest = not (nat_lt (length rest) 2) && (slice_index rest 0 == 41 && sli
 abbrev pub is_name : List ℕ → Bool
 is_name inner = not (length inner == 0) && (not (nat_lt (slice_index inner 0) 65) && nat_lt (slice_index inner 0) 91)
 
--- the blocks behind a place within the journal
+-- the blocks after a place within the journal
 abbrev pub placed_word : List ℕ → Extent → Option Named
 placed_word inner blocks =
     if is_name inner then Some Nothing else option_and_then (λ own. stretch_in own blocks) (range_in inner)

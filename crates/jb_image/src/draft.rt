@@ -69,7 +69,7 @@ impl<'a> Draft<'a> {
         Ok(self.file.try_clone()?)
     }
 
-    /// Gives the file the name that it was made for, which stands after a crash then. A file that has come by this name
+    /// Gives the file the name that it was made for, which survives a crash then. A file that has come by this name
     /// meanwhile stays as it is: so a link is made, and no rename, which would replace it.
     ///
     /// # Errors

@@ -12,7 +12,7 @@ use jb_block::Memory;
 use jb_map::Extent;
 use std::alloc::Global;
 
-/// Where the blocks of a journal stand in an image: in stretches, one after the other, none of which goes on where the
+/// Where the blocks of a journal are in an image: in stretches, one after the other, none of which goes on where the
 /// one before it ends.
 #[derive(Drop)]
 pub struct Extents {
@@ -91,7 +91,7 @@ impl Extents {
         false
     }
 
-    /// The lowest block that stands in two of them.
+    /// The lowest block that is in two of them.
     ///
     /// # Errors
     /// `Memory` where a growth was refused: they are copied, and sorted.
@@ -114,7 +114,7 @@ impl Extents {
         None
     }
 
-    /// The first block of the journal that does not stand where other extents have it.
+    /// The first block of the journal that is not where other extents have it.
     pub fn first_other(&self, other: &Extents) -> Option<u64>
         requires { extents_count (list_of self.now) < 2 ^ 64 - 1 }
         /// Which block of the journal is the first that is not where other extents have it, or that none is.
@@ -123,7 +123,7 @@ impl Extents {
         first_parting(self.list.as_slice(), other.list.as_slice())
     }
 
-    /// The last block of the first of them that is not whole in an image of so many blocks.
+    /// The last block of the first of them that is not whole in an image of this many blocks.
     pub fn past(&self, count: u64) -> Option<u64>
         /// Which extent is not whole in the image, by its last block, or none.
         ensures { result ≡ past_in count (list_of self.now) }
@@ -169,7 +169,8 @@ fn is_between(byte: u8) -> bool
     matches!(byte, b' ' | b',' | 9..=13)
 }
 
-/// Puts the blocks that a word says after those that are listed, which are so many, and gives how many are listed then.
+/// Puts the blocks that a word says after those that are listed, which are this many, and gives how many are listed
+/// then.
 fn take_word(list: &mut Vec<Extent>, blocks: u64, word: &[u8]) -> Result<u64, ListFault>
     requires counted { blocks ≡ extents_count list.old.items }
     requires forward { AreForward list.old.items }
@@ -214,8 +215,8 @@ fn goes_on(list: &[Extent], extent: Extent) -> bool
     }
 }
 
-/// Whether a stretch that begins at this block of the journal comes next after so many; one that does not say where it
-/// begins does.
+/// Whether a stretch that begins at this block of the journal comes next after this many; one that does not say where
+/// it begins does.
 fn follows(blocks: u64, at: Option<u64>) -> bool
     ensures { result ≡ follows_at blocks at }
 {

@@ -7,7 +7,7 @@ use jb_block::BlockSize;
 use jb_disk::{Disk, Fault};
 use jb_map::Extent;
 
-/// A journal and the file system that it stands in, as one disk: first the blocks of the journal, where the extents
+/// A journal and the file system that it is in, as one disk: first the blocks of the journal, where the extents
 /// have them, and after them all blocks of the image by their own numbers.
 ///
 /// A home block that is one of the journal's own is neither read nor written: such a call is a fault. So no block of
@@ -25,7 +25,7 @@ impl<D: Disk> ExtentsDisk<D> {
     ghost use Rattle.jb_image.specs.Disks.{whole_disk};
     ghost use Rattle.std.specs.Prelude.{◌≡◌};
 
-    /// The disk that an image is, with a journal of so many blocks in these extents.
+    /// The disk that an image is, with a journal of this many blocks in these extents.
     pub fn of(disk: D, extents: Extents, journal: u64) -> ExtentsDisk<D>
         /// With `extents`, `journal`: The disk has the image and the extents that it is made of. It is honest where the
         /// image is and the extents share no block ([`IsHonestWithin`](crates/jb_image/specs/ExtentImage.antt)): each
@@ -51,7 +51,7 @@ impl<D: Disk> ExtentsDisk<D> {
         self.disk
     }
 
-    /// The image, where the journal stands in it, and how many blocks the journal has.
+    /// The image, where the journal is in it, and how many blocks the journal has.
     pub fn into_parts(self) -> (D, Extents, u64)
         ensures disk { result.0 ≡ whole_disk self }
         ensures extents { result.1 ≡ extents_of self }
@@ -72,7 +72,7 @@ impl<D: Disk> ExtentsDisk<D> {
         None
     }
 
-    /// One of so many home blocks from this one on that is one of the journal's own; of none, as of one.
+    /// One of this many home blocks from this one on that is one of the journal's own; of none, as of one.
     pub fn own_among(&self, home: u64, count: u64) -> Option<u64>
         ensures { result ≡ own_among (extents_of self.now) home count }
     {
@@ -153,7 +153,7 @@ impl<D: Disk> Disk for ExtentsDisk<D> {
     }
 }
 
-/// The block of an image of so many that a place of the disk is; none where the extents or the image have it not, or
+/// The block of an image of this many that a place of the disk is; none where the extents or the image have it not, or
 /// a home block is one of the journal's own.
 fn at(extents: &Extents, journal: u64, blocks: u64, place: u64) -> Option<u64>
     ensures value { result ≡ at_block extents.now journal blocks place }

@@ -23,13 +23,13 @@ impl From<Memory> for ListFault {
 /// Why extents hold no journal.
 #[derive(Clone, Copy, Debug, PartialEq, Eq)]
 pub enum ExtentsFault {
-    /// This block stands in two of them.
+    /// This block is in two of them.
     Overlap(u64),
     /// This block is not in the image.
     PastEnd(u64),
-    /// They have so many blocks, and the journal more.
+    /// They have this many blocks, and the journal more.
     Short(u64),
-    /// They have so many blocks, and the journal fewer.
+    /// They have this many blocks, and the journal fewer.
     Long(u64),
     /// No journal begins at the first of them.
     NoJournal,
@@ -43,6 +43,6 @@ pub enum ExtentsFault {
     Nothing,
     /// The log is not clean, and ends inside a transaction, at this block of the journal, which has not its magic.
     Broken(u64),
-    /// This block of the journal stands elsewhere in the file system, as that says itself.
+    /// This block of the journal is elsewhere in the file system, as that says itself.
     Other(u64),
 }

@@ -78,7 +78,8 @@ impl From<AllocError> for ImageFault {
 /// Why an image was not made.
 #[derive(Clone, Copy, Debug, PartialEq, Eq, Error)]
 pub enum MakeFault {
-    /// A journal may not have so many blocks, a file so many bytes, or a journal of the width so many home blocks.
+    /// A journal may not have this many blocks, a file this many bytes, or a journal of the width this many home
+    /// blocks.
     #[error("the numbers make no journal, too long a file, or home blocks without a number")]
     Geometry,
     /// There is a file of this name.

@@ -21,7 +21,7 @@ impl<D: Disk, E: Disk> ImageDisk<D, E> {
     ghost use Rattle.std.specs.Prelude.{◌≡◌};
     ghost use Rattle.jb_image.specs.Images.{is_within, own_asked, own_home};
 
-    /// Whether the journal stands within the home blocks.
+    /// Whether the journal is within the home blocks.
     pub fn is_within(&self) -> bool
         ensures { result ≡ is_within self.now }
     {
@@ -38,7 +38,7 @@ impl<D: Disk, E: Disk> ImageDisk<D, E> {
         }
     }
 
-    /// One of so many home blocks from this one on that is one of the journal's own; of none, as of one.
+    /// One of this many home blocks from this one on that is one of the journal's own; of none, as of one.
     pub fn own_among(&self, home: u64, count: u64) -> Option<u64>
         /// Which of N home blocks in a row is the journal's own, if one is.
         ensures { result ≡ own_asked self.now home count }

@@ -30,7 +30,7 @@ pub struct ImageGeometry {
 }
 
 impl ImageGeometry {
-    /// So many blocks of this size, with transactions of a quarter of the log at most, block numbers of 32 bits, and
+    /// This many blocks of this size, with transactions of a quarter of the log at most, block numbers of 32 bits, and
     /// zeros for a UUID.
     pub fn new(block_size: BlockSize, journal: u32, homes: u64) -> ImageGeometry
         ensures { result ≡ record {
@@ -52,8 +52,8 @@ impl ImageGeometry {
         }
     }
 
-    /// How many bytes the image has; `None` where a journal may not have so many blocks, a file so many bytes, or the
-    /// last home blocks would have no number.
+    /// How many bytes the image has; `None` where a journal may not have this many blocks, a file this many bytes, or
+    /// the last home blocks would have no number.
     pub(crate) fn len(&self) -> Option<u64>
         ensures good { IsSome result ↔ MakesImage self.now }
         ensures value { IfSome result (λ len. len ≡

@@ -46,7 +46,7 @@ fn read_placed(inner: &[u8], rest: &[u8]) -> Option<Named>
     stretch(range_of(inner)?, blocks)
 }
 
-/// Blocks of the journal that stand in as many of the image.
+/// Blocks of the journal that are in as many of the image.
 fn stretch(own: Extent, blocks: Extent) -> Option<Named>
     requires { blocks.first ≤ blocks.last }
     ensures says { result ≡ stretch_in own blocks }

@@ -16,14 +16,14 @@ use std::fs::File;
 use std::rt::Files;
 
 /// Makes an image with a new journal and home blocks of zeros, whole or not at all: under another name in the same
-/// folder (`.jb-unfinished` after its own), formatted and synced, and then by its own name, which stands after a crash.
+/// folder (`.jb-unfinished` after its own), formatted and synced, and then by its own name, which survives a crash.
 /// What a killed process has left of one is removed: a file of the other name that is empty, or has zeros alone, or
 /// zeros after the superblock of a journal without a transaction. The disk is locked as one that is
 /// [opened](crate::open_image) for change.
 ///
 /// # Errors
-/// In this order: `Geometry` where a journal may not have so many blocks, a file so many bytes, or the last home blocks
-/// would have no number, before any file is looked at; `Exists` where there is a file of this name; `Image` with
+/// In this order: `Geometry` where a journal may not have this many blocks, a file this many bytes, or the last home
+/// blocks would have no number, before any file is looked at; `Exists` where there is a file of this name; `Image` with
 /// `InUse` where another process makes one, and with `System` or `Memory` where the system refuses a call or memory ran
 /// out; `DeviceFault` where the journal was not written; `Exists` where a file has come by the name meanwhile, and
 /// `NoLinks` where the file system has no links. There is no new file of this name then. `System` has the
@@ -155,7 +155,7 @@ fn disk_of<S: Start>(
     Ok(disk)
 }
 
-/// Whether the blocks of a disk have so many bytes.
+/// Whether the blocks of a disk have this many bytes.
 fn has_len<S: Start>(disk: &FileDisk<S>, len: u64, size: BlockSize) -> bool
     ensures { IsTrue result → count_of disk.now * bytes_of size ≡ len }
 {

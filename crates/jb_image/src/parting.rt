@@ -39,8 +39,8 @@ fn ended(at: u64, goes_on: bool) -> Option<u64>
     if goes_on { Some(at) } else { None }
 }
 
-/// The next block to be compared, by the number of its extent and its place in that, where so many were, of so many
-/// left.
+/// The next block to be compared, by the number of its extent and its place in that, where `both` more were compared,
+/// of the `left` blocks that the extent had left.
 fn passed(i: usize, at: u64, both: u64, left: u64) -> (usize, u64)
     requires next { i < 2 ^ 64 - 1 }
     requires fits { at + both < 2 ^ 64 }

@@ -1,4 +1,4 @@
-//! The lowest block that stands in two extents.
+//! The lowest block that is in two extents.
 ghost use Rattle.std.specs.Prelude.{◌≡◌, IfOk};
 ghost use Rattle.std.specs.List.Sorted.{IsNonDecreasingBy};
 ghost use Rattle.jb_image.specs.Lists.{SharesFirst, reaches_to};
@@ -7,7 +7,7 @@ use jb_block::Memory;
 use jb_map::Extent;
 use std::alloc::Global;
 
-/// The lowest block that stands in two of these extents.
+/// The lowest block that is in two of these extents.
 pub(crate) fn lowest_shared(alloc: Global, list: &[Extent]) -> Result<Option<u64>, Memory>
     ensures { IfOk result (SharesFirst list.now) }
 {

@@ -22,7 +22,7 @@ impl Stretch {
         }
     }
 
-    /// So many bytes from a place on; all from there on, where the length is 0, as the system says of a loop device.
+    /// This many bytes from a place on; all from there on, where the length is 0, as the system says of a loop device.
     pub fn new(from: u64, len: u64) -> Stretch
         ensures value { result ≡ bytes_from from len }
     {

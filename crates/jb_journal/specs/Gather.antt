@@ -37,14 +37,14 @@ module _ {D H N : Type 0} {O : Ghosts H} {P : Places H} where
     pub ends : EndsUsing G b (map made_left lefts) closed.handles closed.shape closed.disk closed.trail.items seen.stops seen.marks closed.in_log
     pub came : CameAbout G b (map made_left lefts) closed.shape closed.disk closed.trail.items
 
--- nothing is in the list yet, and there is room for so many in it
+-- nothing is in the list yet, and there is room for this many in it
 pub record IsFree {A : Type 0} (many : ℕ) (v : Vec A) : Type 0 where
   pub none : v.items ≡ []
   pub empty : vec_len v ≡ 0
   pub room : many ≤ vec_capacity v
 
 module _ {T D H N : Type 0} {O : Ghosts H} {P : Places H} where
-  -- a run's room is free for so many workers, their seats and the committer's
+  -- a run's room is free for this many workers, their seats and the committer's
   pub record IsRoomFor (workers : ℕ) (room : Room T D H N O P) : Type 0 where
     pub places : IsFree workers room.places
     pub lefts : IsFree (workers + 1) room.lefts
@@ -74,7 +74,7 @@ module _ {T D H N : Type 0} {Q : Disks D} {O : Ghosts H} {P : Places H} where
     pub ends : EndsSeen G b back.disk all.seen.stops all.seen.marks
     pub why : (back.fault ≡ Accounts) ⊎ ((back.fault ≡ NoThread) × (given_up ≡ true) × (all.answers.items ≡ []) × IsUnused G b back.disk)
 
-  -- a desk was closed with what was put together: the answers, of each of so many workers, are given on, the changes are those of the stops of all seats, and the journal, of this
+  -- a desk was closed with what was put together: the answers, of each of this many workers, are given on, the changes are those of the stops of all seats, and the journal, of this
   -- shape, ends with these and the marks that were seen
   pub record IsClosed (G : Disks D) (b : Begun) (workers : ℕ) (all : ThreadResults T D H N Q O P) (shape : Shape) (ran : Ran T D) : Type 0 where
     pub answers : ran.answers ≡ all.answers

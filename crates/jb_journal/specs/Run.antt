@@ -29,7 +29,7 @@ use Rattle.jb_journal.specs.declared.ran.Ran.{Ran}
 use Rattle.jb_journal.specs.declared.threads.Threaded.{Threaded}
 use Rattle.jb_journal.specs.declared.threads.Worked.{Worked}
 
--- each of so many workers answered what it may with the handles that its client has stopped and what that knew of the journal, where what it read rests on that the disk
+-- each of this many workers answered what it may with the handles that its client has stopped and what that knew of the journal, where what it read rests on that the disk
 -- was honest at all that its client has seen
 pub record AreAnswers {T D : Type 0} (G : Disks D) (may : Type 0 → ℕ → ℕ → List Stop → Known → T → Type 0) (workers : ℕ) (stopped : List (List Stop)) (known : List Known) (seen : List (List (OpenDeck D))) (answers : List T) : Type 0 where
   pub number : length answers ≡ workers
@@ -69,11 +69,11 @@ module _ {T D H N : Type 0} {O : Ghosts H} {P : Places H} where
   abbrev pub HasNotWorked : Worked T D H N O P → Type 0
   HasNotWorked w = w.answer ≡ None
 
-  -- the worker at this place of so many has answered what it may, if it was called
+  -- the worker at this place of this many has answered what it may, if it was called
   abbrev pub HasWorked : Disks D → (Type 0 → ℕ → ℕ → List Stop → Known → T → Type 0) → ℕ → ℕ → Worked T D H N O P → Type 0
   HasWorked G may workers at w = IfSome (answer_of w) (may (AreHonest G (marks_of_worked w)) workers at (stops_of_worked w) (known_of_worked G.moment w))
 
-  -- each of so many workers has
+  -- each of this many workers has
   pub record HaveWorked (G : Disks D) (may : Type 0 → ℕ → ℕ → List Stop → Known → T → Type 0) (workers : ℕ) (ran : List (Worked T D H N O P)) : Type 0 where
     pub number : length ran ≡ workers
     pub each : (at : ℕ) (d : Worked T D H N O P) → at < workers → HasWorked G may workers at (slice_index_or ran at d)
@@ -115,7 +115,7 @@ pub record EndsRun {T D : Type 0} (checkpoint : Bool) (ran : Ran T D) : Type 0 w
 abbrev pub AllSettled : {T D : Type 0} → Ran T D → Type 0
 AllSettled ran = ran.settled ≡ ran.handles
 
--- where the journal has not failed with so many blocks of its log in use, all is home if there was a checkpointer
+-- where the journal has not failed with this many blocks of its log in use, all is home if there was a checkpointer
 abbrev pub IsWrittenHome : Option ℕ → Option Ended → Type 0
 IsWrittenHome None checkpoint = ⊥
 IsWrittenHome (Some blocks) None = Unit {0}
@@ -134,7 +134,7 @@ IsNotDurable ran NotHome = AllSettled ran × (IsDoneAtHome ran → ⊥)
 -- are all of one history, of as many as are reported, and each is there once; the home blocks that they changed, each handle's added up, are as many as are reported. The
 -- journal that the disk is left with has this shape, by which its groups have cost what its trail says, and was given the first of this history; and the machine of
 -- handles accepts a list of events in which they stopped in this order, and whose settled groups are those of the trail. What a client knew to be committed at some
--- moment, what a crash at any time since then leaves has. Where the disk that is given back is honest, it was so at all that any client has seen. Of the journal's log so many blocks
+-- moment, what a crash at any time since then leaves has. Where the disk that is given back is honest, it was so at all that any client has seen. Of the journal's log this many blocks
 -- are in use as are told: where none are, each home on the disk is as these handles left it
 pub record RanAll {T D : Type 0} (G : Disks D) (b : Begun) (may : Type 0 → ℕ → ℕ → List Stop → Known → T → Type 0) (workers : ℕ) (shape : Shape) (ran : Ran T D) : Type 0 where
   pub stopped : List (List Stop)

@@ -38,7 +38,7 @@ module _ {D : Type 0} (G : Ghosts D) (b : Begun) where
     pub same_disk : deck.disk ≡ disk
     pub none : HasNoHandle deck
 
-  -- What stands of a run of so many workers that has no whole answer: there are the handles that each worker's client has stopped, and what it knew and had seen of the journal,
+  -- What is kept of a run of this many workers that has no whole answer: there are the handles that each worker's client has stopped, and what it knew and had seen of the journal,
   -- with which it answered what it may, if it was called; these are the answers. There is one history of stops, and the journal on the disk was given the first of them. What a client
   -- knew to be committed at some moment, what a crash at any time since then leaves has. Where the disk is honest, it was so at all that any client has seen
   pub record StandsOf {T : Type 0} (may : Type 0 → ℕ → ℕ → List Stop → Known → T → Type 0) (workers : ℕ) (disk : D) (given : List T) : Type 0 where

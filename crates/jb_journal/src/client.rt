@@ -85,7 +85,7 @@ impl<'a, D: Disk, C: Clock, R: Wait + time::Clock, H: Origin, N: Ledger> Client<
         self.shape.homes
     }
 
-    /// The most credits of a handle: with so many changes it fits in a transaction.
+    /// The most credits of a handle: with this many changes it fits in a transaction.
     pub fn most_credits(&self) -> u32
         requires client { IsClient H.begun self.now }
         /// The most credits that a client names are the greatest number with which a handle always fits in a
@@ -116,7 +116,7 @@ impl<'a, D: Disk, C: Clock, R: Wait + time::Clock, H: Origin, N: Ledger> Client<
         (seat, seen)
     }
 
-    /// Changes home blocks by one handle of so many credits (`jbd2_journal_start`, `jbd2_journal_stop`): waits until
+    /// Changes home blocks by one handle of this many credits (`jbd2_journal_start`, `jbd2_journal_stop`): waits until
     /// the log has room for it, calls `change` with it, and stops it where that is `Ok`. The changes of a handle that
     /// stopped are all in one transaction. Gives what `change` gave, and the ticket of the handle, by which it is
     /// waited for.
@@ -224,7 +224,7 @@ impl<'a, D: Disk, C: Clock, R: Wait + time::Clock, H: Origin, N: Ledger> Client<
     }
 
     /// Waits until the handle with this ticket is committed, and gives the number of its transaction
-    /// (`jbd2_log_wait_commit`). It stands after a crash then.
+    /// (`jbd2_log_wait_commit`). It survives a crash then.
     ///
     /// # Errors
     /// `Aborted` where the journal has failed and the handle is not committed; `Taken` where it is committed and the

@@ -19,7 +19,7 @@ use jb_disk::{Clock, Disk};
 use jb_handle::Shape;
 use std::sync::ledger::Ledger;
 
-/// Closes the desk of a run of so many workers, whose journal had this shape when it was opened, and tells what that
+/// Closes the desk of a run of this many workers, whose journal had this shape when it was opened, and tells what that
 /// leaves.
 ///
 /// # Errors
@@ -76,7 +76,7 @@ fn closed_by<D: Disk + Drop, C: Clock + Drop, H: Origin, N: Ledger>(
     }
 }
 
-/// Tells what a desk that was closed leaves, where its journal had this shape when it was opened, and so many workers
+/// Tells what a desk that was closed leaves, where its journal had this shape when it was opened, and this many workers
 /// were to answer.
 fn tell<T: Drop, D: Disk + Drop, C: Clock + Drop>(
     closed: Closed<D, C>,

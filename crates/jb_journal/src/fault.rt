@@ -41,7 +41,7 @@ pub enum RunFault {
     #[error("the system makes no thread more; run with fewer workers")]
     NoThread,
     /// The desk's sums do not agree, a worker has not answered, or the journal has another shape at the end, which
-    /// cannot happen. What was committed stands.
+    /// cannot happen. What was committed is kept.
     #[error("the journal's accounts do not agree")]
     Accounts,
 }

@@ -10,7 +10,7 @@ use std::time::{Duration, Instant};
 /// How long the threads of a run are waited for, in seconds.
 const PATIENCE: u64 = 10;
 
-/// A gate that opens once so many threads have come to it, unless it was given up before.
+/// A gate that opens once this many threads have come to it, unless it was given up before.
 #[derive(Drop)]
 pub(crate) struct Gate {
     came: Mutex<Came>,
@@ -27,7 +27,7 @@ struct Came {
 }
 
 impl Gate {
-    /// A gate for so many threads.
+    /// A gate for this many threads.
     pub(crate) fn new(threads: usize) -> Gate {
         Gate {
             came: Mutex::new(Came {

@@ -124,7 +124,7 @@ fn is_missing(fault: JournalFault) -> bool {
     }
 }
 
-/// Opens an image that has to have so many homes.
+/// Opens an image that has to have this many homes.
 fn open_whole<S: Start, R: Files<File = File> + AllocGlobal>(
     rt: &R,
     name: &str,

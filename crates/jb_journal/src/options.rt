@@ -40,8 +40,8 @@ pub struct Options {
 }
 
 impl Options {
-    /// So many workers, a thread each; what they stop is committed meanwhile, no commit is put off, and each committed
-    /// transaction is written home at once.
+    /// This many workers, a thread each; what they stop is committed meanwhile, no commit is put off, and each
+    /// committed transaction is written home at once.
     pub fn new(workers: usize) -> Options
         ensures threads { (result.workers ≡ workers) × (result.checkpoint ≡ true) × (result.level ≡ 0) }
         ensures delay { (as_nanos result.delay.time ≡ 0) × (result.delay.handles ≡ 0) }

@@ -14,7 +14,7 @@ pub struct Ran<T, D> {
     pub answers: Vec<T>,
     /// How many handles stopped.
     pub handles: u64,
-    /// How many of them, the first by their tickets, are settled: they stand after a crash.
+    /// How many of them, the first by their tickets, are settled: they survive a crash.
     pub settled: u64,
     /// How many home blocks these changed, each handle's added up.
     pub changes: u64,
@@ -34,7 +34,7 @@ pub struct Ran<T, D> {
 impl<T: Drop, D: Drop> Ran<T, D> {
     ghost use Rattle.jb_journal.specs.Run.{AllSettled, IsDoneAtHome, IsNotDurable};
 
-    /// The disk, and what each worker answered, where all that stopped is settled: it stands after a crash; and the
+    /// The disk, and what each worker answered, where all that stopped is settled: it survives a crash; and the
     /// journal has not failed. Where there was a checkpointer, all is home, too.
     ///
     /// # Errors

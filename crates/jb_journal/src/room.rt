@@ -26,7 +26,7 @@ pub(crate) struct Room<T, D: Disk, H: Origin, N: Ledger> {
 impl<T: Drop, D: Disk, H: Origin, N: Ledger> Room<T, D, H, N> {
     ghost use Rattle.jb_journal.specs.Gather.{IsRoomFor};
 
-    /// Room for so many workers.
+    /// Room for this many workers.
     ///
     /// # Errors
     /// `Memory` where there is none for it.
@@ -45,7 +45,7 @@ impl<T: Drop, D: Disk, H: Origin, N: Ledger> Room<T, D, H, N> {
     }
 }
 
-/// A place for what each of so many workers leaves, with nothing in it.
+/// A place for what each of this many workers leaves, with nothing in it.
 pub(crate) fn places_of<T: Drop, D: Disk, C: Clock, R: Wait, H: Origin, N: Ledger>(
     rt: &R,
     desk: &Desk<D, C, H, N>,

@@ -48,7 +48,7 @@ const PARTS: u64 = (1 << 61) + 1;
 /// - `NoThread` where the system makes no thread for each worker, for what commits and for what writes home within ten
 ///   seconds: no worker was called, and no handle has stopped. So only with `Commits::Meanwhile`.
 /// - `Accounts` where the desk's sums do not agree, a worker has not answered, or the journal has another shape at the
-///   end, which cannot happen. What each client knew to be committed stands then, too.
+///   end, which cannot happen. What each client knew to be committed is kept then, too.
 pub fn run<
     T: Drop + Send,
     W: Worker<T> + Sync,

@@ -15,13 +15,13 @@ pub trait Worker<T> {
     ghost use Rattle.jb_journal.specs.Notes.{Known, Stop};
 
     /// What a worker may answer: where the journal began so, its handles have to fit this, and what a read's content
-    /// rests on is this (that the disk was honest at all that the client has seen), of so many workers, at this place,
-    /// whose client has stopped these handles, each with its ticket and its words, and knows this of the journal.
-    /// Anything, where a worker does not say.
+    /// rests on is this (that the disk was honest at all that the client has seen), of this many workers, at this
+    /// place, whose client has stopped these handles, each with its ticket and its words, and knows this of the
+    /// journal. Anything, where a worker does not say.
     ghost answers: { Self → Begun → Shape → Type 0 → ℕ → ℕ → List Stop → Known → T → Type 0 } = { λ _ _ _ _ _ _ _ _ _.
         Unit {0} };
 
-    /// Works with the journal through a client of its own, as the worker at the place `at` of so many.
+    /// Works with the journal through a client of its own, as the worker at the place `at` of this many.
     fn work<'a, D: Disk, C: Clock, R: Wait + time::Clock, H: Origin, N: Ledger>(
         &self,
         client: &mut Client<'a, D, C, R, H, N>,

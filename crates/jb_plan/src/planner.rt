@@ -12,7 +12,7 @@ use jb_handle::Stopped;
 use std::alloc::Global;
 
 /// Cuts a queue of stopped handles, in their order, into groups within the limit that take the
-/// fewest log blocks in all, and gives the least numbers of blocks for each first part of the queue.
+/// fewest log blocks in all, and gives the least numbers of blocks for each prefix of the queue.
 ///
 /// Whether a group is within the limit depends on its own handles alone, so the least number for an
 /// end is the best of those before it and one group more. Of several bounds with the same total the

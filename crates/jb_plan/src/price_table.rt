@@ -8,7 +8,7 @@ use jb_cost::{Geometry, LastTouches};
 use jb_handle::Stopped;
 use std::alloc::Global;
 
-/// The least number of log blocks for each first part of a queue, and where its last group begins.
+/// The least number of log blocks for each prefix of a queue, and where its last group begins.
 #[derive(Drop)]
 pub(crate) struct PriceTable {
     pub(crate) prices: Vec<Option<u64>>,

@@ -77,7 +77,7 @@ claim_in all = do
 abbrev pub for_handles : ℕ → Claim → Result Claim CertFault
 for_handles handles claim = if length claim.prices == handles + 1 then Ok claim else Err Length
 
--- the claim that a text makes of so many handles
+-- the claim that a text makes of this many handles
 abbrev pub read_of : ℕ → List ℕ → Result Claim CertFault
 read_of handles text = do
   claim ← claim_in (lines text)

@@ -86,6 +86,6 @@ pub record LengthFault (handles : ℕ) (all : List (List ℕ)) : Type 0 where
   pub parts : all ≡ first_line claim.prices ∷ cut_lines claim.cut
   pub other : length claim.prices ≡ handles + 1 → ⊥
 
--- the first fault of a certificate's text for so many handles
+-- the first fault of a certificate's text for this many handles
 abbrev pub FirstCertFault : ℕ → List ℕ → CertFault → Type 0
 FirstCertFault handles text fault = SyntaxFault (lines text) fault ⊎ ((fault ≡ Length) × LengthFault handles (lines text))

@@ -21,7 +21,7 @@ abbrev pub CutFits : Option (List ℕ × ℕ) → Type 0
 CutFits None = Unit {0}
 CutFits (Some cut) = (0 < length cut.0) × AllByRecursion Fits64 cut.0 × Fits64 cut.1
 
--- a text spells a claim on so many handles
+-- a text spells a claim on this many handles
 pub record SpellsClaim (handles : ℕ) (text : List ℕ) (claim : Claim) : Type 0 where
   pub spelled : AreLines (first_line claim.prices ∷ cut_lines claim.cut) text
   pub one_more : length claim.prices ≡ handles + 1

@@ -9,7 +9,7 @@ use crate::fault::CertFault;
 use jb_text::{next_line, next_word, number};
 use std::alloc::Global;
 
-/// Reads the text of a certificate for a queue of so many handles. The LF of its last line may be missing.
+/// Reads the text of a certificate for a queue of this many handles. The LF of its last line may be missing.
 ///
 /// # Errors
 ///

@@ -96,7 +96,7 @@ handles_or_none (Err fault) = []
 abbrev pub handles_of_text : ℕ → List ℕ → List Stopped
 handles_of_text size text = handles_or_none (after_lines size [] (drop 2 (lines text)))
 
--- there are handles, so many
+-- there are this many handles
 abbrev pub IsCount : Result (List Stopped) QueueFault → ℕ → Type 0
 IsCount (Ok handles) count = count ≡ length handles
 IsCount (Err fault) count = ⊥

@@ -17,13 +17,13 @@ handles_of queue = handles_of_text (bytes_of queue.bs) queue.text.items
 abbrev pub queue_in : QueueLines → Queue
 queue_in queue = record { size = queue.bs; limit = queue.limit; width = queue.width; handles = handles_of queue }
 
--- a reader stands after so many of all handles of a queue: after those, the lines that are left give all
+-- a reader is after this many of all handles of a queue: after those, the lines that are left give all
 pub record StandsAfter (reader : HandleReader) (all : List Stopped) (at : ℕ) : Type 0 where
   pub had : List Stopped
   pub number : length had ≡ at
   pub reads : after_lines (bytes_of reader.bs) had (lines reader.rest.now) ≡ Ok all
 
--- what a reader gave at a place of a queue, and where it stands then: the words of the handle there, if there is one, and it stands after that handle
+-- what a reader gave at a place of a queue, and where it is then: the words of the handle there, if there is one, and it is after that handle
 abbrev pub HasRead : List Stopped → ℕ → HandleReader → Result (Option WordMap) AllocError → Type 0
 HasRead all at reader (Ok None) = (length all ≤ at) × StandsAfter reader all (length all)
 HasRead all at reader (Ok (Some words)) = (at < length all) × ((d : Stopped) → words ≡ (get_or all at d).words) × StandsAfter reader all (at + 1)

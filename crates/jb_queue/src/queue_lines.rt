@@ -56,7 +56,7 @@ impl QueueLines {
         self.count == 0
     }
 
-    /// A reader that stands at the first handle.
+    /// A reader at the first handle.
     #[tactic(auto, unfolding(crate::specs::QueueLines::handles_of))]
     pub fn reader(&self) -> HandleReader<'_>
         ensures { StandsAfter result (handles_of self.now) 0 }
@@ -81,12 +81,12 @@ impl HandleReader<'_> {
     ghost use Rattle.jb_handle.specs.declared.stopped.Stopped.{Stopped as StoppedValue};
     ghost use Rattle.jb_queue.specs.QueueLines.{HasRead, StandsAfter};
 
-    /// Passes over so many handles, and reads the words of the next one; `None` where none is left. The reader then
-    /// stands after it. What is passed over takes no memory.
+    /// Passes over this many handles, and reads the words of the next one; `None` where none is left. The reader then
+    /// is after it. What is passed over takes no memory.
     ///
     /// # Errors
     ///
-    /// `Memory` where there is none for the words of the handle; the reader stands after it then, too.
+    /// `Memory` where there is none for the words of the handle; the reader is after it then, too.
     pub fn read(&mut self, alloc: Global, passed: usize) -> Result<Option<Words>, Memory>
         /// What is read from it is the handle of the queue at the reader's place, after those that are passed over; the
         /// reader is after it then.
@@ -105,7 +105,7 @@ impl HandleReader<'_> {
     }
 }
 
-/// The text after so many of its lines; no text where it has fewer.
+/// The text after this many of its lines; no text where it has fewer.
 fn pass_lines(text: &[u8], passed: usize) -> &[u8]
     ensures { lines result.now ≡ drop passed (lines text.now) }
 {

@@ -6,7 +6,7 @@ use crate::putting::{WriteFault, put};
 use arrayvec::ArrayVec;
 use std::io::Write;
 
-/// The most bytes of a text that is gathered: Linux does not mix so many bytes of one write to a pipe with those of
+/// The most bytes of a text that is gathered: Linux does not mix this many bytes of one write to a pipe with those of
 /// another program (PIPE_BUF of pipe(7)).
 const GATHERED: usize = 4096;
 

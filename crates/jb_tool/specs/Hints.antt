@@ -16,7 +16,7 @@ aborted_hint ended.Memory = hint.CommitMemory
 aborted_hint ended.Aborted = hint.HandleAborted
 aborted_hint (ended.Shut over) = hint.HandleAborted
 
--- a handle that was refused, in an image of so many home blocks, where the committer ended so; the table has no row for a fault that
+-- a handle that was refused, in an image of this many home blocks, where the committer ended so; the table has no row for a fault that
 -- no text has
 abbrev pub handle_hint : ℕ → Ended → QueueHandleFault → Option Hint
 handle_hint homes commit (TooManyCredits most) = Some hint.HandleTooManyCredits
@@ -50,7 +50,7 @@ abbrev pub first_hint : ℕ → Ended → Option Refused → Option Hint → Opt
 first_hint homes commit None ends = ends
 first_hint homes commit (Some refused) ends = handle_hint homes commit refused.fault
 
--- what a second line is about after a load into an image of so many home blocks: the first of its lines that says why, where the table
+-- what a second line is about after a load into an image of this many home blocks: the first of its lines that says why, where the table
 -- has a row for it
 abbrev pub load_hint : ℕ → Loaded → Option Hint
 load_hint homes l = first_hint homes l.commit l.refused (commit_hint l.commit l.checkpoint)

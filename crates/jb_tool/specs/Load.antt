@@ -84,7 +84,7 @@ TellsLoadEnd (Ok report) old new end = TellsLoadReport report old new end
 TellsLoadEnd (Err fault) old new end = (end ≡ Err fault) × (new ≡ old)
 
 module _ {S T : Type 0} {start : Starts S} {other : Starts T} where
-  -- a queue was loaded into an open image, and this is the image then: the groups that the load counts stand in its journal, if its files
+  -- a queue was loaded into an open image, and this is the image then: the groups that the load counts are in its journal, if its files
   -- are honest
   pub record LoadsOn (options : LoadOptions) (homes : ℕ) (disk : ImageDisk (FileDisk S start) (FileDisk T other)) (queue : Queue)
       (new : ImageDisk (FileDisk S start) (FileDisk T other)) (end : Result LoadReport CommandFault) : Type 0 where
@@ -103,7 +103,7 @@ module _ {S T : Type 0} {start : Starts S} {other : Starts T} where
   LoadsUnless None options homes disk queue image end = LoadsQueue options homes disk queue image end
   LoadsUnless (Some home) options homes disk queue image end = (image ≡ Some disk) × (end ≡ Err (Extents (Home home)))
 
-  -- the same of the first such home block; or, where the journal stands within the image, there was no memory to read the handles, and the
+  -- the same of the first such home block; or, where the journal is within the image, there was no memory to read the handles, and the
   -- image is as it was opened
   abbrev pub LoadsApart : LoadOptions → ℕ → ImageDisk (FileDisk S start) (FileDisk T other) → Queue → Option (ImageDisk (FileDisk S start) (FileDisk T other)) → Result LoadReport CommandFault → Type 0
   LoadsApart options homes disk queue image end =
@@ -149,7 +149,7 @@ module _ {S T : Type 0} {start : Starts S} {other : Starts T} where
       (mid : ImageDisk (FileDisk S start) (FileDisk T other)) × (judged : Result Unit CommandFault) × JudgesLoad as_files load.journal (is_within disk) disk mid judged × LoadsJudged load options homes judged mid image end
 
   -- the image was not opened, and nothing was done; or it was, wherever its journal is, in blocks of the size that its first bytes say, with
-  -- so many home blocks, and it was judged, and then the text came
+  -- this many home blocks, and it was judged, and then the text came
   abbrev pub EndsOfLoad : Loading → Option (List ℕ) → Option (ImageDisk (FileDisk S start) (FileDisk T other)) → Result LoadReport CommandFault → Type 0
   EndsOfLoad load input image end =
       ((fault : CommandFault) × (image ≡ None) × (end ≡ Err fault) × IsLoadUnopened start other load input fault)

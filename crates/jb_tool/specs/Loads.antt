@@ -38,7 +38,7 @@ pub record IsRunBy (options : LoadOptions) (run : Options) : Type 0 where
   pub time : as_nanos run.delay.time ≡ 0
   pub handles : run.delay.handles ≡ 0
 
--- the counts are those of a run, for a queue of so many handles: the groups are those of its trail, with their blocks, and the refused handle is the earliest of those that its
+-- the counts are those of a run, for a queue of this many handles: the groups are those of its trail, with their blocks, and the refused handle is the earliest of those that its
 -- workers have refused
 pub record CountsRun {D : Type 0} (queued : ℕ) (ran : Ran (Option Refused) D) (loaded : Loaded) : Type 0 where
   pub are_queued : loaded.queued ≡ queued

@@ -12,12 +12,12 @@ use Rattle.jb_tool.specs.declared.loading.loaded.Refused.{Refused}
 abbrev pub queued_at : List Stopped → ℕ → Stopped
 queued_at queue place = get_or queue place (record { ticket = 0; words = map.empty })
 
--- stops with the words of handles of the queue: of the one at this place, and of others each so many places after the one before
+-- stops with the words of handles of the queue: of the one at this place, and of others, each this many places after the one before
 abbrev pub StepsBy : List Stopped → ℕ → ℕ → List Stop → Type 0
 StepsBy queue step from [] = Unit {0}
 StepsBy queue step from (s ∷ ss) = (from < length queue) × (s.1 ≡ (queued_at queue from).words) × StepsBy queue step (from + step) ss
 
--- of a queue of so many handles, that of this place was refused; or there is none at this place
+-- of a queue of this many handles, that of this place was refused; or there is none at this place
 abbrev pub EndsAt : ℕ → ℕ → Option Refused → Type 0
 EndsAt count place None = count ≤ place
 EndsAt count place (Some r) = (r.handle ≡ place) × (place < count)

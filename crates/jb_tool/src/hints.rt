@@ -8,7 +8,7 @@ use crate::{Loaded, QueueHandleFault};
 use jb_args::Hint;
 use jb_journal::Ended;
 
-/// What a second line is about after a load into an image of so many home blocks: the line of the handle that was
+/// What a second line is about after a load into an image of this many home blocks: the line of the handle that was
 /// refused, or of the committer, or of the checkpointer, whichever is the first. Of a handle that the commits have
 /// stopped it is their line.
 pub(crate) fn load_hint(loaded: &Loaded, homes: u64) -> Option<Hint>

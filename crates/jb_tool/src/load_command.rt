@@ -93,7 +93,7 @@ pub fn load_files<
     }
 }
 
-/// The same of an image that is open, with so many home blocks.
+/// The same of an image that is open, with this many home blocks.
 ///
 /// # Errors
 /// Those of `judge_on` and of `load_text`.
@@ -123,7 +123,7 @@ fn load_opened<
 }
 
 /// Whether the journal of an image may have home blocks of this image in it; one at its front may. `within` says
-/// whether it stands among them.
+/// whether it is among them.
 ///
 /// # Errors
 /// Those of `judge_on`.
@@ -142,7 +142,7 @@ fn judge_load<'a, D: Disk>(
     }
 }
 
-/// Loads the queue text of a file into an open image of so many home blocks.
+/// Loads the queue text of a file into an open image of this many home blocks.
 ///
 /// # Errors
 /// Those of `read_file`, and those of `load_on`, after which the image is lost.
@@ -213,7 +213,7 @@ fn load_apart<'a, S: Start + Send, T: Start + Send, R: AllocGlobal + Threads + W
     }
 }
 
-/// Loads a queue into an image of so many home blocks with this stamp on each commit.
+/// Loads a queue into an image of this many home blocks with this stamp on each commit.
 ///
 /// # Errors
 /// Those of `load_on`, after which the image is lost.

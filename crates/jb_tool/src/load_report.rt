@@ -11,7 +11,7 @@ use std::io::Write;
 /// What a load has to say once its image is closed.
 #[derive(Drop)]
 pub enum LoadReport {
-    /// What it did, to an image of so many home blocks.
+    /// What it did, to an image of this many home blocks.
     Loaded(Loaded, u64),
     /// The first fault of its text.
     Text(CommandOutput),

@@ -13,7 +13,7 @@ use jb_queue::QueueLines;
 use std::alloc::Global;
 
 /// The first home block that is one of the journal's own and that a handle of a queue touches: of the first such
-/// handle, the lowest. The words of one handle are read at a time, and none where the journal does not stand within its
+/// handle, the lowest. The words of one handle are read at a time, and none where the journal is not within its
 /// home blocks.
 ///
 /// # Errors

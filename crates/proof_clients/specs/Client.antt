@@ -9,7 +9,7 @@ use Rattle.jb_deck.specs.Open.{recovered_home}
 use Rattle.jb_deck.specs.Calls.{IsRecoveredTo}
 
 -- of a disk whose superblock was accepted at first: a crash may leave no image but ones that are recovered to these
--- handles, which took so many numbers
+-- handles, which took this many numbers
 pub record LeavesAll {D : Type 0} (may_leave : D → Image → Type 0) (size count : ℕ) (base : Image)
     (settled : List Stopped) (numbers : ℕ) (disk : D) : Type 0 where
   pub own : Superblock

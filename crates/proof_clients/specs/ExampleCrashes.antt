@@ -1,4 +1,4 @@
--- Values of the examples on what a crash leaves: three handles, each its own group, and how homes stand.
+-- Values of the examples on what a crash leaves: three handles, each its own group, and what homes hold.
 use Rattle.std.specs.Prelude.{◌≡◌, ℕ, ◌<◌, cond, List, [], ◌∷◌, length, None, Ok}
 use Rattle.std.specs.List.{list_any}
 use Rattle.std.specs.Ordering.{nat_cmp, eq_by_cmp}
@@ -27,7 +27,7 @@ three_groups = 0 ∷ 1 ∷ 2 ∷ 3 ∷ []
 abbrev pub with_new : List ℕ → List ℕ → List ℕ → ℕ → List ℕ
 with_new bs old new home = cond (list_any (eq_by_cmp nat_cmp home) bs) new old
 
--- what a crash may leave while the three groups are committed, of which so many are settled, where all homes had the
+-- what a crash may leave while the three groups are committed, of which this many are settled, where all homes had the
 -- old bytes
 abbrev pub MayBeLeft : Superblock → ℕ → ℕ → ℕ → ℕ → List ℕ → List ℕ → Image → Type 0
 MayBeLeft own next size count settled old new c =
@@ -51,8 +51,8 @@ copied_twice older newer = transaction 7 (copy_of_five older ∷ []) ∷ transac
 abbrev pub copied_and_revoked : List ℕ → List Transaction
 copied_and_revoked bytes = transaction 7 (copy_of_five bytes ∷ []) ∷ transaction 8 (Revokes 20 (5 ∷ []) ∷ []) ∷ []
 
--- an image of so many blocks, with this superblock and these transactions in its log, which recovery takes; it has more
--- than five homes
+-- an image of this many blocks, with this superblock and these transactions in its log, which recovery takes; it has
+-- more than five homes
 pub record HasLog (size count : ℕ) (sb : Superblock) (ts : List Transaction) (c : Image) : Type 0 where
   pub blocks : length c ≡ count
   pub taken : super_on size count c ≡ Ok sb

@@ -30,6 +30,6 @@ AreHonestFiles p = IsHonestPair as_file as_file p
 abbrev pub FilesLeave : {S T : Type 0} {start : Ghosts S} {other : Ghosts T} → PairDisk (FileDisk S start) (FileDisk T other) → Image → Type 0
 FilesLeave p = PairLeaves as_file as_file p
 
--- what a crash might have left of them since so many calls, if they are
+-- what a crash might have left of them since this many calls, if they are
 abbrev pub FilesLeft : {S T : Type 0} {start : Ghosts S} {other : Ghosts T} → PairDisk (FileDisk S start) (FileDisk T other) → ℕ → Image → Type 0
 FilesLeft p = PairLeftSince as_file as_file p

@@ -20,13 +20,13 @@ use Rattle.proof_clients.specs.Programs.{HasChanges, IsPartOf, all_changes, comm
 -- ---- what a life changes
 
 -- a batch of these handles, with a plan for the journal that has this superblock and the feature for revoke blocks, on
--- a disk of so many blocks
+-- a disk of this many blocks
 pub record IsBatchOf (own : Superblock) (count : ℕ) (handles : List Stopped) (batch : Planned) : Type 0 where
   pub planned : IsPlanned batch
   pub same : batch.batch.handles ≡ handles
   pub shape : IsShapeOf (revoking own) count batch.batch.shape
 
--- a part of what a life changes that commits these handles, with so many groups: nothing, or the first groups of a
+-- a part of what a life changes that commits these handles, with this many groups: nothing, or the first groups of a
 -- batch of them
 pub data IsPartOfLife (own : Superblock) (count : ℕ) (handles : List Stopped) : List Change → ℕ → Type 0 where
   nothing : IsPartOfLife own count handles [] 0
@@ -41,7 +41,7 @@ pub record IsWholeLife (own : Superblock) (count : ℕ) (handles : List Stopped)
   pub all : changes ≡ all_changes (commits batch ∷ [])
   pub every : groups ≡ groups_in batch.groups
 
--- The last number after a life with so many groups and the recovery after it: the groups' last one where there was
+-- The last number after a life with this many groups and the recovery after it: the groups' last one where there was
 -- nothing to recover, and else the one after it, as a field of 32 bits holds it.
 abbrev pub CountsOn : ℕ → ℕ → ℕ → Type 0
 CountsOn last groups now = (now ≡ last + groups) ⊎ (now ≡ (last + 1 + groups) % 2 ^ 32)
@@ -63,7 +63,7 @@ pub data AreLives (own : Superblock) (count last : ℕ) : List (List Stopped) �
 
 -- A journal that was recovered: there is nothing to recover, its superblock is its own, with the feature for revoke
 -- blocks or without it, and this is the last number; and each home holds what these changes say, counted from how the
--- homes stood at first.
+-- homes were at first.
 pub record HoldsChanges (own : Superblock) (last size count : ℕ) (before : ℕ → List ℕ) (changes : List Change)
     (c : Image) : Type 0 where
   pub sb : Superblock

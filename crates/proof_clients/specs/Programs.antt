@@ -1,4 +1,4 @@
--- What a crash leaves of a program: some first part of what the program changes.
+-- What a crash leaves of a program: some prefix of what the program changes.
 use Rattle.std.specs.Prelude.{◌≡◌, ◌⊎◌, ℕ, ◌+◌, ◌≤◌, List, [], ◌∷◌, ◌++◌, map, Ok, Result, Err}
 use Rattle.jb_disk.specs.Image.{Image, block}
 use Rattle.jb_super.specs.Superblock.{Superblock}
@@ -19,8 +19,8 @@ pub data Part : Type 0 where
   commits : Planned → Part
   writes : ℕ → List ℕ → Part
 
--- These changes are a first part of what the program changes, with so many groups: some whole parts, and then the first
--- groups of a batch, or some sectors of the bytes.
+-- These changes are a prefix of what the program changes, with this many groups: some whole parts, and then the
+-- first groups of a batch, or some sectors of the bytes.
 pub data IsPartOf : List Part → List Change → ℕ → Type 0 where
   no_more : (parts : List Part) → IsPartOf parts [] 0
   in_batch : (batch : Planned) (parts : List Part) (groups : ℕ) → groups ≤ groups_in batch.groups
@@ -47,9 +47,9 @@ all_groups [] = 0
 all_groups (commits batch ∷ parts) = groups_in batch.groups + all_groups parts
 all_groups (writes home bytes ∷ parts) = all_groups parts
 
--- The image is of the journal that this one has, with these changes since and so many groups: it is recovered to the
+-- The image is of the journal that this one has, with these changes since and this many groups: it is recovered to the
 -- handles that were settled, at the number that follows, and each home then holds what the changes say. Its superblock
--- is the one that stood, with the feature for revoke blocks or without it; and nothing has changed but that, the log
+-- is the one from before, with the feature for revoke blocks or without it; and nothing has changed but that, the log
 -- and the homes.
 pub record HasChanges (size count : ℕ) (base : Image) (changes : List Change) (groups : ℕ) (c : Image) : Type 0 where
   pub own : Superblock
@@ -62,7 +62,7 @@ pub record HasChanges (size count : ℕ) (base : Image) (changes : List Change) 
       (block (recovered size count c) (own.maxlen + home))
   pub keeps : KeepsFrame own count base c
 
--- a crash left the image in a program, which found the journal so: it has a first part of what the program changes
+-- a crash left the image in a program, which found the journal so: it has a prefix of what the program changes
 pub record LeftByProgram (size count : ℕ) (base : Image) (parts : List Part) (c : Image) : Type 0 where
   pub changes : List Change
   pub groups : ℕ

@@ -16,13 +16,13 @@ use jb_plan::Prepared;
 use std::alloc::Global;
 
 /// Opens the journal of a disk, commits a batch and closes it. Whatever a crash leaves of the disk afterwards has the
-/// journal's own superblock, and is recovered to the homes as they stood at first, with all handles of the batch.
+/// journal's own superblock, and is recovered to the homes as they were at first, with all handles of the batch.
 ///
 /// # Errors
 ///
 /// The disk, where the batch is not committed: the journal was not opened, the batch was refused, or a call of the disk
 /// failed. Whatever a crash leaves of it could have been left before, or is the same journal, recovered to the homes as
-/// they stood at first with the handles of the first groups of the batch.
+/// they were at first with the handles of the first groups of the batch.
 pub fn commit_and_close<D: Disk>(
     alloc: Global,
     disk: D,

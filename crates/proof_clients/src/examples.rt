@@ -1,4 +1,4 @@
-//! Examples of the definitions that docs/HEADLINE.md stands on: small values that meet one (clauses `meets`), and some
+//! Examples of the definitions that docs/HEADLINE.md rests on: small values that meet one (clauses `meets`), and some
 //! that do not (clauses `not_..`). A definition that says too little would let these in. The functions do nothing: each
 //! example is a clause. The values are in specs/.
 

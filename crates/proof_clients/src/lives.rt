@@ -19,8 +19,8 @@ use jb_handle::Stopped;
 use jb_recover::{RecoverFault, recover};
 use std::alloc::Global;
 
-/// A power failure: it comes after so many calls of the disk, and the choice says which version is left of each sector
-/// that was written since the last sync ([`MemoryDisk::crash`]).
+/// A power failure: it comes after this many calls of the disk, and the choice says which version is left of each
+/// sector that was written since the last sync ([`MemoryDisk::crash`]).
 #[derive(Drop)]
 pub struct Failure {
     pub calls: u64,
@@ -49,7 +49,7 @@ pub struct Lived {
 /// Recovers the journal of a disk. Then the journal has these lives, one after the other: it is opened, the handles are
 /// committed, and perhaps a transaction is checkpointed; the power fails at any call of the disk, and again at any call
 /// of the recovery of what the crash left; and what that left is recovered. The disk that is given back holds the homes
-/// as they stood after the first recovery, with what the lives changed, in order: of each life its handles, or those of
+/// as they were after the first recovery, with what the lives changed, in order: of each life its handles, or those of
 /// the first groups of them, or none; all of those that were reported as committed. Its superblock is the journal's
 /// own, and its numbers count the groups.
 ///
@@ -96,7 +96,7 @@ fn live(alloc: Global, disk: MemoryDisk, life: Life) -> Result<(MemoryDisk, bool
 {
     jb_deck::laws::holds_on();
     jb_recover::laws::recovered();
-    jb_disk::laws::runs_as_calls::<FuseDisk<MemoryDisk>>(); // a failure comes after so many blocks
+    jb_disk::laws::runs_as_calls::<FuseDisk<MemoryDisk>>(); // a failure comes after this many blocks
     let Life {
         handles,
         stamp,

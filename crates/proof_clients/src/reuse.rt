@@ -14,7 +14,7 @@ use std::alloc::Global;
 
 /// Opens the journal of a disk, commits a batch, writes data into a home block that it freed, reads it into `buf`,
 /// takes what it may of the trail, commits a second batch and closes the journal. What is read is the data. Whatever a
-/// crash leaves at any moment could have been left before, or is recovered to a first part of all this: in the end to
+/// crash leaves at any moment could have been left before, or is recovered to a prefix of all this: in the end to
 /// all of it, so that the home holds the data, unless the second batch has a word on it.
 ///
 /// # Errors

@@ -14,7 +14,7 @@ use std::alloc::Global;
 
 /// Opens the journal of a disk, commits two batches, checkpoints the oldest transaction and commits a third batch.
 /// Whatever a crash leaves of the disk afterwards has the journal's own superblock, and is recovered to the homes as
-/// they stood at first, with all handles of the three batches.
+/// they were at first, with all handles of the three batches.
 ///
 /// # Errors
 ///

@@ -32,7 +32,7 @@ uuid 000102030405060708090a0b0c0d0e0f
 end transactions=1 expected=3
 ";
 
-/// A journal of so many bytes, four MiB at most: zeros with these words.
+/// A journal of this many bytes, four MiB at most: zeros with these words.
 pub fn journal_of(test: &impl Test, alloc: Global, len: usize, words: &str) -> Vec<u8> {
     let mut journal = vec![in alloc; 0; len.min(0x40_0000)].must(test, "memory");
     put_text(&mut journal, 0, words);
@@ -47,7 +47,7 @@ pub fn by_hand(test: &impl Test, alloc: Global, words: &str) -> Vec<u8> {
     journal
 }
 
-/// The first bytes, so many.
+/// The first bytes, this many of them.
 pub fn front(journal: &[u8], len: usize) -> &[u8] {
     &journal[..len.min(journal.len())]
 }

@@ -25,7 +25,7 @@ fn check_cut(test: &impl Test, alloc: Global) {
     }
 }
 
-/// So many calls, after which one fails, though not the next.
+/// This many calls, after which one fails, though not the next.
 #[derive(Clone, Copy)]
 pub struct Calls(pub Option<usize>);
 
@@ -44,7 +44,7 @@ impl Calls {
     }
 }
 
-/// A reader that gives no more than so many bytes a call, and fails at one of its calls.
+/// A reader that gives no more than this many bytes a call, and fails at one of its calls.
 #[derive(Drop)]
 struct Halting<'a> {
     rest: &'a [u8],
@@ -67,8 +67,8 @@ static READ: [(&str, &str, usize); 2] = [
     (WRAPPED, WRAPPED_TEXT, 2 + 43 + 5),
 ];
 
-/// Checks a dump of a journal and one byte after it, which stays unread, from a reader of so many bytes a call: it
-/// gives the text, unless one of the so many calls fails that the journal takes.
+/// Checks a dump of a journal and one byte after it, which stays unread, from a reader of this many bytes a call: it
+/// gives the text, unless one of the calls fails that the journal takes, this many of them.
 fn check_halting(
     test: &impl Test,
     alloc: Global,

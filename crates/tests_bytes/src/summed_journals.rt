@@ -126,7 +126,7 @@ static CHANGED: [Case; 13] = [
 c04:1020305",
         Ok(text_of!("00000011", "20", "5", "0000000001020305 wrong")),
     ),
-    // behind the first 60 bytes of the commit block, which may be old
+    // after the first 60 bytes of the commit block, which may be old
     Case(
         "1100:1",
         Ok(text_of!("00000011", "20", "7", "0000000001020304")),

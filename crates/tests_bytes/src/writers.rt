@@ -8,7 +8,7 @@ use std::alloc::Global;
 use std::io::{self, Error, ErrorKind, Write};
 use tests_support::{Test, check, check_at};
 
-/// A writer that takes no more than so many bytes a call, and fails at one of its calls. A flush is a call too.
+/// A writer that takes no more than this many bytes a call, and fails at one of its calls. A flush is a call too.
 #[derive(Drop)]
 struct Halting {
     taken: Vec<u8>,
@@ -31,8 +31,8 @@ impl Write for Halting {
     }
 }
 
-/// Checks a dump to a writer that takes so many bytes a call, and fails after so many calls of the `writes` that the
-/// text takes and of the flush.
+/// Checks a dump to a writer that takes this many bytes a call, and fails after this many calls of the `writes` that
+/// the text takes and of the flush.
 fn check_halting(
     test: &impl Test,
     alloc: Global,

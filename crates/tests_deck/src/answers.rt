@@ -5,7 +5,7 @@ use jb_deck::{Checked, CheckpointFault, Deck, FreeFault};
 use jb_disk::Disk;
 use tests_support::put_words;
 
-/// Whether so many bytes, at most a block, that are written to a home are answered so.
+/// Whether this many bytes, at most a block, that are written to a home are answered so.
 pub fn writes<D: Disk>(
     deck: &mut Deck<D>,
     home: u64,
@@ -17,7 +17,7 @@ pub fn writes<D: Disk>(
     deck.write_free(home, &bytes[..len.min(1024)]) == answer
 }
 
-/// Whether the oldest transactions, at most so many, are checkpointed so.
+/// Whether the oldest transactions, at most this many, are checkpointed so.
 pub fn runs<D: Disk>(
     deck: &mut Deck<D>,
     most: usize,

@@ -1,4 +1,4 @@
-//! Two handles are stopped with a book, and the groups in which they stand are compared.
+//! Two handles are stopped with a book, and the groups that have them are compared.
 
 use crate::checks::By;
 use crate::draws::formatted;
@@ -30,7 +30,7 @@ static ROWS: [Row; 7] = [
     (7, 1, ALL, None),
 ];
 
-/// A handle that writes so many homes from one on, with a credit for each.
+/// A handle that writes this many homes from one on, with a credit for each.
 fn handle(test: &impl Bench, shape: Shape, from: u64, homes: u32) -> Handle<()> {
     let mut handle = Handle::new(test.alloc(), (), homes, shape);
     let bytes = [7; 1024];
@@ -40,7 +40,7 @@ fn handle(test: &impl Bench, shape: Shape, from: u64, homes: u32) -> Handle<()> 
     handle
 }
 
-/// Whether two handles stand in the groups of a row.
+/// Whether two handles are in the groups of a row.
 fn stands<D: Disk>(test: &impl Bench, deck: &mut Deck<D>, row: &Row) -> bool {
     let (one, two, _, wanted) = *row;
     let first = handle(test, deck.shape(), 0, one);
@@ -62,7 +62,7 @@ fn check_row<D: Disk + Drop>(test: &impl Bench, disk: D, row: &Row, at: usize) {
     check_at(test, is_refused, "two more handles of row", at as u64)
 }
 
-/// A disk with a new journal whose power fails after so many calls.
+/// A disk with a new journal whose power fails after this many calls.
 fn fused(test: &impl Bench, calls: u64) -> FuseDisk<MemoryDisk> {
     FuseDisk::of(formatted(test, 33, 8, [7; 16], Width::Narrow), calls)
 }

@@ -37,7 +37,7 @@ pub fn called_with_fault(test: &impl Bench, row: Label, call: u64, steps: &[Step
     called(test, row, disk, steps).into_inner()
 }
 
-/// The image of a case, of so many blocks, once it is recovered.
+/// The image of a case, of this many blocks, once it is recovered.
 fn recovered(test: &impl Bench, blocks: u64, case: &Case) -> MemoryDisk {
     let mut disk = small(test, blocks, case.image, &[]);
     let is_so = is_recovered(test.alloc(), &mut disk);
@@ -60,7 +60,7 @@ fn lay(test: &impl Test, case: &Case, disk: &mut MemoryDisk) {
     put(test, disk, &case.rows)
 }
 
-/// Checks the disk that the calls of a case left, and what a crash leaves of it: all that stands on the disk, since
+/// Checks the disk that the calls of a case left, and what a crash leaves of it: all that is on the disk, since
 /// every call that changes it ends with a sync. Then it is recovered.
 fn check_left(test: &impl Bench, case: &Case, disk: &mut MemoryDisk) {
     let mut wanted = small(test, disk.blocks(), case.image, &[]);
@@ -104,7 +104,7 @@ fn check_home(test: &impl Bench, case: &Case, left: &mut MemoryDisk, wanted: &mu
     check_none(test, case.name, "block after recovery", place)
 }
 
-/// Checks each of these cases, on disks of so many blocks.
+/// Checks each of these cases, on disks of this many blocks.
 pub fn check_cases(test: &impl Bench, blocks: u64, cases: &[Case]) {
     for case in cases {
         check_case(test, blocks, case);

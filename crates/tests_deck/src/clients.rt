@@ -193,7 +193,7 @@ static LIVES: [LivesRow; 14] = [
 /// How many sectors a disk of the tests has.
 const SECTORS: usize = 66;
 
-/// A power failure after so many calls, with this version of each sector that was not synced.
+/// A power failure after this many calls, with this version of each sector that was not synced.
 fn failure(test: &impl Bench, calls: u64, version: u32) -> Failure {
     let mut choice = Vec::new(test.alloc());
     for _ in 0..SECTORS {

@@ -40,7 +40,7 @@ impl Seed {
     }
 }
 
-/// How many of so many calls are checkpoints and how many are writes; the others are commits.
+/// How many of this many calls are checkpoints and how many are writes; the others are commits.
 #[derive(Clone, Copy)]
 pub struct Odds {
     pub checkpoints: u32,
@@ -56,7 +56,7 @@ static AFTER: [Row; 4] = [
     (0, 0x3F0, [7, 7, 7, 7]),
 ];
 
-/// An image: its disk, how many blocks stand before the log, and the place of home block 0.
+/// An image: its disk, how many blocks are before the log, and the place of home block 0.
 #[derive(Drop)]
 pub struct Image {
     pub disk: MemoryDisk,
@@ -64,7 +64,7 @@ pub struct Image {
     pub homes: u64,
 }
 
-/// A new journal of so many blocks, with a history of at most so many of them, and the 16 homes after it.
+/// A new journal of this many blocks, with a history of at most this many of them, and the 16 homes after it.
 pub fn formatted(
     test: &impl Bench,
     maxlen: u32,
@@ -83,7 +83,7 @@ pub fn formatted(
     disk
 }
 
-/// Fills so many blocks after block 0, each with contents of its own.
+/// Fills this many blocks after block 0, each with contents of its own.
 fn fill_gap<D: Disk>(test: &impl Test, disk: &mut D, gap: u32) {
     let mut filled = [0; 1024];
     for place in 1..=gap {
@@ -92,7 +92,7 @@ fn fill_gap<D: Disk>(test: &impl Test, disk: &mut D, gap: u32) {
     }
 }
 
-/// Lets the log of a new journal begin after so many further blocks, and fills these, and block 0 after the
+/// Lets the log of a new journal begin after this many further blocks, and fills these, and block 0 after the
 /// superblock.
 fn put_gap<D: Disk>(test: &impl Test, disk: &mut D, maxlen: u32, gap: u32) {
     let first = gap.saturating_add(1);
@@ -126,7 +126,7 @@ fn one_touch(seed: &mut Seed, homes: u32, handle: u32) -> Touch {
     (handle as usize, seed.below(homes) as usize, copy)
 }
 
-/// What so many handles do to homes, in the order of their stops, often to the same few.
+/// What this many handles do to homes, in the order of their stops, often to the same few.
 fn touches(test: &impl Bench, seed: &mut Seed, count: u32) -> Vec<Touch> {
     let homes = if seed.below(2) == 0 { 16 } else { 4 };
     let mut touches = Vec::new(test.alloc());

@@ -21,7 +21,7 @@ static ROWS: [Row; 5] = [
     (0, 253, 3),
 ];
 
-/// The one handle of a batch, which writes so many homes and frees so many after them.
+/// The one handle of a batch, which writes this many homes and frees this many after them.
 fn one(test: &impl Bench, copies: u64, frees: u64) -> Vec<Stopped> {
     let block = [1; 1024];
     let mut words = Words::new(test.alloc());
@@ -42,7 +42,7 @@ fn begun(test: &impl Bench) -> Deck<MemoryDisk> {
     opening(test, disk)
 }
 
-/// Whether the entry of such a handle, in a journal, has so many blocks.
+/// Whether the entry of such a handle, in a journal, has this many blocks.
 fn has_blocks<D: Disk>(test: &impl Bench, deck: &mut Deck<D>, row: &Row) -> bool {
     let (copies, frees, blocks) = *row;
     let handles = one(test, copies, frees);

@@ -134,12 +134,12 @@ fn reopened<D: Disk + Drop>(test: &impl Bench, row: Label, disk: D, next: u64) -
     deck.close()
 }
 
-/// What stands before the log of the small image.
+/// What is before the log of the small image.
 fn front_of(test: &impl Bench) -> Frame {
     Frame::of(test, &mut small(test, BLOCKS, &[], &[]), 1)
 }
 
-/// Checks what recovery reports of what is left of a row, and that what stands before the log is kept, before and
+/// Checks what recovery reports of what is left of a row, and that the blocks before the log are kept, before and
 /// after.
 fn check_recovered<D: Disk>(test: &impl Bench, row: Label, left: &mut D, recovered: Report) {
     let next = recovered.3;

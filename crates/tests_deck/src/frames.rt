@@ -48,7 +48,7 @@ pub struct Wanted {
 }
 
 impl Wanted {
-    /// Recovers what a crash left: what stands before the log is kept, then too, and the homes may be left.
+    /// Recovers what a crash left: the blocks before the log are kept, then too, and the homes may be left.
     /// `at` is which of the test's images it is.
     pub fn mend<D: Disk>(&self, test: &impl Bench, image: &mut D, at: u64) {
         let was_kept = self.frame.is_kept(test, image);

@@ -16,13 +16,13 @@ pub type Does = (&'static [u32], u32, &'static [u32]);
 /// A call.
 #[derive(Clone, Copy)]
 pub enum Call<'a> {
-    /// So many handles, and what they do, are committed as one batch, or left out where none fits.
+    /// This many handles, and what they do, are committed as one batch, or left out where none fits.
     Commit(usize, &'a [Touch]),
     /// The same, by what each of the handles does.
     Handles(&'a [Does]),
     /// The oldest transaction is checkpointed, if there is one.
     Checkpoint,
-    /// The oldest transactions are checkpointed together, at most so many, if there is one.
+    /// The oldest transactions are checkpointed together, at most this many, if there is one.
     Run(usize),
     /// These contents are written to a home, if it is free.
     Write(usize, u32),
@@ -114,7 +114,7 @@ fn settled_by<D: Disk>(test: &impl Test, deck: &mut Deck<D>, batch: Prepared) ->
     }
 }
 
-/// What a crash may leave once the group of this index is in the model too, where so many groups are settled.
+/// What a crash may leave once the group of this index is in the model too, where this many groups are settled.
 fn leave(left: &mut Left, model: &Model, group: usize, settled: usize) {
     if group < settled {
         *left = only(model.standing());
@@ -123,7 +123,7 @@ fn leave(left: &mut Left, model: &Model, group: usize, settled: usize) {
     }
 }
 
-/// Puts the groups of a batch into the model: what a crash may leave where so many of them are settled.
+/// Puts the groups of a batch into the model: what a crash may leave where this many of them are settled.
 fn put_groups(
     test: &impl Test,
     model: &mut Model,
@@ -191,7 +191,7 @@ pub fn make_call<D: Disk>(
     }
 }
 
-/// The oldest groups of a model go home, at most so many; how many that are.
+/// The oldest groups of a model go home, at most this many; how many that are.
 fn go_home(model: &mut Model, most: usize) -> usize {
     let mut went: usize = 0;
     for _ in 0..most {
@@ -202,7 +202,7 @@ fn go_home(model: &mut Model, most: usize) -> usize {
     went
 }
 
-/// Checkpoints the oldest transaction, or the oldest ones together, at most so many; how many that are.
+/// Checkpoints the oldest transaction, or the oldest ones together, at most this many; how many that are.
 fn checkpointed<D: Disk>(
     deck: &mut Deck<D>,
     most: Option<usize>,
@@ -219,7 +219,7 @@ fn checkpointed<D: Disk>(
     }
 }
 
-/// Checkpoints the oldest transaction, or the oldest ones together, at most so many; after a fault, what a crash may
+/// Checkpoints the oldest transaction, or the oldest ones together, at most this many; after a fault, what a crash may
 /// leave.
 fn checkpoint<D: Disk>(
     test: &impl Test,

@@ -88,7 +88,7 @@ impl Model {
         self.live.push(Piece { blocks, marks }).must(test, "memory");
     }
 
-    /// The oldest groups go home until so many further blocks fit.
+    /// The oldest groups go home until this many further blocks fit.
     fn make_room(&mut self, blocks: u64) {
         for _ in 0..self.live.len() {
             if self.live_blocks().saturating_add(blocks) > self.usable {

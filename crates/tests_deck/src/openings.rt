@@ -221,7 +221,7 @@ pub fn refused(test: &impl Bench, row: Label, disk: MemoryDisk, fault: OpenFault
     disk
 }
 
-/// Checks that a journal on a disk of so many blocks is refused, and stays as it was.
+/// Checks that a journal on a disk of this many blocks is refused, and stays as it was.
 fn check_refused(test: &impl Bench, blocks: u64, of: &Refused) {
     let (row, rows, fault) = *of;
     let mut disk = refused(test, row, small(test, blocks, rows, &[]), fault);

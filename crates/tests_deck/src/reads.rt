@@ -1,4 +1,4 @@
-//! Home blocks are read as they stand, beside the plain model of them.
+//! Home blocks are read as they are, beside the plain model of them.
 
 use crate::checks::By;
 use crate::contents::fill;
@@ -127,7 +127,7 @@ const OPENED: u64 = 34;
 
 static FIVE: [Row; 1] = [(HOMES + 5, 0, [5, 5, 5, 5])];
 
-/// Whether a read of so many bytes, at most a block, is refused so, and they stay as they were.
+/// Whether a read of this many bytes, at most a block, is refused so, and they stay as they were.
 fn is_refused<D: Disk>(deck: &mut Deck<D>, of: &Refused) -> bool {
     let (_, home, len, fault) = *of;
     let mut bytes = [3; 1024];

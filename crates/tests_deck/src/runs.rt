@@ -86,7 +86,7 @@ pub struct Stop {
     pub ended: bool,
 }
 
-/// Runs a script on a disk whose log begins at block 1, whose homes are zeros, and which makes so many calls.
+/// Runs a script on a disk whose log begins at block 1, whose homes are zeros, and which makes this many calls.
 pub fn run_to(test: &impl Bench, before: MemoryDisk, calls: u64, script: &[Call<'_>]) -> Stop {
     let mut disk = before;
     let frame = Frame::of(test, &mut disk, 1);

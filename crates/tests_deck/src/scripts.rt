@@ -31,13 +31,13 @@ pub enum Step {
     Commits(&'static str, &'static [Told]),
     /// A batch from this ticket on, for this shape, is refused.
     Refuses(u64, Made, &'static str, Refusal),
-    /// The oldest transaction, of this number, is checkpointed, and so many copies are written.
+    /// The oldest transaction, of this number, is checkpointed, and this many copies are written.
     Checkpoints(u32, u64),
-    /// The oldest transactions are checkpointed, at most so many.
+    /// The oldest transactions are checkpointed, at most this many.
     Runs(usize, Result<Run, CheckpointFault>),
     /// There is no transaction to checkpoint.
     Idle,
-    /// So many bytes are written to a home that is free.
+    /// This many bytes are written to a home that is free.
     Writes(u64, usize, Result<(), FreeFault>),
     /// The last word on a home, whether it is a copy.
     Word(u64, Option<bool>),
@@ -57,7 +57,7 @@ pub enum Refusal {
     OtherShape,
     NumbersSpent,
     Memory,
-    /// So many groups were settled before the fault.
+    /// This many groups were settled before the fault.
     DeviceFault(usize),
 }
 
@@ -106,7 +106,7 @@ pub fn prepared(
     }
 }
 
-/// What a batch is that has so many groups, which take so many log blocks.
+/// What a batch is that has this many groups, which take this many log blocks.
 fn kept_as(batch: &Batch, groups: usize, total: u64) -> Kept {
     (batch.first(), batch.shape(), batch.len(), groups, total)
 }

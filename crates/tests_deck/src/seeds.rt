@@ -164,7 +164,7 @@ fn lives(test: &impl Bench, seed: &mut Seed) -> u64 {
     lives_on(test, seed, disk, &mut Wanted { left, frame, homes })
 }
 
-/// Lives of a journal on one image after the other, until so many images were recovered.
+/// Lives of a journal on one image after the other, until this many images were recovered.
 fn live_all(test: &impl Bench) {
     let mut seed = Seed::of(1);
     let mut crashes: u64 = 0;

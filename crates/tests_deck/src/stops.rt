@@ -16,7 +16,7 @@ const MOST: u32 = 400;
 /// As many calls as the writes and syncs of a recovery here, or more.
 const LAST: u64 = 40;
 
-/// A number of versions is at most ten: this one names the newest of so many.
+/// A number of versions is at most ten: this one names the newest of this many.
 pub const NEW: u32 = 2519;
 
 /// More sectors than are pending at any moment, and the choices of one version for each: all are old, all new, old
@@ -88,7 +88,7 @@ fn choice(number: u32) -> [u32; SECTORS] {
     choice
 }
 
-/// Recovers what this choice leaves of a disk of this script, which is stopped after so many calls.
+/// Recovers what this choice leaves of a disk of this script, which is stopped after this many calls.
 pub fn mend(test: &impl Bench, calls: u64, disk: &MemoryDisk, choice: &[u32], wanted: &Wanted) {
     let mut image = crashed(test, disk, choice);
     wanted.mend(test, &mut image, calls)
@@ -101,7 +101,7 @@ fn mend_all(test: &impl Bench, calls: u64, disk: &MemoryDisk, choices: u32, want
     }
 }
 
-/// A recovery of what a crash left, that is stopped after so many calls.
+/// A recovery of what a crash left, that is stopped after this many calls.
 pub fn stopped(test: &impl Bench, disk: &MemoryDisk, calls: u64) -> Ran<MemoryDisk> {
     let mut fuse = FuseDisk::of(crashed(test, disk, &[]), calls);
     let ended = is_recovered(test.alloc(), &mut fuse);
@@ -143,7 +143,7 @@ fn fail_alike(test: &impl Bench, call: u64, stop: &mut Stop) -> bool {
     stop.ended
 }
 
-/// Stops the script after so many calls; whether it ended before. What it left mends, where recovery is stopped too,
+/// Stops the script after this many calls; whether it ended before. What it left mends, where recovery is stopped too,
 /// and is what it leaves where that call alone fails.
 fn stop_at(test: &impl Bench, number: u32) -> bool {
     let calls = u64::from(number);

@@ -105,7 +105,7 @@ fn choice(number: u32, last: usize) -> Choice {
     choice
 }
 
-/// Recovers what each choice leaves of a disk of the script, which is stopped after so many calls.
+/// Recovers what each choice leaves of a disk of the script, which is stopped after this many calls.
 fn mend_each(test: &impl Bench, calls: u64, disk: &MemoryDisk, wanted: &Wanted) {
     let last = last_sector(test, disk);
     for number in 0..CHOICES {
@@ -118,7 +118,7 @@ fn is_changed(test: &impl Test, disk: &MemoryDisk, image: &mut MemoryDisk) -> bo
     differs(test, disk, &[0; SECTORS], image) || differs(test, disk, &newest_from(0), image)
 }
 
-/// Stops the recovery of an image after so many calls of its own and crashes it by each choice; whether it ended
+/// Stops the recovery of an image after this many calls of its own and crashes it by each choice; whether it ended
 /// before. Where nothing was written yet, that leaves the image itself, which is recovered once.
 fn mend_once(
     test: &impl Bench,
@@ -155,7 +155,7 @@ fn mend_left(
     fail(test, "a recovery never ends")
 }
 
-/// Crashes a disk of the script, which is stopped after so many calls, by each choice and stops the recovery of each
+/// Crashes a disk of the script, which is stopped after this many calls, by each choice and stops the recovery of each
 /// image; how many images that are.
 fn mend_all(test: &impl Bench, calls: u64, disk: &MemoryDisk, wanted: &Wanted) -> u64 {
     let last = last_sector(test, disk);
@@ -174,7 +174,7 @@ fn is_worked(homes: &Homes) -> bool {
     SETTLED.contains(homes) || unwritten == SETTLED[1]
 }
 
-/// The script that is stopped after so many calls: what a crash may leave, how many images are recovered, and whether
+/// The script that is stopped after this many calls: what a crash may leave, how many images are recovered, and whether
 /// it ended.
 fn images_at(test: &impl Bench, calls: u64) -> (Left, u64, bool) {
     let stop = run_to(test, before(test), calls, &SCRIPT);
@@ -197,7 +197,7 @@ fn stop_each(test: &impl Bench) {
     fail(test, "it never ends")
 }
 
-/// The whole script makes so many calls, is crashed to so many images and leaves these homes.
+/// The whole script makes this many calls, is crashed to this many images and leaves these homes.
 fn end(test: &impl Test, calls: u64, images: u64, homes: &Homes) {
     check_at(test, calls == 139, "calls of the whole script:", calls);
     check_at(test, images == 109515, "images of the script:", images);

@@ -12,9 +12,9 @@ use std::process::Abort;
 /// A call, and what it answers.
 #[derive(Clone, Copy)]
 enum Call {
-    /// a seat opens a handle with so many credits
+    /// a seat opens a handle with this many credits
     Open(u64, u32, Result<(), BeginFault>),
-    /// a seat stops a handle with so many credits that revokes these home blocks, and is given a ticket
+    /// a seat stops a handle with this many credits that revokes these home blocks, and is given a ticket
     Stop(u64, u32, &'static [u64], Result<u64, EnqueueFault>),
     Drop(u64),
     /// gives a batch: its first ticket, and how many handles it has
@@ -82,7 +82,7 @@ static ROWS: [&[Call]; 4] = [
     ],
 ];
 
-/// A seat stops a handle with so many credits that revokes these home blocks.
+/// A seat stops a handle with this many credits that revokes these home blocks.
 fn stop(
     rt: &impl Abort,
     alloc: Global,

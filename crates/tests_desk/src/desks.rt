@@ -163,7 +163,7 @@ fn check_full<R: Abort + Wait, H: Origin, N: Ledger>(rt: &R, desk: &Small<H, N>)
     check(rt, two.is_none(), "a begin with two credits");
 }
 
-/// Begins so many handles of 6 credits, one in the other, and asks for more beside them.
+/// Begins this many handles of 6 credits, one in the other, and asks for more beside them.
 fn beside<R: Abort + Wait, H: Origin, N: Ledger>(rt: &R, desk: &Small<H, N>, count: u32) {
     if count == 0 {
         return check_full(rt, desk);

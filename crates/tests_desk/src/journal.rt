@@ -134,7 +134,7 @@ pub fn stop<R: Wait, D: Disk, H: Origin, N: Ledger>(
     }
 }
 
-/// Begins a handle of so many credits, writes home blocks and stops it. Gives its ticket, if it stopped.
+/// Begins a handle of this many credits, writes home blocks and stops it. Gives its ticket, if it stopped.
 pub fn write<R: Wait, D: Disk, H: Origin, N: Ledger>(
     rt: &R,
     desk: &Still<D, H, N>,

@@ -30,7 +30,7 @@ type Answer = Result<CheckpointRound, CheckpointFault>;
 /// then.
 type Row = (u64, u32, Answer, u8);
 
-/// Commits so many handles one by one, each of which writes the next home.
+/// Commits this many handles one by one, each of which writes the next home.
 fn commit_all<R: Wait, D: Disk, H: Origin, N: Ledger>(
     rt: &R,
     desk: &Still<D, H, N>,

@@ -225,7 +225,7 @@ fn crash(rt: &impl Abort, alloc: Global, seed: u64, draws: &mut Draws, disk: &mu
     *disk = left;
 }
 
-/// Checks that the homes hold what the stops of a load leave, all of them or, where the disk stopped, a first part of
+/// Checks that the homes hold what the stops of a load leave, all of them or, where the disk stopped, a prefix of
 /// them with all that are settled, after a crash and a recovery.
 fn check_outcome(
     rt: &impl Abort,

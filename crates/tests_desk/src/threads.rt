@@ -177,7 +177,7 @@ pub struct Worked<H: Origin, N: Ledger> {
     pub report: Report,
 }
 
-/// Takes a seat, begins so many handles, and leaves after the last one is settled.
+/// Takes a seat, begins this many handles, and leaves after the last one is settled.
 fn work<R: Abort + Wait + Clock, D: Disk, H: Origin, N: Ledger>(
     rt: &R,
     alloc: Global,
@@ -232,7 +232,7 @@ pub struct Reports<H: Origin, N: Ledger> {
     pub ended: (Ended, Ended),
 }
 
-/// Eight threads begin so many handles each; then the desk is shut.
+/// Eight threads begin this many handles each; then the desk is shut.
 fn work_eight<
     R: Abort + Threads + Wait + Clock + Sync,
     D: Disk + Send,
@@ -261,7 +261,7 @@ fn work_eight<
     reports.expect(rt, "memory")
 }
 
-/// Eight threads begin so many handles each, while one commits and one brings groups home.
+/// Eight threads begin this many handles each, while one commits and one brings groups home.
 pub fn work_all<
     R: Abort + Threads + Wait + Clock + Sync,
     D: Disk + Send,

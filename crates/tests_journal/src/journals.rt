@@ -21,7 +21,7 @@ pub fn formatted(test: &impl Bench, size: BlockSize) -> MemoryDisk {
     disk
 }
 
-/// How a journal is run by so many workers.
+/// How a journal is run by this many workers.
 pub fn by(workers: usize) -> Options
     ensures { (1 ≤ result.workers) × (result.workers ≤ 64) }
 {

@@ -15,7 +15,7 @@ fn check_done(test: &impl Test, answers: &[Found]) {
     check(test, *bytes == [7; 1024], "what the second worker reads");
 }
 
-/// Checks what the two workers have done, and what stands of it.
+/// Checks what the two workers have done, and what is kept of it.
 fn check_told(rt: &impl Host) {
     let test = By(rt, rt.alloc());
     let disk = formatted(&test, BlockSize::OneKib);

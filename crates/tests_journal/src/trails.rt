@@ -20,7 +20,7 @@ struct Taken {
     first: Result<u32, WaitFault>,
 }
 
-/// A worker writes a home so many times, waits each time, and takes the trail.
+/// A worker writes a home this many times, waits each time, and takes the trail.
 #[derive(Drop)]
 struct Long {
     rounds: u64,

@@ -20,7 +20,7 @@ pub type Found = (
     Option<u8>,
 );
 
-/// Each worker writes one more than its place to two homes, by one handle of so many credits; the second home is this
+/// Each worker writes one more than its place to two homes, by one handle of this many credits; the second home is this
 /// much after the first.
 #[derive(Drop)]
 pub struct Pairs {
@@ -132,7 +132,7 @@ fn check_homes(test: &impl Test, found: [u8; 10]) {
     check(test, found[5] == 0, "home 5");
 }
 
-/// Checks that what four workers have waited for stands.
+/// Checks that what four workers have waited for is kept.
 fn check_waited(rt: &impl Host) {
     let test = By(rt, rt.alloc());
     let ran = run_new(rt, by(4), &PAIRS);

@@ -147,7 +147,7 @@ static FAULTY: [Faulty; 26] = [
     Faulty("prices 0 4\ncut 0\ntotal 0\n", CertFault::Length),
 ];
 
-/// The fault of a text that is no certificate of so many handles.
+/// The fault of a text that is no certificate of this many handles.
 fn fault_of(alloc: Global, text: &[u8], handles: usize) -> Option<CertFault> {
     read_cert(alloc, text, handles).err()
 }

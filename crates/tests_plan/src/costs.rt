@@ -176,7 +176,7 @@ fn check_rows(test: &impl Test, alloc: Global) {
     }
 }
 
-/// Checks the cost of a handle of so many words.
+/// Checks the cost of a handle of this many words.
 fn check_words(test: &impl Test, alloc: Global, wanted: &Full, row: u64) {
     let Full(front, letter, count, cost) = wanted;
     let text = one_handle(test, alloc, front, letter, *count);

@@ -15,7 +15,7 @@ const SMALL: Shape = Shape {
     width: Width::Narrow,
 };
 
-/// A change of a home block, by a copy of so many bytes or by a freed block; and its refusal.
+/// A change of a home block, by a copy of this many bytes or by a freed block; and its refusal.
 struct Row(u64, Option<usize>, Option<TouchFault>);
 
 /// Changes of a handle with two credits, one after the other.
@@ -53,7 +53,7 @@ fn word_of(test: &impl Test, alloc: Global, len: Option<usize>) -> Word {
     }
 }
 
-/// Whether a word is a copy of so many bytes that begins with these.
+/// Whether a word is a copy of this many bytes that begins with these.
 pub fn is_copy(word: Option<&Word>, len: usize, front: [u8; 4]) -> bool {
     match word {
         Some(Word::Copy(payload)) if payload.len() == len && len > 3 => payload.front() == front,

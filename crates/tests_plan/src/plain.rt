@@ -19,7 +19,7 @@ impl PlainPlan {
         Ok(PlainPlan { prices, froms })
     }
 
-    /// Adds the least price of a first part, and the bound from which it is attained, if one is.
+    /// Adds the least price of a prefix, and the bound from which it is attained, if one is.
     fn push(&mut self, best: Option<(u64, usize)>) -> Result<(), Memory> {
         match best {
             Some((total, from)) => {
@@ -35,7 +35,7 @@ impl PlainPlan {
     }
 }
 
-/// The least price of each first part of a queue, and the first bound from which its last group attains it.
+/// The least price of each prefix of a queue, and the first bound from which its last group attains it.
 pub(crate) fn plan_plainly(
     test: &impl Test,
     alloc: Global,

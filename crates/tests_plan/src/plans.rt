@@ -46,7 +46,7 @@ static PLANS: [Row; 10] = [
     ),
 ];
 
-/// The certificate of a text, with a price for each first part of the handles.
+/// The certificate of a text, with a price for each prefix of the handles.
 pub fn cert_of(test: &impl Test, alloc: Global, text: &str, handles: usize) -> Cert
     ensures { length result.prices.items ≡ handles + 1 }
 {
@@ -133,7 +133,7 @@ fn is_cut(prepared: &Prepared, answer: &CertAnswer) -> bool {
     }
 }
 
-/// Whether a prepared batch has the prices and the cut of a certificate, and so many handles.
+/// Whether a prepared batch has the prices and the cut of a certificate, and this many handles.
 fn is_prepared(prepared: &Prepared, cert: &Cert, count: usize) -> bool {
     is_cut(prepared, &cert.answer)
         && prepared.prices() == cert.prices.as_slice()
@@ -165,7 +165,7 @@ fn check_prepared(test: &impl Test, alloc: Global, batch: Batch, cert: &Cert, ro
     check_at(test, back.end().len() == count, "what comes back of", row)
 }
 
-/// Checks what a batch of so many handles is made of.
+/// Checks what a batch of this many handles is made of.
 fn check_made(test: &impl Test, batch: &Batch, shape: Shape, count: usize, row: u64) {
     let is_first = batch.first() == 0 && batch.shape() == shape;
     check_at(test, is_first, "what the batch is made of in row", row);

@@ -12,7 +12,7 @@ use tests_support::{Must, Test, check, check_at};
 
 const TEXT: &str = "bs 1024\nlimit 7\nh w1 w2 w3\nh w3 w4 w5\nh w1 w2\n";
 
-/// What each prefix of it is, by its length from 0 on: without a first line, without a second one, a queue of so many
+/// What each prefix of it is, by its length from 0 on: without a first line, without a second one, a queue of this many
 /// handles, or one whose last line ends in a word that is none.
 const PREFIXES: &[u8] = b"bbbbbbbllllllll001ww1ww1ww112ww2ww2ww223ww3ww33";
 
@@ -111,7 +111,7 @@ static QUEUES: [Queue; 4] = [
     ),
 ];
 
-/// Whether a word is a copy of so many bytes that begins with these, or, without any, that it is free.
+/// Whether a word is a copy of this many bytes that begins with these, or, without any, that it is free.
 fn is_word(word: Option<&Word>, size: usize, bytes: Option<[u8; 4]>) -> bool {
     match bytes {
         Some(bytes) => is_copy(word, size, bytes),
@@ -176,7 +176,7 @@ fn are_alike(one: &Words, other: &Words) -> bool {
     true
 }
 
-/// The words of the handle that comes next but so many.
+/// The words of the handle that comes after this many others.
 fn read_words(
     test: &impl Test,
     alloc: Global,
@@ -186,7 +186,7 @@ fn read_words(
     reader.read(alloc, passed).must(test, "memory")
 }
 
-/// Checks the handles that are read from lines: the first one, and those that are so many after the one before.
+/// Checks the handles that are read from lines: the first one, and those that are this many after the one before.
 fn check_each(
     test: &impl Test,
     alloc: Global,

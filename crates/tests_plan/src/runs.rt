@@ -7,7 +7,7 @@ use jb_handle::{Op, Payload, Shape};
 use std::alloc::Global;
 use tests_support::{Must, Test, check_at};
 
-/// What happens in a step: a write is of so many zeros to a home block.
+/// What happens in a step: a write is of this many zeros to a home block.
 #[derive(Clone, Copy)]
 enum Step {
     Open(u64, u32),
@@ -146,7 +146,7 @@ static ROWS: [Row; 8] = [
     ),
 ];
 
-/// A small journal whose groups take at most so many log blocks.
+/// A small journal whose groups take at most this many log blocks.
 fn shape(limit: u32) -> Option<Shape> {
     if limit < 3 {
         return None;

@@ -168,7 +168,7 @@ fn check_plain(
 /// How many queues there are of no handle, of one, and so on.
 static QUEUES: [u32; 5] = [1, 27, 729, 19_683, 531_441];
 
-/// Checks that no cut of a queue of so many handles beats its plan.
+/// Checks that no cut of a queue of this many handles beats its plan.
 fn check_short(test: &impl Test, alloc: Global, handles: usize, number: u32) {
     let numbers = [number, number / 27, number / 729, number / 19_683];
     let four = numbers.map(|number| changes_of(number % 27));
@@ -193,7 +193,7 @@ fn no_cut_of_a_short_queue_beats_the_plan(rt: HostRuntime) {
     check_each(&By(&rt), rt.alloc())
 }
 
-/// A handle of up to three words over so many homes.
+/// A handle of up to three words over this many homes.
 fn chance_handle(test: &impl Test, alloc: Global, seed: &mut Seed, homes: u64) -> Stopped {
     let mut words = Words::new(alloc);
     for _ in 0..seed.below(4) {

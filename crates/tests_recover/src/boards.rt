@@ -22,7 +22,7 @@ fn counts(settled: u64, taken: u64, stopped: u64) -> Front {
     }
 }
 
-/// A ledger's book that has counted so many tickets.
+/// A ledger's book that has counted this many tickets.
 fn counted<L: Ledger>(blank: Blank, count: u64) -> Book<L>
     requires name { blank.name ≡ L.name }
     requires parts { (blank.parts ≡ L.parts) × (L.parts ≡ 1) }

@@ -18,7 +18,7 @@ fn is_mixed(block: &[u8; 1024], one: &[u8; 1024], other: &[u8; 1024]) -> bool {
     first && second
 }
 
-/// Whether a block is a block of the log, in the sectors where it is not what stood.
+/// Whether a block is a block of the log, in the sectors where it is not what was there.
 fn is_logged(test: &impl Test, log: &mut MemoryDisk, block: &[u8; 1024], old: &[u8; 1024]) -> bool {
     let mut copy = [0; 1024];
     for place in 1..HOMES {
@@ -30,7 +30,7 @@ fn is_logged(test: &impl Test, log: &mut MemoryDisk, block: &[u8; 1024], old: &[
     false
 }
 
-/// Whether a home is as it stood, as it is to stand, or a block of the log.
+/// Whether a home is as it was, as it is to be, or a block of the log.
 fn is_copied(
     test: &impl Test,
     left: &mut MemoryDisk,
@@ -55,7 +55,7 @@ fn check_left(test: &impl Bench, case: &Case, disk: &MemoryDisk, version: u32, c
     }
 }
 
-/// Checks the homes of a recovery that is broken off after so many calls; whether it had ended.
+/// Checks the homes of a recovery that is broken off after this many calls; whether it had ended.
 fn check_broken(test: &impl Bench, case: &Case, calls: u64) -> bool {
     let mut fuse = FuseDisk::of(before(test, case), calls);
     let ended = recovers(test, case, &mut fuse);

@@ -15,7 +15,7 @@ pub const MOST: u64 = 200;
 
 /// A small image with these rows, or with none the image that wraps; whether its recovery looks at checksums; the rows
 /// that it changes; how many calls of the disk it makes; and the mixtures of its pending sectors: each sector is one of
-/// so many versions, and there are so many mixtures, or too many.
+/// this many versions, and there are this many mixtures, or too many.
 pub struct Case {
     pub name: &'static str,
     is_summed: bool,

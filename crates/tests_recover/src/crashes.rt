@@ -22,7 +22,7 @@ fn mends_each(
     true
 }
 
-/// Checks what a crash after so many calls leaves of a recovery; whether that had ended.
+/// Checks what a crash after this many calls leaves of a recovery; whether that had ended.
 fn break_off(test: &impl Bench, case: &Case, calls: u64, wanted: &mut MemoryDisk) -> bool {
     let mut fuse = FuseDisk::of(before(test, case), calls);
     let ended = recovers(test, case, &mut fuse);

@@ -137,7 +137,7 @@ fn numbered(test: &impl Test, alloc: Global) -> MemoryDisk {
     disk
 }
 
-/// The disk once a run was written to it, by so many calls that pass a fuse.
+/// The disk once a run was written to it, by this many calls that pass a fuse.
 fn left_by(test: &impl Test, alloc: Global, of: &Written, row: u64) -> MemoryDisk {
     let mut fuse = FuseDisk::of(numbered(test, alloc), of.0);
     let is_written = fill_run(&mut fuse, 1, 3, 7).is_ok() == of.2;

@@ -1,4 +1,4 @@
-//! Lists of extents, and a journal that stands within its home blocks.
+//! Lists of extents, and a journal that is within its home blocks.
 
 use crate::checks::By;
 use crate::pairs::look;
@@ -9,7 +9,7 @@ use tests_support::{
     Bench, Must, Test, check, check_at, check_in, check_row, crashed, write_block, zeros,
 };
 
-/// What a list says: where these blocks of the journal stand, and how many blocks it has; or none.
+/// What a list says: where these blocks of the journal are, and how many blocks it has; or none.
 type Said = Option<(&'static [(u64, Option<u64>)], u64)>;
 
 /// Lists, as debugfs prints them and otherwise.
@@ -75,7 +75,7 @@ fn check_list(test: &impl Bench, text: &'static str, said: Said) {
     }
 }
 
-/// Checks where blocks of the journal stand.
+/// Checks where blocks of the journal are.
 fn check_places(
     test: &impl Test,
     text: &'static str,
@@ -164,7 +164,7 @@ fn check_parted(test: &impl Bench) {
     }
 }
 
-/// The lowest block that stands in two extents.
+/// The lowest block that is in two extents.
 fn lowest(test: &impl Bench, extents: &Extents) -> Option<u64> {
     extents.shared(test.alloc()).must(test, "memory")
 }

@@ -26,7 +26,7 @@ pub fn apart(test: &impl Bench, whole: &mut MemoryDisk) -> (MemoryDisk, MemoryDi
     pair.into_parts()
 }
 
-/// An image with the journal in two extents behind its home blocks, as one disk.
+/// An image with the journal in two extents after its home blocks, as one disk.
 pub fn within<D: Disk>(test: &impl Bench, image: D) -> ExtentsDisk<D> {
     let extents = Extents::read(test.alloc(), b"(0-19):29-48, (20-32):16-28");
     ExtentsDisk::of(image, extents.must(test, "a list"), HOMES)

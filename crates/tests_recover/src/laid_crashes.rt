@@ -32,7 +32,7 @@ fn mends_pairs(
     true
 }
 
-/// Checks what a crash leaves of two disks after so many calls of each; whether the recovery had ended.
+/// Checks what a crash leaves of two disks after this many calls of each; whether the recovery had ended.
 fn break_pair(test: &impl Bench, case: &Case, calls: (u64, u64), wanted: &mut MemoryDisk) -> bool {
     let (journal, homes) = apart(test, &mut before(test, case));
     let mut pair = PairDisk::of(FuseDisk::of(journal, calls.0), FuseDisk::of(homes, calls.1));
@@ -97,7 +97,8 @@ fn mends_within(
     true
 }
 
-/// Checks what a crash after so many calls leaves of an image with the journal within; whether its recovery had ended.
+/// Checks what a crash after this many calls leaves of an image with the journal within; whether its recovery had
+/// ended.
 fn break_within(test: &impl Bench, case: &Case, calls: u64, wanted: &mut MemoryDisk) -> bool {
     let image = within_of(test, &mut before(test, case));
     let mut disk = within(test, FuseDisk::of(image, calls));

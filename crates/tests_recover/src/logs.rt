@@ -77,7 +77,7 @@ pub const BAD_BEHIND: [Row; 6] = [
     (5, 0, [MAGIC, 2, 3, 0]),
 ];
 
-/// The rows of a log without so many of the last ones.
+/// The rows of a log without this many of the last ones.
 pub fn cut_off(rows: &[Row], cut: usize) -> &[Row] {
     &rows[..rows.len().saturating_sub(cut)]
 }

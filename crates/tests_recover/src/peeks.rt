@@ -10,7 +10,7 @@ use jb_recover::PeekFault;
 use jb_super::SuperFault;
 use tests_support::{Bench, check, check_at, check_none, check_row, difference, zeros};
 
-/// A name, a small image with these rows but for so many of the last ones, a home block, what a peek answers, and the
+/// A name, a small image with these rows but for this many of the last ones, a home block, what a peek answers, and the
 /// first word of the bytes afterwards.
 type Case = (
     &'static str,

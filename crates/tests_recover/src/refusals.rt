@@ -7,7 +7,7 @@ use crate::small::{MAGIC, check_recovery};
 use jb_recover::RecoverFault;
 use tests_support::Bench;
 
-/// A name, a small image with these rows but for so many of the last ones, and why it is refused.
+/// A name, a small image with these rows but for this many of the last ones, and why it is refused.
 type Refused = (&'static str, &'static [Row], usize, RecoverFault);
 
 const OUT: RecoverFault = RecoverFault::HomeOutOfRange(16, 2);

@@ -34,17 +34,17 @@ fn cleans<D: Disk>(disk: &mut D) -> bool {
     clean_checked(disk, Sums::Whole, 2, &mut [0; 1024]).is_ok()
 }
 
-/// A journal with checksums, of which so many calls succeed.
+/// A journal with checksums, of which this many calls succeed.
 fn fused(test: &impl Bench, calls: u64) -> FuseDisk<MemoryDisk> {
     FuseDisk::of(small(test, &V3, &[]), calls)
 }
 
-/// Whether home 5, of which the log has a copy, is peeked at by so many.
+/// Whether home 5, of which the log has a copy, is peeked at by this many.
 fn is_peeked(test: &impl Bench, calls: u64) -> bool {
     peeked(&mut fused(test, calls), 5).0.is_ok()
 }
 
-/// Whether a recovery is foreseen by so many.
+/// Whether a recovery is foreseen by this many.
 fn is_foreseen(test: &impl Bench, calls: u64) -> bool {
     foresee_checked(test.alloc(), &mut fused(test, calls)).is_ok()
 }
@@ -54,7 +54,7 @@ fn is_unread(test: &impl Bench, calls: u64) -> bool {
     foresee_unread(test.alloc(), &mut fused(test, calls)).is_ok()
 }
 
-/// Checks that each ends by so many calls of the disk, and not by one less.
+/// Checks that each ends by this many calls of the disk, and not by one less.
 fn check_counts(test: &impl Bench) {
     let are_read = !reads(&mut fused(test, 0)) && reads(&mut fused(test, 1));
     check_row(test, are_read, "read_checked", "its calls");

@@ -1,5 +1,5 @@
 //! Loads over disks that fail at each of their calls: the counts add up, all threads end, and recovery finds the homes
-//! as the first so many handles leave them.
+//! as the first handles leave them, this many of them.
 
 use crate::checks::{check_at, fail};
 use crate::lent::Fails;

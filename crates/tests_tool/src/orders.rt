@@ -90,7 +90,7 @@ fn threads_load_all_in_some_order(rt: HostRuntime) {
     check_orders(&rt, rt.alloc())
 }
 
-/// Adds the line of a handle, which writes its number to home 1, and zeros to so many further homes.
+/// Adds the line of a handle, which writes its number to home 1, and zeros to this many further homes.
 fn put_handle(rt: &impl Abort, text: &mut String, number: u32, more: u32) {
     write!(text, "h w1={:02x}", number % 256).expect(rt, "memory");
     for home in 0..more {
@@ -99,7 +99,7 @@ fn put_handle(rt: &impl Abort, text: &mut String, number: u32, more: u32) {
     text.push_str("\n").expect(rt, "memory")
 }
 
-/// The text of so many handles.
+/// The text of this many handles.
 fn writers(rt: &impl Abort, alloc: Global, handles: u32, more: u32) -> String {
     let mut text = String::new(alloc);
     text.push_str("bs 1024\nlimit 8\n").expect(rt, "memory");
@@ -109,8 +109,8 @@ fn writers(rt: &impl Abort, alloc: Global, handles: u32, more: u32) -> String {
     text
 }
 
-/// So many threads load so many handles with so many further homes, perhaps before anything is committed, to a disk of
-/// which each sync takes so many milliseconds; why a handle is refused, if one is, and how many stop.
+/// This many threads load this many handles with this many further homes, perhaps before anything is committed, to a
+/// disk of which each sync takes this many milliseconds; why a handle is refused, if one is, and how many stop.
 #[derive(Clone, Copy)]
 struct Waits {
     threads: usize,
@@ -181,7 +181,7 @@ fn check_waits(rt: &impl Loads, alloc: Global, row: &Waits, at: usize) {
     check_at(rt, is_last, "the first home, row", at)
 }
 
-/// Checks that a row takes less than so many seconds: no more than one of the workers waits in vain.
+/// Checks that a row takes less than this many seconds: no more than one of the workers waits in vain.
 fn check_soon(rt: &impl Loads, alloc: Global, row: &Waits, at: usize) {
     let start = Instant::now(rt).expect(rt, "a clock");
     check_waits(rt, alloc, row, at);

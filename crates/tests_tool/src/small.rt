@@ -33,7 +33,7 @@ pub const HOMES: usize = 16;
 pub const FOUR: &str =
     "bs 1024\nlimit 6\nh w1=01 w2=02\nh w3=03 w4=04\nh w3=13 w4=14\nh w3=23 w4=24 w5=25\n";
 
-/// A journal of 32 usable log blocks and 16 home blocks of zeros, of which a group takes so many log blocks at most,
+/// A journal of 32 usable log blocks and 16 home blocks of zeros, of which a group takes this many log blocks at most,
 /// after a transaction of this number.
 pub fn formatted(rt: &impl Abort, alloc: Global, most: u32, number: u32) -> MemoryDisk {
     let mut disk = MemoryDisk::new(alloc, BlockSize::OneKib, 49).expect(rt, "memory");

@@ -20,7 +20,7 @@ impl Read for Closed {
     }
 }
 
-/// An output that takes so many bytes and then fails, and whose flush fails too where it is stuck.
+/// An output that takes this many bytes and then fails, and whose flush fails too where it is stuck.
 #[derive(Drop)]
 struct Torn {
     left: usize,

@@ -165,7 +165,7 @@ fn each_run_answers_its_row(rt: HostRuntime) {
     check_runs(&rt)
 }
 
-/// Checks an input that is so many bytes longer than a text may be: all of them but one are left.
+/// Checks an input that is this many bytes longer than a text may be: all of them but one are left.
 fn check_long(rt: &impl Host, past: u64, err: &'static str, row: usize) {
     let mut input = io::repeat(b'x').take((TEXT_LIMIT as u64).saturating_add(past));
     let ran = ran_from(rt, "cost -", &mut input);

@@ -24,7 +24,7 @@ const JOURNAL: Word = Word {
     help: "The file with the journal; IMAGE has the home blocks alone then",
 };
 
-/// The option for where the journal stands within the image.
+/// The option for where the journal is within the image.
 const EXTENTS: Word = Word {
     name: "extents",
     kind: Kind::Text("LIST"),

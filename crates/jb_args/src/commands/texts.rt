@@ -1,8 +1,8 @@
-//! What stands at the end of long help: the statuses of a command, and an example.
+//! What is at the end of long help: the statuses of a command, and an example.
 
 use crate::diagnostics;
 
-/// What stands at the end of the long help of `jb`, with the table of what can go wrong.
+/// What is at the end of the long help of `jb`, with the table of what can go wrong.
 macro_rules! long_help_end {
     (
         lines { $($hint:ident, $begins:literal, $rest:literal, $advice:literal $(: $beside:literal)?;)* }

@@ -133,7 +133,7 @@ fn widen_opened<'a, D: Disk, E: Disk>(
     }
 }
 
-/// Whether the journal of an image, where it stands within the home blocks, is their file system's own.
+/// Whether the journal of an image, where it is within the home blocks, is their file system's own.
 fn judge_within<'a, D: Disk, E: Disk>(disk: &mut ImageDisk<D, E>) -> Result<(), CommandFault<'a>>
     ensures { JudgesBeside Refused (as_disks D.Disk E.Disk) (is_within disk.old) RecoverInPlace false disk.old
         disk.new result }

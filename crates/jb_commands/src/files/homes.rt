@@ -62,7 +62,7 @@ pub fn cat_file<'a, S: Start, T: Start, R: Files<File = File> + AllocGlobal, I: 
     }
 }
 
-/// The same of an image that is open, with so many home blocks.
+/// The same of an image that is open, with this many home blocks.
 ///
 /// # Errors
 /// `CommandFault::Extents` where a home block that is asked for is one of the journal's own: nothing is written then;

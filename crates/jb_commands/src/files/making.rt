@@ -25,7 +25,7 @@ const EXISTS: i32 = 17;
 /// blocks of zeros after it. Reports the most log blocks of a transaction.
 ///
 /// # Errors
-/// `CommandFault::BadOption` where an option is bad, and `CommandFault::Geometry` where a journal may not have so
+/// `CommandFault::BadOption` where an option is bad, and `CommandFault::Geometry` where a journal may not have this
 /// many blocks, before any file is looked at; `CommandFault::CannotMake` where the file is there already, another
 /// process makes it, another file has its name with `.jb-unfinished` after it, or the system refuses it;
 /// `CommandFault::NoLinks` where its file system has no links; `CommandFault::Memory` where memory ran out;
@@ -58,7 +58,7 @@ pub fn format_file<'a, S: Start, T: Start, R: Files<File = File> + AllocGlobal>(
     make_file(rt, image, new, limit)
 }
 
-/// The most log blocks of a transaction of a new journal, or `None` where a journal may not have so many blocks.
+/// The most log blocks of a transaction of a new journal, or `None` where a journal may not have this many blocks.
 fn limit_of(new: ImageGeometry) -> Option<u32>
     ensures good { IsSome result ↔ IsJournalLength new.journal }
     ensures value { IfSome result (λ limit. limit ≡ new_limit_of new) }

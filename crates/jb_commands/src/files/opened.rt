@@ -12,7 +12,7 @@ pub struct OpenedImage<S: Start, T: Start> {
     pub disk: ImageDisk<FileDisk<S>, FileDisk<T>>,
     /// How many home blocks it has, and can be named in its journal.
     pub homes: u64,
-    /// What says where the journal stands, where it is a file system's own that was looked for; `None` where it is at
+    /// What says where the journal is, where it is a file system's own that was looked for; `None` where it is at
     /// the front, in a file of its own, or in the extents of a list.
     pub found: Option<MapSource>,
 }

@@ -76,7 +76,7 @@ fn open_one<S: Start, T: Start, R: Files<File = File> + AllocGlobal>(
     }
 }
 
-/// The file of this name as a disk behind a journal in the file of the other name, and the number of its home blocks.
+/// The file of this name as a disk after a journal in the file of the other name, and the number of its home blocks.
 fn open_two<S: Start, T: Start, R: Files<File = File> + AllocGlobal>(
     rt: &R,
     name: &str,
@@ -122,7 +122,7 @@ fn open_log<S: Start, R: Files<File = File> + AllocGlobal>(
     }
 }
 
-/// Whether a file of so many blocks is a journal with this superblock and nothing more.
+/// Whether a file of this many blocks is a journal with this superblock and nothing more.
 fn judge_length(blocks: u64, sb: &Super) -> Result<(), PairFault>
     requires { SaysSuper sb.now }
     ensures shut { IfErr result IsPairShut }
@@ -181,7 +181,7 @@ fn paired<A: Disk, B: Disk>(log: A, rest: B, sb: &Super) -> (PairDisk<A, B>, u64
     counted(PairDisk::of(log, rest), sb)
 }
 
-/// A disk behind a journal, or with one, and the number of its home blocks.
+/// A disk after a journal, or with one, and the number of its home blocks.
 pub(crate) fn counted<D: Disk>(disk: D, sb: &Super) -> (D, u64)
     ensures disk { result.0 ≡ disk }
     ensures homes { result.1 ≡ homes_in sb.now (D.count disk) }
@@ -190,7 +190,7 @@ pub(crate) fn counted<D: Disk>(disk: D, sb: &Super) -> (D, u64)
     (disk, homes)
 }
 
-/// How many home blocks are after the journal on a disk of so many blocks, and can be named in it.
+/// How many home blocks are after the journal on a disk of this many blocks, and can be named in it.
 fn homes_after(sb: &Super, blocks: u64) -> u64
     ensures { result ≡ homes_in sb.now blocks }
 {

@@ -120,7 +120,7 @@ fn front_in(front: &[u8], sums: Checksums) -> Result<ImageFront, FileFault>
     }
 }
 
-/// The size of the blocks of the file system whose superblock stands after 1,024 of these bytes, if there is one.
+/// The size of the blocks of the file system whose superblock is after 1,024 of these bytes, if there is one.
 fn system_size(front: &[u8]) -> Option<BlockSize>
     ensures { result ≡ system_size front.now }
 {
@@ -140,7 +140,7 @@ fn said_size(system: Option<FileSystem>) -> Option<BlockSize>
     }
 }
 
-/// The size of blocks with so many bytes; of 1 KiB where a journal's have another one, which is refused once the
+/// The size of blocks with this many bytes; of 1 KiB where a journal's have another one, which is refused once the
 /// superblock is read.
 fn size_said(bytes: u32) -> BlockSize
     ensures { result ≡ size_said bytes }
@@ -223,7 +223,7 @@ fn open_own<S: Start, T: Start>(
     }
 }
 
-/// An image whose journal stands in the extents of a list. Where it is a file system of ext2, ext3 or ext4, these have
+/// An image whose journal is in the extents of a list. Where it is a file system of ext2, ext3 or ext4, these have
 /// to be the blocks of its own journal.
 ///
 /// # Errors

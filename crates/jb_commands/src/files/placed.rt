@@ -1,4 +1,4 @@
-//! Images whose journal stands at the front, in a file of its own, or within the home blocks.
+//! Images whose journal is at the front, in a file of its own, or within the home blocks.
 ghost use Rattle.std.specs.Prelude.{◌≡◌, false, option_map, None, Some, IfErr, IfOk};
 ghost use Rattle.jb_disk.specs.File.{IsMeasured, size_of_blocks};
 ghost use Rattle.jb_image.specs.Disks.{whole_disk};
@@ -30,7 +30,7 @@ use std::rt::Files;
 
 /// The image of this name: as `open_by_front`, with a journal's own file as `open_counted`, or with extents as
 /// `open_compared`; what is read for these may be `input`. Where its journal was looked for, it is also said what says
-/// where that stands. The journal has checksums only where these are allowed; they are not judged here.
+/// where that is. The journal has checksums only where these are allowed; they are not judged here.
 ///
 /// # Errors
 /// Those of the three, and `CommandFault::BadOption` where both places of the journal are given.
@@ -86,7 +86,7 @@ fn open_beside<'a, S: Start, T: Start, R: Files<File = File> + AllocGlobal>(
     }
 }
 
-/// The image of this name, whose journal stands in the blocks of a list: as `open_listed`. Where it is a file system of
+/// The image of this name, whose journal is in the blocks of a list: as `open_listed`. Where it is a file system of
 /// ext2, ext3 or ext4, these have to be its own journal's.
 ///
 /// # Errors
@@ -118,7 +118,7 @@ fn open_compared<'a, S: Start, T: Start, R: Files<File = File> + AllocGlobal, I:
     }
 }
 
-/// The file of this name as a disk whose journal stands in the blocks of a list, and the number of its home blocks: as
+/// The file of this name as a disk whose journal is in the blocks of a list, and the number of its home blocks: as
 /// `open_within`, with the list that a word is, or names.
 ///
 /// # Errors
@@ -144,7 +144,7 @@ fn open_listed<'a, S: Start, T: Start, R: Files<File = File> + AllocGlobal, I: R
     }
 }
 
-/// The file of this name as a disk whose journal stands in the blocks that a list says, and the number of its home
+/// The file of this name as a disk whose journal is in the blocks that a list says, and the number of its home
 /// blocks. The block size is the file system's, or that with which a superblock is found at the first of them.
 ///
 /// # Errors
@@ -183,7 +183,7 @@ fn extents_of(alloc: Global, list: &[u8]) -> Result<Extents, WithinFault>
     }
 }
 
-/// The file of this name as a disk whose journal stands in these extents, and the number of its home blocks.
+/// The file of this name as a disk whose journal is in these extents, and the number of its home blocks.
 ///
 /// # Errors
 /// `WithinFault::File` where the file is not opened or read; those of `super_within`, and those of `joined`.
@@ -234,7 +234,7 @@ fn open_found<S: Start, R: Files<File = File> + AllocGlobal>(
     }
 }
 
-/// A file, in extents of which a journal with this superblock stands, as one disk.
+/// A file, in extents of which a journal with this superblock is, as one disk.
 ///
 /// # Errors
 /// `PastEnd` where an extent is not in the file, `Short` where they have fewer blocks than the journal, `Long` where

@@ -104,7 +104,7 @@ fn opening_of(dry_run: bool, force: bool) -> Opening
     }
 }
 
-/// The same of an image that is open, with so many home blocks.
+/// The same of an image that is open, with this many home blocks.
 fn recover_opened<'a, D: Disk, E: Disk>(
     alloc: Global,
     disk: &mut ImageDisk<D, E>,
@@ -200,7 +200,7 @@ fn foreseen_end<'a, D: Disk, E: Disk>(
     }
 }
 
-/// Recovers an image. Where its journal stands within its home blocks, it is foreseen first whether no copy is for one
+/// Recovers an image. Where its journal is within its home blocks, it is foreseen first whether no copy is for one
 /// of those.
 ///
 /// # Errors
@@ -220,7 +220,7 @@ fn recover_image<'a, D: Disk, E: Disk>(
     }
 }
 
-/// Whether a recovery of an image may write: no copy is for a home block that is the journal's own, where that stands
+/// Whether a recovery of an image may write: no copy is for a home block that is the journal's own, where that is
 /// within the home blocks. The data of copies is read only where one is; else the recovery itself judges it.
 fn check_own<'a, D: Disk, E: Disk>(
     alloc: Global,

@@ -47,7 +47,7 @@ pub(crate) enum PairFault {
     Journal(FileFault),
     /// The journal's file has fewer blocks than the journal.
     Short,
-    /// The journal's file has so many blocks, more than its superblock says, which is the second number.
+    /// The journal's file has this many blocks, more than its superblock says, which is the second number.
     Long(u64, u32),
     /// The file of the home blocks is not opened.
     Homes(FileFault),

@@ -43,7 +43,7 @@ pub fn read_file<'a, R: Files + AllocGlobal>(
     read_file_within(rt, name, TEXT_LIMIT)
 }
 
-/// The text of the file of this name, which may have so many bytes.
+/// The text of the file of this name, which may have this many bytes.
 ///
 /// # Errors
 /// `CommandFault::CannotRead` where the file cannot be opened or read, `CommandFault::TooLong` where it has more

@@ -15,7 +15,7 @@ use jb_scan::Summed;
 use jb_super::SuperFault;
 use std::io::Write;
 
-/// The numbers of a line, which stand after its words.
+/// The numbers of a line, which are after its words.
 #[derive(Clone, Copy)]
 pub(crate) enum Numbers {
     None,

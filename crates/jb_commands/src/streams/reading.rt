@@ -13,7 +13,7 @@ pub const TEXT_LIMIT: usize = 16_777_216;
 /// any queue text within its limit can be read back.
 pub const CERT_LIMIT: usize = 9 * TEXT_LIMIT;
 
-/// The whole of a reader, as the text of this name, which may have so many bytes.
+/// The whole of a reader, as the text of this name, which may have this many bytes.
 ///
 /// # Errors
 /// `CommandFault::CannotRead` where a read failed, `CommandFault::TooLong` where there are more bytes than `limit`,

@@ -18,7 +18,7 @@ use std::io::Write;
 
 /// Recovers the journal at the front of a disk: the home blocks after it are written as its committed transactions say,
 /// and its log is emptied. Reports how many transactions there were, how many copies were written and how many are
-/// revoked, and the number of the next transaction; and what said where the journal stands, where it was looked for.
+/// revoked, and the number of the next transaction; and what said where the journal is, where it was looked for.
 /// Only the recovery takes memory. The journal has checksums only where these are allowed, and is judged by them.
 ///
 /// # Errors

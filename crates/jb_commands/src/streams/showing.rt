@@ -11,7 +11,7 @@ use jb_super::Checksums;
 use std::alloc::Global;
 use std::io::Write;
 
-/// Writes so many home blocks of a disk from this one on, as [`cat_on`]. Where none is asked for, the first one is
+/// Writes this many home blocks of a disk from this one on, as [`cat_on`]. Where none is asked for, the first one is
 /// peeked at all the same, so that no image passes unread, and nothing is written.
 ///
 /// # Errors

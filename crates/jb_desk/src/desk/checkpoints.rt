@@ -28,7 +28,7 @@ impl<D: Disk, C: Clock, H: Origin, N: Ledger> Desk<D, C, H, N> {
         self.works.lock(rt).checkpoint()
     }
 
-    /// Writes the committed groups home together, at most 64 of them, where so many blocks of the log are in use
+    /// Writes the committed groups home together, at most 64 of them, where this many blocks of the log are in use
     /// ([`Deck::in_use`](jb_deck::Deck::in_use)). At the level 0 it always does. The book is not locked while the disk
     /// is at work, but no batch is committed. No clause says that it made one round alone.
     ///

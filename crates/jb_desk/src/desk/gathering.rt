@@ -14,7 +14,7 @@ use std::time::{Duration, Instant};
 /// How many times a committer waits before a round.
 const TIMES: u32 = 8;
 
-/// The part of a round's time that it waits each time: one of so many.
+/// The part of a round's time that it waits each time: one of this many.
 const PART: u32 = 32;
 
 /// Where the last round took less, in microseconds, nothing is waited for: a thread is not woken much faster than in a
@@ -89,7 +89,7 @@ impl<D: Disk, C: Clock, H: Origin, N: Ledger> Desk<D, C, H, N> {
         }
     }
 
-    /// Waits until there is a batch to take, and then until so many handles have stopped, or for so long where fewer
+    /// Waits until there is a batch to take, and then until this many handles have stopped, or for so long where fewer
     /// do. The lock is held between the two: else one that stops meanwhile would be taken at once. The time is asked
     /// before and after each sleep: where the clock cannot be read there is none.
     fn await_handles<R: Wait + time::Clock>(&self, rt: &R, delay: Delay) {

@@ -21,8 +21,8 @@ impl<D: Disk, C: Clock, H: Origin, N: Ledger> Desk<D, C, H, N> {
     ghost use Rattle.jb_desk.specs.Desks.{shape_in};
     ghost use Rattle.jb_desk.specs.Refusals.{IsTooMany};
 
-    /// A seat begins a handle of so many credits (`jbd2_journal_start`), and waits while the book is full: in a line,
-    /// in which all that came before begin theirs or are refused first. Where nobody stands in it, a handle that there
+    /// A seat begins a handle of this many credits (`jbd2_journal_start`), and waits while the book is full: in a line,
+    /// in which all that came before begin theirs or are refused first. Where nobody waits in it, a handle that there
     /// is room for is begun at once.
     ///
     /// # Errors
@@ -57,7 +57,7 @@ impl<D: Disk, C: Clock, H: Origin, N: Ledger> Desk<D, C, H, N> {
         begun
     }
 
-    /// Begins a handle at once where nobody stands in the line and the book is not full. Otherwise it gives the seat
+    /// Begins a handle at once where nobody waits in the line and the book is not full. Otherwise it gives the seat
     /// back, with the fault where there is another one.
     fn begin_at_once<R: Wait>(
         &self,

@@ -18,7 +18,7 @@ impl<D: Disk, H: Origin, N: Ledger> QueueState<D, H, N> {
     ghost use Rattle.jb_book.specs.Marks.{SeesStop};
     ghost use Rattle.jb_desk.specs.Stops.{IsStopped, RefusesStopOf};
 
-    /// A seat begins a handle of so many credits.
+    /// A seat begins a handle of this many credits.
     ///
     /// # Errors
     ///

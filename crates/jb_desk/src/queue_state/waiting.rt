@@ -45,7 +45,7 @@ impl<D: Disk, H: Origin, N: Ledger> QueueState<D, H, N> {
         self.is_room_wanted = is_wanted;
     }
 
-    /// A committer puts its round off until so many handles wait.
+    /// A committer puts its round off until this many handles wait.
     pub fn want_handles(&mut self, handles: u64)
         ensures wanted { self.new.wanted ≡ handles }
         ensures kept { self.new.register ≡ self.old.register }

@@ -10,7 +10,7 @@ use crate::loading::fault::LoadFault;
 use crate::loading::loaded::{Loaded, Refused};
 use jb_journal::{Entry, Ran};
 
-/// What a load did whose journal was run so, with a queue of so many handles; and the disk.
+/// What a load did whose journal was run so, with a queue of this many handles; and the disk.
 ///
 /// # Errors
 /// `Accounts` where entries were taken from the trail, which no worker of a load does.

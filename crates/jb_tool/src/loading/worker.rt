@@ -57,7 +57,8 @@ impl Worker<Option<Refused>> for Loader<'_> {
     }
 }
 
-/// Passes over so many handles of a queue, reads the next one, and runs it; the words of one handle are read at a time.
+/// Passes over this many handles of a queue, reads the next one, and runs it; the words of one handle are read at a
+/// time.
 fn run_next<'a, D: Disk, C: Clock, R: Wait + time::Clock, H: Origin, N: Ledger>(
     alloc: Global,
     client: &mut Client<'a, D, C, R, H, N>,

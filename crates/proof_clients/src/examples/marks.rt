@@ -10,7 +10,7 @@ ghost use Rattle.proof_clients.specs.ExampleMarks.{one_entry, two_entries, with_
 
 /// Two handles had been seen to stop, and a third one stops: its ticket is 2, and the history goes on with its words.
 /// Not so with a ticket of one that was seen, with a history that has lost one of these, with a ticket at which nothing
-/// stands, or with the words of another handle.
+/// is, or with the words of another handle.
 pub fn sees_stop()
     ensures meets { SeesStop (first ∷ second ∷ []) (first ∷ second ∷ third ∷ []) 2 third }
     ensures not_lower { SeesStop (first ∷ second ∷ []) (first ∷ second ∷ third ∷ []) 1 second → ⊥ }
