@@ -141,11 +141,11 @@ fn is_dumped(alloc: Global, bytes: &[u8], text: &mut Vec<u8>) -> Result<bool, Me
 /// Whether its superblock is shown, with the same text.
 fn is_shown(alloc: Global, bytes: &[u8], text: &mut Vec<u8>) -> Result<bool, Memory> {
     let mut reader = bytes;
-    let choice = DumpFilter {
+    let filter = DumpFilter {
         superblock: true,
         ..DumpFilter::every_line()
     };
-    match dump_chosen(alloc, &mut reader, text, choice) {
+    match dump_chosen(alloc, &mut reader, text, filter) {
         Ok(()) => Ok(text.as_slice() == SHOWN.as_bytes()),
         Err(DumpFault::Memory) if text.is_empty() => Err(Memory),
         Err(_) => Ok(false),

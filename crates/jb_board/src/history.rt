@@ -102,7 +102,7 @@ impl<E, L: Place> History<E, L> {
 
     /// The history as it is.
     pub fn show(&self, appender: &mut Appender<E, L>) -> Prefix<E, L>
-        ensures sight { result ≡ appender.old }
+        ensures prefix { result ≡ appender.old }
         ensures kept { appender.new ≡ appender.old }
     {
         let seat = self.share(&mut appender.seat);
@@ -112,12 +112,12 @@ impl<E, L: Place> History<E, L> {
         }
     }
 
-    /// The same sight once more.
-    pub fn again(&self, sight: &mut Prefix<E, L>) -> Prefix<E, L>
-        ensures sight { result ≡ sight.old }
-        ensures kept { sight.new ≡ sight.old }
+    /// The same prefix once more.
+    pub fn again(&self, prefix: &mut Prefix<E, L>) -> Prefix<E, L>
+        ensures prefix { result ≡ prefix.old }
+        ensures kept { prefix.new ≡ prefix.old }
     {
-        let seat = self.share(&mut sight.seat);
+        let seat = self.share(&mut prefix.seat);
         Prefix {
             seat,
             place: PhantomData,
@@ -125,24 +125,24 @@ impl<E, L: Place> History<E, L> {
     }
 
     /// Sees the history, which begins with what was seen and with what another has seen.
-    pub fn learn(&self, sight: &mut Prefix<E, L>, other: &mut Prefix<E, L>)
-        /// With `other`: A sight that learns of another begins with what both have seen.
-        ensures own { IsFirstPart sight.old sight.new }
-        ensures other { IsFirstPart other.old sight.new }
+    pub fn learn(&self, prefix: &mut Prefix<E, L>, other: &mut Prefix<E, L>)
+        /// With `other`: A prefix that learns of another begins with what both have seen.
+        ensures own { IsFirstPart prefix.old prefix.new }
+        ensures other { IsFirstPart other.old prefix.new }
         ensures kept { other.new ≡ other.old }
     {
         let seat = self.share(&mut other.seat);
-        self.tell(&mut sight.seat, seat);
-        self.observe(&mut sight.seat);
+        self.tell(&mut prefix.seat, seat);
+        self.observe(&mut prefix.seat);
     }
 
     /// The whole history begins with what was seen.
-    pub fn check(&self, appender: &mut Appender<E, L>, sight: Prefix<E, L>)
+    pub fn check(&self, appender: &mut Appender<E, L>, prefix: Prefix<E, L>)
         ensures kept { appender.new ≡ appender.old }
-        /// What a sight has seen begins the whole history.
-        ensures sight { IsFirstPart sight appender.old }
+        /// What a prefix has seen begins the whole history.
+        ensures prefix { IsFirstPart prefix appender.old }
     {
-        let Prefix { seat, place: _ } = sight;
+        let Prefix { seat, place: _ } = prefix;
         self.tell(&mut appender.seat, seat);
         self.observe(&mut appender.seat);
     }

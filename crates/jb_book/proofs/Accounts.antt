@@ -188,7 +188,7 @@ module _ (a : Account) (sound : IsAccountSound a) where
 
 -- ---- how a book is kept, said of the account that it stands for
 
-pub kept-by : {S : Type 0} (begun : Begun) (t : Inside S) (a : Account) → account_of t ≡ a → IsAccountSound a → t.open_sum ≡ sum (values_of a.shadow.seats) → t.line_sum ≡ sum a.shadow.credits → t.least ≡ least_after 0 a.trail → t.least ≤ 2 ^ 32
+pub kept-by : {H : Type 0} (begun : Begun) (t : Inside H) (a : Account) → account_of t ≡ a → IsAccountSound a → t.open_sum ≡ sum (values_of a.shadow.seats) → t.line_sum ≡ sum a.shadow.credits → t.least ≡ least_after 0 a.trail → t.least ≤ 2 ^ 32
     → vec_len t.trail + (t.next - t.settled) ≤ vec_capacity t.trail → IsOrdered nat_cmp t.seats → AreStops begun a.shadow.queue → IsBookKept begun t
 kept-by begun t a is sound open_sum line_sum least narrow room ordered stops = record {
   sound = subst IsAccountSound (sym is) sound;

@@ -196,14 +196,14 @@ kept-new shape usable a log start none =
 failed-same : {a b : Account} {log more : List WordMap} → IsRegistered a log → b ≡ failed_of a → more ≡ log → IsRegistered b more
 failed-same {a} {log = log} kept is same = kept-as (led-failed log a kept.led) kept.counted (All-nil (IsInHistory log)) is same
 
-module _ {a : Account} {log sight : List WordMap} {end : ℕ} {shape : Shape} {done : Done}
-    (is : IsSettling sight end shape done) (seen : IsFirstPart sight log) (out : IsOutAs a (first_ticket done) end shape) where
+module _ {a : Account} {log prefix : List WordMap} {end : ℕ} {shape : Shape} {done : Done}
+    (is : IsSettling prefix end shape done) (seen : IsFirstPart prefix log) (out : IsOutAs a (first_ticket done) end shape) where
   abbrev settling-cut : AreCut log a is.planned.batch.handles is.planned.groups
   settling-cut =
       let at : is.planned.batch.first ≡ a.shadow.settled = sym is.first ∙ out.first_is in (
         record {
           tickets = subst (λ n. TicketsFrom n is.planned.batch.handles) at is.tickets;
-          recorded = recorded-on sight log seen is.planned.batch.handles is.recorded;
+          recorded = recorded-on prefix log seen is.planned.batch.handles is.recorded;
           number = omega (arith, at);
         },
         subst (λ (sh : Shape). IsLeastCut (cost_in sh is.planned.batch.handles) sh.limit (length is.planned.batch.handles) is.planned.groups) (is.shape_is ∙ sym out.shape_is) is.is.least,

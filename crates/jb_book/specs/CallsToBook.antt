@@ -96,12 +96,12 @@ pub record IsRegistered (a : Account) (log : List WordMap) : Type 0 where
   pub led : IsLed log a
 
 -- the entries are those of the first groups of a batch that is in the history that was seen, and that ends at this ticket
-pub record IsSettling (sight : List WordMap) (end : ℕ) (shape : Shape) (done : Done) : Type 0 where
+pub record IsSettling (prefix : List WordMap) (end : ℕ) (shape : Shape) (done : Done) : Type 0 where
   pub planned : Planned
   pub is : IsPlanned planned
   pub shape_is : planned.batch.shape ≡ shape
   pub tickets : TicketsFrom planned.batch.first planned.batch.handles
-  pub recorded : All (IsInHistory sight) planned.batch.handles
+  pub recorded : All (IsInHistory prefix) planned.batch.handles
   pub first : first_ticket done ≡ planned.batch.first
   pub past : end ≡ planned.batch.first + length planned.batch.handles
   pub tells : AreOfFirst (pieces planned.groups planned.batch.handles) (entries_of done)

@@ -11,11 +11,11 @@ use Rattle.jb_book.specs.declared.sights.Sights.{Sights}
 -- ---- what was seen
 
 -- all that was seen of both histories is seen, and maybe more
-abbrev pub SeesMore : {D S : Type 0} → Sights D S → Sights D S → Type 0
+abbrev pub SeesMore : {D H : Type 0} → Sights D H → Sights D H → Type 0
 SeesMore old new = IsFirstPart old.stops new.stops × IsFirstPart old.marks new.marks
 
 -- the same is seen of both
-abbrev pub SeesSame : {D S : Type 0} → Sights D S → Sights D S → Type 0
+abbrev pub SeesSame : {D H : Type 0} → Sights D H → Sights D H → Type 0
 SeesSame old new = (new.stops ≡ old.stops) × (new.marks ≡ old.marks)
 
 -- a handle stopped with these words, under this ticket, which is higher than those of the handles that had been seen; now it is seen, too

@@ -25,9 +25,9 @@ use std::mem;
 const MOST: u64 = 1 << 61;
 
 /// The book of a desk: which seats have an open handle, the queue of stopped handles, which tickets are taken and
-/// settled, and the last groups that settled them. Each queued handle has words to stop with (`S.begun`).
+/// settled, and the last groups that settled them. Each queued handle has words to stop with (`H.begun`).
 #[derive(Drop)]
-pub struct Book<S: Origin> {
+pub struct Book<H: Origin> {
     shape: Shape,
     usable: u64,
     most: u32,
@@ -49,10 +49,10 @@ pub struct Book<S: Origin> {
     shut: bool,
     aborted: bool,
     alloc: Global,
-    origin: PhantomData<S>,
+    origin: PhantomData<H>,
 }
 
-impl<S: Origin> Model for Book<S> {
+impl<H: Origin> Model for Book<H> {
     ghost use Rattle.std.specs.Coded.{codes};
     ghost use Rattle.jb_handle.specs.Word.{words_code};
     ghost use Rattle.jb_book.specs.Account.{Account};
@@ -64,10 +64,10 @@ impl<S: Origin> Model for Book<S> {
 
     ghost view = { account_of };
 
-    ghost invariant = { IsBookKept S.begun };
+    ghost invariant = { IsBookKept H.begun };
 }
 
-impl<S: Origin> Book<S> {
+impl<H: Origin> Book<H> {
     ghost use Rattle.jb_book.specs.Origin.{AreStops};
     ghost use Rattle.jb_book.specs.Account.{IsNewBook, granted_to, dropped_of, queued, taken_all};
     ghost use Rattle.jb_book.specs.Account.{settled_to, has_no_room, begin_refusal, RefusesBegin};
@@ -77,7 +77,7 @@ impl<S: Origin> Book<S> {
 
     /// A book in which nothing has happened yet, for a journal of this shape with this many usable log blocks. It
     /// takes no memory.
-    pub fn new(alloc: Global, shape: Shape, usable: u64) -> Book<S>
+    pub fn new(alloc: Global, shape: Shape, usable: u64) -> Book<H>
         requires { usable ≤ 2147483646 }
         ensures { IsNewBook shape usable result }
     {
@@ -165,7 +165,7 @@ impl<S: Origin> Book<S> {
         seat: u64,
         handle: Handle<T>,
     ) -> Result<(T, u64), (Handle<T>, EnqueueFault)>
-        requires { S.begun.stops (changes_of handle).words }
+        requires { H.begun.stops (changes_of handle).words }
         ensures book { MatchResult result (λ _. self.new ≡ queued seat (changes_of handle).words self.old)
             (λ _. self.new ≡ self.old) }
         ensures open { OnOk result (CanStop self.old seat (changes_of handle).words) }
@@ -240,7 +240,7 @@ impl<S: Origin> Book<S> {
         /// (By it a round of a desk takes its batch, under the lock; no clause of the desk says so.) Edit:
         /// `take_leaves_the_last_handle_out`.
         ensures cut { IfSome result (λ _. HasCut self.old.shape self.old.shadow.queue) }
-        ensures stops { IfSome result (λ batch. AreStops S.begun batch.handles) }
+        ensures stops { IfSome result (λ batch. AreStops H.begun batch.handles) }
         ensures taken { IfSome result (λ _. CanTake self.old × (self.new ≡ taken_all self.old)) }
         ensures none { IfNone result ((CanTake self.old → ⊥) × (self.new ≡ self.old)) }
         /// With `idles`: A take is a call of a book's list of calls, with each least cut of its batch, and so is one

@@ -17,31 +17,31 @@ const MOST_AT_ONCE: usize = 64;
 /// the desk was started, and was given the first handles of this history. Its marks last: a crash at any moment since
 /// one leaves all that was settled then.
 #[derive(Drop)]
-pub struct JournalState<D: Disk, C: Clock, S: Origin> {
+pub struct JournalState<D: Disk, C: Clock, H: Origin> {
     deck: Deck<D>,
     clock: C,
-    sight: Prefix<Words, S>,
-    appender: Appender<Deck<D>, Marks<S>>,
-    origin: PhantomData<S>,
+    prefix: Prefix<Words, H>,
+    appender: Appender<Deck<D>, Marks<H>>,
+    origin: PhantomData<H>,
 }
 
-impl<D: Disk, C: Clock, S: Origin> Model for JournalState<D, C, S> {
+impl<D: Disk, C: Clock, H: Origin> Model for JournalState<D, C, H> {
     ghost use Rattle.std.specs.Coded.{codes};
     ghost use Rattle.jb_handle.specs.Word.{words_code};
     ghost use Rattle.jb_book.specs.History.{IsStop};
     ghost use Rattle.jb_book.specs.SinceMark.{IsMarkedOf};
-    ghost use Rattle.jb_book.specs.JournalValue.{Worked, worked};
+    ghost use Rattle.jb_book.specs.JournalValue.{JournalAndClock, journal_and_clock};
 
-    ghost Value = { Worked D C };
+    ghost Value = { JournalAndClock D C };
 
     ghost coded = { Prim.hlevel (codes, words_code, D.code, C.code) };
 
-    ghost view = { λ w. worked w.deck w.clock };
+    ghost view = { λ j. journal_and_clock j.deck j.clock };
 
-    ghost invariant = { λ w. IsMarkedOf D.Disk S.begun (IsStop S.begun w.sight) w.appender w.deck };
+    ghost invariant = { λ j. IsMarkedOf D.Disk H.begun (IsStop H.begun j.prefix) j.appender j.deck };
 }
 
-impl<D: Disk, C: Clock, S: Origin> JournalState<D, C, S> {
+impl<D: Disk, C: Clock, H: Origin> JournalState<D, C, H> {
     ghost use Rattle.jb_block.specs.declared.stamp.Stamp.{Stamp};
     ghost use Rattle.jb_deck.specs.Checkpoints.{as_run, AnswersRun};
     ghost use Rattle.jb_deck.specs.CommitBatch.{AnswersBatch};
@@ -57,26 +57,26 @@ impl<D: Disk, C: Clock, S: Origin> JournalState<D, C, S> {
     ghost use Rattle.jb_book.specs.Origin.{AreStops};
     ghost use Rattle.jb_book.specs.SinceMark.{IsMarkedOf, MarksSettled};
     ghost use Rattle.jb_book.specs.Since.{IsSince};
-    ghost use Rattle.jb_book.specs.JournalValue.{worked};
+    ghost use Rattle.jb_book.specs.JournalValue.{journal_and_clock};
 
     /// A journal that is as it must be since the start and has committed nothing, a clock, what was seen
     /// of the history, and the right to add marks, of which there is one: the journal as it is.
     pub fn new(
         deck: Deck<D>,
         clock: C,
-        sight: Prefix<Words, S>,
-        appender: Appender<Deck<D>, Marks<S>>,
-    ) -> JournalState<D, C, S>
+        prefix: Prefix<Words, H>,
+        appender: Appender<Deck<D>, Marks<H>>,
+    ) -> JournalState<D, C, H>
         requires marked { appender ≡ deck ∷ [] }
         requires fresh { deck.trail ≡ [] }
         requires running { deck.aborted ≡ false }
-        requires begun { IsSince D.Disk S.begun deck }
-        ensures { result ≡ worked deck clock }
+        requires begun { IsSince D.Disk H.begun deck }
+        ensures { result ≡ journal_and_clock deck clock }
     {
         JournalState {
             deck,
             clock,
-            sight,
+            prefix,
             appender,
             origin: PhantomData,
         }
@@ -91,24 +91,24 @@ impl<D: Disk, C: Clock, S: Origin> JournalState<D, C, S> {
     pub fn commit(
         &mut self,
         prepared: Prepared,
-        histories: &Histories<D, S>,
-        mut sight: Prefix<Words, S>,
-    ) -> (Result<Done, BatchFault>, Sights<D, S>)
-        requires stops { AreStops S.begun prepared.batch.handles }
-        requires history { All (IsInHistory sight) prepared.batch.handles }
+        histories: &Histories<D, H>,
+        mut prefix: Prefix<Words, H>,
+    ) -> (Result<Done, BatchFault>, Sights<D, H>)
+        requires stops { AreStops H.begun prepared.batch.handles }
+        requires history { All (IsInHistory prefix) prepared.batch.handles }
         ensures answers { (stamp : Stamp) × C.tells self.old.clock stamp
             × AnswersBatch (D.faults self.old.deck.disk) (D.faults self.new.deck.disk) prepared stamp self.old.deck
             self.new.deck result.0 }
         ensures tells { CommitsAs prepared result.0 × TellsFirst prepared result.0
             × TicketsFrom prepared.batch.first prepared.batch.handles }
-        ensures round { EndsRound D.Disk S.begun prepared result.0 }
+        ensures round { EndsRound D.Disk H.begun prepared result.0 }
         ensures clock { self.new.clock ≡ self.old.clock }
-        ensures stops { result.1.stops ≡ sight }
+        ensures stops { result.1.stops ≡ prefix }
         /// The marks are seen of a journal after its round: its groups are in the trail of one, and where it has
         /// failed, one is of a failed journal. Edit: `commit_shows_the_marks_before_its_own`.
         ensures marked { MarksSettled result.1.marks result.0 }
     {
-        histories.stops.learn(&mut self.sight, &mut sight);
+        histories.stops.learn(&mut self.prefix, &mut prefix);
         // for the proof alone: only the clauses of these methods say that the cut is a least one, and that the handles'
         // tickets count up
         let _groups = prepared.groups();
@@ -121,7 +121,7 @@ impl<D: Disk, C: Clock, S: Origin> JournalState<D, C, S> {
         (
             result,
             Sights {
-                stops: sight,
+                stops: prefix,
                 marks,
             },
         )
@@ -137,7 +137,7 @@ impl<D: Disk, C: Clock, S: Origin> JournalState<D, C, S> {
         /// what that makes of it.
         ensures answers { AnswersRun 1 (D.faults self.old.deck.disk) (D.faults self.new.deck.disk) self.old.deck
             self.new.deck (as_run result) }
-        ensures round { ChecksRound D.Disk S.begun result }
+        ensures round { ChecksRound D.Disk H.begun result }
         ensures clock { self.new.clock ≡ self.old.clock }
     {
         self.deck.checkpoint_one()
@@ -152,7 +152,7 @@ impl<D: Disk, C: Clock, S: Origin> JournalState<D, C, S> {
     pub fn checkpoint_at(&mut self, level: u32) -> Result<CheckpointRound, CheckpointFault>
         ensures answers { AnswersAt level (D.faults self.old.deck.disk) (D.faults self.new.deck.disk) self.old.deck
             self.new.deck result }
-        ensures round { ChecksAt D.Disk S.begun level result }
+        ensures round { ChecksAt D.Disk H.begun level result }
         ensures clock { self.new.clock ≡ self.old.clock }
     {
         let in_use = self.deck.in_use();
@@ -174,19 +174,19 @@ impl<D: Disk, C: Clock, S: Origin> JournalState<D, C, S> {
     /// Those of the journal's own read.
     pub fn read(
         &mut self,
-        histories: &Histories<D, S>,
-        seen: &mut Sights<D, S>,
+        histories: &Histories<D, H>,
+        seen: &mut Sights<D, H>,
         home: u64,
         buf: &mut [u8],
     ) -> Result<(), ReadHomeFault>
         ensures answers { AnswersRead (D.size self.old.deck.disk) (D.faults self.old.deck.disk)
             (D.faults self.new.deck.disk) self.old.deck self.new.deck home (length buf.old) result }
-        ensures home { ReadsHome D.Disk S.begun seen.new.stops seen.old.marks seen.new.marks home (length buf.old)
+        ensures home { ReadsHome D.Disk H.begun seen.new.stops seen.old.marks seen.new.marks home (length buf.old)
             buf.new result }
         ensures sees { SeesMore seen.old seen.new }
         ensures clock { self.new.clock ≡ self.old.clock }
     {
-        histories.stops.learn(&mut seen.stops, &mut self.sight);
+        histories.stops.learn(&mut seen.stops, &mut self.prefix);
         let marks = histories.marks.again(&mut seen.marks);
         histories.marks.check(&mut self.appender, marks);
         let result = self.deck.read_home(home, buf);
@@ -207,7 +207,7 @@ impl<D: Disk, C: Clock, S: Origin> JournalState<D, C, S> {
         ensures taken { IfOk result (λ taken. TakesTrail past self.old.deck self.new.deck taken.items) }
         ensures refused { OnErr result ((self.new.deck ≡ self.old.deck)
             × MayTakeFirst (oldest_number self.old.deck) past self.old.deck.trail) }
-        ensures gives { GivesTrail D.Disk S.begun result }
+        ensures gives { GivesTrail D.Disk H.begun result }
         ensures clock { self.new.clock ≡ self.old.clock }
     {
         // for the proof alone: only the clause of this method says that the entries leave no gap
@@ -219,23 +219,23 @@ impl<D: Disk, C: Clock, S: Origin> JournalState<D, C, S> {
     /// last.
     pub fn end(
         self,
-        histories: &Histories<D, S>,
-        marks: Prefix<Deck<D>, Marks<S>>,
-    ) -> (Deck<D>, C, Prefix<Words, S>)
+        histories: &Histories<D, H>,
+        marks: Prefix<Deck<D>, Marks<H>>,
+    ) -> (Deck<D>, C, Prefix<Words, H>)
         ensures parts { (result.0 ≡ self.deck) × (result.1 ≡ self.clock) }
         /// When the lock is taken apart the marks that were seen last: if the disk of the journal is honest then, it
         /// was so at each of them, and what a crash leaves at any moment since one is recovered to the handles that
         /// were settled at it, at least.
-        ensures since { IsMarkedOf D.Disk S.begun (IsStop S.begun result.2) marks result.0 }
+        ensures since { IsMarkedOf D.Disk H.begun (IsStop H.begun result.2) marks result.0 }
     {
         let JournalState {
             deck,
             clock,
-            sight,
+            prefix,
             mut appender,
             ..
         } = self;
         histories.marks.check(&mut appender, marks);
-        (deck, clock, sight)
+        (deck, clock, prefix)
     }
 }

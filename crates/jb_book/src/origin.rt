@@ -29,10 +29,10 @@ impl Origin for Brand {
 /// Names the history of a desk's marks: its journal, as it was at the start, after each round of a committer and after
 /// each read.
 #[derive(Drop)]
-pub struct Marks<S: Origin> {
-    of: PhantomData<S>,
+pub struct Marks<H: Origin> {
+    of: PhantomData<H>,
 }
 
-impl<S: Origin> Place for Marks<S> {
-    ghost history = { S.marks };
+impl<H: Origin> Place for Marks<H> {
+    ghost history = { H.marks };
 }

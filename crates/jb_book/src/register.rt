@@ -24,13 +24,13 @@ use std::marker::Model;
 /// of the journal that it is for. By whichever least cut the batch that is out will be committed, some calls of a new
 /// book led to it, and what stopped by these is the history.
 #[derive(Drop)]
-pub struct Register<D: Disk, S: Origin> {
-    book: Book<S>,
-    appender: Appender<Words, S>,
-    seen: Prefix<Deck<D>, Marks<S>>,
+pub struct Register<D: Disk, H: Origin> {
+    book: Book<H>,
+    appender: Appender<Words, H>,
+    seen: Prefix<Deck<D>, Marks<H>>,
 }
 
-impl<D: Disk, S: Origin> Model for Register<D, S> {
+impl<D: Disk, H: Origin> Model for Register<D, H> {
     ghost use Rattle.std.specs.Coded.{codes};
     ghost use Rattle.jb_handle.specs.Word.{words_code};
     ghost use Rattle.jb_book.specs.CallsToBook.{Registered, registered, IsRegistered};
@@ -45,7 +45,7 @@ impl<D: Disk, S: Origin> Model for Register<D, S> {
     ghost invariant = { λ r. IsRegistered r.book r.appender × AreOfBook r.seen r.book };
 }
 
-impl<D: Disk, S: Origin> Register<D, S> {
+impl<D: Disk, H: Origin> Register<D, H> {
     ghost use Rattle.jb_book.specs.Account.{IsNewBook, granted_to, dropped_of, taken_all, shortened};
     ghost use Rattle.jb_book.specs.Account.{failed_of, begin_refusal, RefusesBegin, RefusesStop, CanTake};
     ghost use Rattle.jb_book.specs.CallsToBook.{IsInHistory, IsLed};
@@ -59,9 +59,9 @@ impl<D: Disk, S: Origin> Register<D, S> {
         alloc: Global,
         shape: Shape,
         usable: u64,
-        appender: Appender<Words, S>,
-        seen: Prefix<Deck<D>, Marks<S>>,
-    ) -> Register<D, S>
+        appender: Appender<Words, H>,
+        seen: Prefix<Deck<D>, Marks<H>>,
+    ) -> Register<D, H>
         requires few { usable ≤ 2147483646 }
         requires journal { HasShapeMark seen shape }
         requires fresh { appender ≡ [] }
@@ -99,29 +99,29 @@ impl<D: Disk, S: Origin> Register<D, S> {
     /// Those of [`Book::enqueue`], with the handle, and nothing has changed.
     pub fn stop<T>(
         &mut self,
-        history: &History<Words, S>,
-        made: &mut OwnEntries<Words, S>,
-        sight: &mut Prefix<Words, S>,
+        history: &History<Words, H>,
+        made: &mut OwnEntries<Words, H>,
+        prefix: &mut Prefix<Words, H>,
         seat: u64,
         handle: Handle<T>,
     ) -> Result<(T, u64), (Handle<T>, EnqueueFault)>
-        requires { S.begun.stops (changes_of handle).words }
+        requires { H.begun.stops (changes_of handle).words }
         /// With `sees`: A stop puts the words of its handle at the end of the history, as made for its seat.
         ensures ok { IfOk result (λ given. Queues seat (holder handle) (changes_of handle).words self.old made.old given
             self.new made.new) }
-        ensures sees { IfOk result (λ given. SeesStop sight.old sight.new given.1 (changes_of handle).words) }
-        ensures err { OnErr result ((self.new ≡ self.old) × (made.new ≡ made.old) × (sight.new ≡ sight.old)) }
+        ensures sees { IfOk result (λ given. SeesStop prefix.old prefix.new given.1 (changes_of handle).words) }
+        ensures err { OnErr result ((self.new ≡ self.old) × (made.new ≡ made.old) × (prefix.new ≡ prefix.old)) }
         ensures back { IfErr result (λ back. back.0 ≡ handle) }
         ensures refused { IfErr result (λ back. RefusesStop self.old.book seat (changes_of handle).words back.1) }
     {
         // for the proof alone: only the clause of a method says that the book is sound
         let _reserved = self.book.reserved();
-        look(history, &mut self.appender, sight);
+        look(history, &mut self.appender, prefix);
         match self.book.enqueue(seat, handle) {
             Ok(given) => {
                 self.book.record_last(history, &mut self.appender, made);
                 let mut all = history.show(&mut self.appender);
-                history.learn(sight, &mut all);
+                history.learn(prefix, &mut all);
                 Ok(given)
             }
             Err(back) => Err(back),
@@ -136,13 +136,13 @@ impl<D: Disk, S: Origin> Register<D, S> {
         self.book.drop_open(seat);
     }
 
-    /// Takes the whole queue as a batch, with a sight that has its handles. `None` where nothing is queued, where a
+    /// Takes the whole queue as a batch, with a prefix that has its handles. `None` where nothing is queued, where a
     /// batch is out, or where the book has failed.
-    pub fn take(&mut self, history: &History<Words, S>) -> Option<(Batch, Prefix<Words, S>)>
+    pub fn take(&mut self, history: &History<Words, H>) -> Option<(Batch, Prefix<Words, H>)>
         ensures batch { IfSome result (λ taken. taken.0 ≡ gathered self.old.book.shadow.taken
             self.old.book.shadow.queue self.old.book.shape) }
         ensures cut { IfSome result (λ _. HasCut self.old.book.shape self.old.book.shadow.queue) }
-        ensures stops { IfSome result (λ taken. AreStops S.begun taken.0.handles) }
+        ensures stops { IfSome result (λ taken. AreStops H.begun taken.0.handles) }
         ensures taken { IfSome result (λ _. CanTake self.old.book × (self.new.book ≡ taken_all self.old.book)) }
         ensures recorded { IfSome result (λ taken. All (IsInHistory taken.1) taken.0.handles) }
         ensures none { IfNone result ((CanTake self.old.book → ⊥) × (self.new ≡ self.old)) }
@@ -150,15 +150,15 @@ impl<D: Disk, S: Origin> Register<D, S> {
     {
         // for the proof alone: only the clause of a method says that the book is sound
         let _reserved = self.book.reserved();
-        let sight = history.show(&mut self.appender);
+        let prefix = history.show(&mut self.appender);
         match self.book.take() {
-            Some(batch) => Some((batch, sight)),
+            Some(batch) => Some((batch, prefix)),
             None => None,
         }
     }
 
     /// The journal has failed, as was seen at a mark: the queue and the batch that is out are lost.
-    pub fn fail(&mut self, histories: &Histories<D, S>, seen: &mut Sights<D, S>)
+    pub fn fail(&mut self, histories: &Histories<D, H>, seen: &mut Sights<D, H>)
         requires { HasFailedMark seen.old.marks }
         ensures book { self.new.book ≡ failed_of self.old.book }
         ensures log { self.new.log ≡ self.old.log }
@@ -170,12 +170,12 @@ impl<D: Disk, S: Origin> Register<D, S> {
 
     /// A batch whose handles stopped, as was seen, is lost, and the queue with it: nobody could settle its tickets any
     /// more.
-    pub fn give_up(&mut self, history: &History<Words, S>, sight: Prefix<Words, S>, batch: Batch)
-        requires { All (IsInHistory sight) batch.handles }
+    pub fn give_up(&mut self, history: &History<Words, H>, prefix: Prefix<Words, H>, batch: Batch)
+        requires { All (IsInHistory prefix) batch.handles }
         ensures book { self.new.book ≡ failed_of self.old.book }
         ensures log { self.new.log ≡ self.old.log }
     {
-        history.check(&mut self.appender, sight);
+        history.check(&mut self.appender, prefix);
         let _lost = batch.end();
         self.book.fail();
     }
@@ -197,7 +197,7 @@ impl<D: Disk, S: Origin> Register<D, S> {
     }
 
     /// What can be seen: all that stopped, and marks of all that is settled.
-    pub fn sights(&mut self, histories: &Histories<D, S>) -> Sights<D, S>
+    pub fn sights(&mut self, histories: &Histories<D, H>) -> Sights<D, H>
         ensures stops { result.stops ≡ self.old.log }
         /// With `stops`: What can be seen of a register is all that stopped, and marks of all that is settled.
         ensures marks { All (IsMarked result.marks) self.old.book.trail }
@@ -210,15 +210,15 @@ impl<D: Disk, S: Origin> Register<D, S> {
     }
 
     /// Looks at the history, which has all that was seen of it: each ticket that was seen is below the next one.
-    pub fn look(&mut self, history: &History<Words, S>, sight: &mut Prefix<Words, S>)
-        ensures seen { length sight.old ≤ self.old.book.shadow.next }
-        ensures kept { (self.new ≡ self.old) × (sight.new ≡ sight.old) }
+    pub fn look(&mut self, history: &History<Words, H>, prefix: &mut Prefix<Words, H>)
+        ensures seen { length prefix.old ≤ self.old.book.shadow.next }
+        ensures kept { (self.new ≡ self.old) × (prefix.new ≡ prefix.old) }
     {
-        look(history, &mut self.appender, sight);
+        look(history, &mut self.appender, prefix);
     }
 
     /// The book.
-    pub fn book(&self) -> &Book<S>
+    pub fn book(&self) -> &Book<H>
         ensures value { result.now ≡ self.now.book }
         /// Whenever a desk's lock is free, there is such a list of calls that leads from a new book to the one under
         /// the lock, and the handles that stop in it are the history of stops. Edit: `settle_trusts_another_history`.
@@ -231,7 +231,7 @@ impl<D: Disk, S: Origin> Register<D, S> {
     /// Takes it apart, into the book's trail, the right to add to the history, and the marks that were seen, at one of
     /// which the journal had the book's shape. The stops in the history and the groups of the trail are those of events
     /// that the machine of handles accepts.
-    pub fn end(self) -> (Vec<Entry>, Appender<Words, S>, Prefix<Deck<D>, Marks<S>>)
+    pub fn end(self) -> (Vec<Entry>, Appender<Words, H>, Prefix<Deck<D>, Marks<H>>)
         ensures parts { (result.0.items ≡ self.book.trail) × (result.1 ≡ self.log) }
         ensures counted { length result.1 ≡ self.book.shadow.next }
         ensures tiles { (past : ℕ) × Follow (start_of result.0.items) 0 past result.0.items
@@ -252,16 +252,16 @@ impl<D: Disk, S: Origin> Register<D, S> {
     }
 }
 
-/// Looks at the history, which has all that a sight of it has.
-fn look<S: Origin>(
-    history: &History<Words, S>,
-    appender: &mut Appender<Words, S>,
-    sight: &mut Prefix<Words, S>,
+/// Looks at the history, which has all that a prefix of it has.
+fn look<H: Origin>(
+    history: &History<Words, H>,
+    appender: &mut Appender<Words, H>,
+    prefix: &mut Prefix<Words, H>,
 )
-    ensures seen { IsFirstPart sight.old appender.old }
-    ensures kept { (appender.new ≡ appender.old) × (sight.new ≡ sight.old) }
+    ensures seen { IsFirstPart prefix.old appender.old }
+    ensures kept { (appender.new ≡ appender.old) × (prefix.new ≡ prefix.old) }
 {
     let mut seen = history.show(appender);
-    history.learn(&mut seen, sight);
+    history.learn(&mut seen, prefix);
     history.check(appender, seen);
 }

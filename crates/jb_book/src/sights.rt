@@ -12,33 +12,33 @@ use jb_handle::Words;
 /// journal as it was when the desk was started, after each round of a committer and after each read. Neither has bytes
 /// for what is in it.
 #[derive(Drop)]
-pub struct Histories<D: Disk, S: Origin> {
+pub struct Histories<D: Disk, H: Origin> {
     /// The handles that stopped.
-    pub stops: History<Words, S>,
+    pub stops: History<Words, H>,
     /// The marks.
-    pub marks: History<Deck<D>, Marks<S>>,
+    pub marks: History<Deck<D>, Marks<H>>,
 }
 
 /// What was seen of the two histories of a desk: a prefix of each.
 #[derive(Drop)]
-pub struct Sights<D: Disk, S: Origin> {
+pub struct Sights<D: Disk, H: Origin> {
     /// Of the handles that stopped.
-    pub stops: Prefix<Words, S>,
+    pub stops: Prefix<Words, H>,
     /// Of the marks.
-    pub marks: Prefix<Deck<D>, Marks<S>>,
+    pub marks: Prefix<Deck<D>, Marks<H>>,
 }
 
-impl<D: Disk, S: Origin> Histories<D, S> {
+impl<D: Disk, H: Origin> Histories<D, H> {
     ghost use Rattle.jb_book.specs.Marks.{SeesMore, SeesSame};
 
     /// Marks a journal as it is now, and sees all marks.
     pub fn mark(
         &self,
-        appender: &mut Appender<Deck<D>, Marks<S>>,
+        appender: &mut Appender<Deck<D>, Marks<H>>,
         deck: &Deck<D>,
-    ) -> Prefix<Deck<D>, Marks<S>>
+    ) -> Prefix<Deck<D>, Marks<H>>
         ensures whole { appender.new ≡ with_last appender.old deck.now }
-        ensures sight { result ≡ appender.new }
+        ensures prefix { result ≡ appender.new }
     {
         let mut made = self.marks.enter();
         self.marks.add(appender, &mut made, deck);
@@ -46,7 +46,7 @@ impl<D: Disk, S: Origin> Histories<D, S> {
     }
 
     /// Sees what another has seen, too.
-    pub fn learn(&self, seen: &mut Sights<D, S>, other: &mut Sights<D, S>)
+    pub fn learn(&self, seen: &mut Sights<D, H>, other: &mut Sights<D, H>)
         ensures own { SeesMore seen.old seen.new }
         ensures other { SeesMore other.old seen.new }
         ensures kept { SeesSame other.old other.new }

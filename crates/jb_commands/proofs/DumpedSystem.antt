@@ -20,9 +20,9 @@ system-known (Some system) is e read t = (system, read)
 
 module _ {S T : Type 0} (start : Starts S) (other : Starts T) where
   -- no journal began there, and what follows is the end
-  pub dumped-after : (words : DumpWords) (name : List ℕ) (input before after out_old out_mid out_new : Option (List ℕ)) (choice : DumpFilter) (first end : Result ℕ CommandFault) (is : Bool)
-      → choice ≡ choice_of words → DumpsOn choice before after out_old out_mid first → is ≡ is_unbegun first → is ≡ true
+  pub dumped-after : (words : DumpWords) (name : List ℕ) (input before after out_old out_mid out_new : Option (List ℕ)) (filter : DumpFilter) (first end : Result ℕ CommandFault) (is : Bool)
+      → filter ≡ choice_of words → DumpsOn filter before after out_old out_mid first → is ≡ is_unbegun first → is ≡ true
       → (((system : FileSystem) × IsReadOf (Some system)) × DumpsPlaced start other words name input out_mid out_new end) ⊎ ((end ≡ Err Memory) × (out_new ≡ out_mid))
       → DumpsOpen start other words name input out_old out_new end
-  dumped-after words name input before after out_old out_mid out_new choice first end is chosen dumps said t more =
+  dumped-after words name input before after out_old out_mid out_new filter first end is chosen dumps said t more =
       inr (before, after, out_mid, first, subst (λ c. DumpsOn c before after out_old out_mid first) chosen dumps, sym said ∙ t, more)

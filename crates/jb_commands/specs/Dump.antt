@@ -20,10 +20,10 @@ abbrev pub end_by : Result Unit DumpFault → Result ℕ CommandFault
 end_by (Ok done) = Ok 0
 end_by (Err fault) = Err (dump_fault fault)
 
--- the lines that a choice takes of a reader's journal were written to standard output, and the command ends by the answer
+-- the lines that a filter takes of a reader's journal were written to standard output, and the command ends by the answer
 abbrev pub DumpsOn : DumpFilter → Option (List ℕ) → Option (List ℕ) → Option (List ℕ) → Option (List ℕ) → Result ℕ CommandFault → Type 0
-DumpsOn choice before after out_old out_new end =
-    (dumped : Result Unit DumpFault) × (end ≡ end_by dumped) × Dumps choice before after out_old out_new dumped
+DumpsOn filter before after out_old out_new end =
+    (dumped : Result Unit DumpFault) × (end ≡ end_by dumped) × Dumps filter before after out_old out_new dumped
 
 -- the file of this name was not opened
 abbrev pub IsUnopened : List ℕ → CommandFault → Type 0

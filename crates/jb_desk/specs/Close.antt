@@ -4,7 +4,7 @@ use Rattle.std.specs.Global.{Vec}
 use Rattle.jb_desk.specs.Desks.{desk_id, shape_in}
 use Rattle.jb_desk.specs.declared.seat.Left.{Left}
 use Rattle.jb_desk.specs.declared.queue_state.QueueState.{QueueState}
-use Rattle.jb_book.specs.JournalValue.{Worked}
+use Rattle.jb_book.specs.JournalValue.{JournalAndClock}
 use Rattle.jb_book.specs.Marks.{SeesSame}
 use Rattle.jb_book.specs.Origin.{Begun}
 use Rattle.jb_book.specs.SinceMark.{EndsSeen}
@@ -22,6 +22,6 @@ IsNotClosed G b desk lefts seen (SeatsOut back kept sights) = (desk_id back ≡ 
 IsNotClosed G b desk lefts seen (TrailsDiffer deck clock book) = (deck.trail ≢ book.items) × EndsSeen G b deck.disk seen.stops seen.marks
 
 -- the journal and the book of what the locks guarded, which have settled different groups
-abbrev pub DiffersAs : {D C H N : Type 0} {Q : Disks D} {O : Ghosts H} {P : Places H} → Disks D → Begun → QueueState D H N Q O P → Worked D C → Sights D H → CloseFault D C H N Q O P → Type 0
-DiffersAs G b counter works seen (SeatsOut back kept sights) = ⊥
-DiffersAs G b counter works seen (TrailsDiffer deck clock book) = (deck ≡ works.deck) × (clock ≡ works.clock) × (book.items ≡ counter.register.book.trail) × (deck.trail ≢ book.items) × EndsSeen G b deck.disk seen.stops seen.marks
+abbrev pub DiffersAs : {D C H N : Type 0} {Q : Disks D} {O : Ghosts H} {P : Places H} → Disks D → Begun → QueueState D H N Q O P → JournalAndClock D C → Sights D H → CloseFault D C H N Q O P → Type 0
+DiffersAs G b queue journal seen (SeatsOut back kept sights) = ⊥
+DiffersAs G b queue journal seen (TrailsDiffer deck clock book) = (deck ≡ journal.deck) × (clock ≡ journal.clock) × (book.items ≡ queue.register.book.trail) × (deck.trail ≢ book.items) × EndsSeen G b deck.disk seen.stops seen.marks

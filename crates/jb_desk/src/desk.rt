@@ -40,10 +40,10 @@ use std::sync::{Mutex, Wait};
 /// the disk is at work.
 #[derive(Drop)]
 pub struct Desk<D: Disk, C: Clock, H: Origin, N: Ledger> {
-    counter: Mutex<QueueState<D, H, N>>,
-    works: Mutex<JournalState<D, C, H>>,
+    queue: Mutex<QueueState<D, H, N>>,
+    journal: Mutex<JournalState<D, C, H>>,
     signals: Signals,
-    turns: FairQueue,
+    fair_queue: FairQueue,
     waits: Waits,
     board: Shown<H>,
     histories: Histories<D, H>,
@@ -96,16 +96,16 @@ impl<D: Disk, C: Clock, H: Origin, N: Ledger> Desk<D, C, H, N> {
         let shape = deck.shape();
         let StopLedger { tickets, history } = handles;
         let (stops, mut appender) = history.named::<H>();
-        let sight = stops.show(&mut appender);
+        let prefix = stops.show(&mut appender);
         let (marks, mut marking) = marks.named::<Marks<H>>();
         let histories = Histories { stops, marks };
         let seen = histories.mark(&mut marking, &deck);
         let register = Register::new(alloc, shape, u64::from(deck.usable()), appender, seen);
         Ok(Desk {
-            counter: Mutex::new(QueueState::new(register, tickets, changes)),
-            works: Mutex::new(JournalState::new(deck, clock, sight, marking)),
+            queue: Mutex::new(QueueState::new(register, tickets, changes)),
+            journal: Mutex::new(JournalState::new(deck, clock, prefix, marking)),
             signals: Signals::new(),
-            turns: FairQueue::new(),
+            fair_queue: FairQueue::new(),
             waits: Waits::new(),
             board: Shown::new(board),
             histories,
@@ -126,7 +126,7 @@ impl<D: Disk, C: Clock, H: Origin, N: Ledger> Desk<D, C, H, N> {
             × (made_by seat ≡ []) × (view_of seat ≡ front 0 0 0)) }
     {
         let made = self.histories.stops.enter();
-        let seat = self.counter.lock(rt).seat(self.board.enter(), made);
+        let seat = self.queue.lock(rt).seat(self.board.enter(), made);
         seat.ok_or(SeatFault::Closed)
     }
 
@@ -137,14 +137,14 @@ impl<D: Disk, C: Clock, H: Origin, N: Ledger> Desk<D, C, H, N> {
         ensures { (stops_left result ≡ stops seat) × (changes_left result ≡ changes seat)
             × (made_left result ≡ made_by seat) }
     {
-        let left = self.counter.lock(rt).leave(seat);
+        let left = self.queue.lock(rt).leave(seat);
         self.signals.tell();
         left
     }
 
     /// From now on no seat is given and no handle is begun. Open handles may still stop.
     pub fn shut<R: Wait>(&self, rt: &R) {
-        self.counter.lock(rt).shut();
+        self.queue.lock(rt).shut();
         self.signals.tell();
     }
 
@@ -168,7 +168,7 @@ impl<D: Disk, C: Clock, H: Origin, N: Ledger> Desk<D, C, H, N> {
         ensures back { IfErr result (λ back. back.0 ≡ seat) }
         ensures refused { IfErr result (λ back. IsTooMany credits back.1) }
     {
-        self.counter
+        self.queue
             .lock(rt)
             .begin(self.alloc, self.shape, seat, credits)
     }
@@ -202,11 +202,11 @@ impl<D: Disk, C: Clock, H: Origin, N: Ledger> Desk<D, C, H, N> {
         ensures stopped { IfOk result (λ given. given.1 < (view_of given.0).stopped) }
         ensures refused { IfErr result (λ fault. HandsBack handle fault × (seen.new.stops ≡ seen.old.stops)) }
     {
-        let mut counter = self.counter.lock(rt);
-        let (mut seat, ticket) = counter.stop(&self.histories, seen, handle)?;
-        let tickets = counter.tickets();
-        let is_enough = counter.is_enough();
-        drop(counter);
+        let mut queue = self.queue.lock(rt);
+        let (mut seat, ticket) = queue.stop(&self.histories, seen, handle)?;
+        let tickets = queue.tickets();
+        let is_enough = queue.is_enough();
+        drop(queue);
         self.signals.tell_stop(is_enough);
         self.board
             .raise_stopped(&mut seat.board, ticket + 1, &tickets);
@@ -218,7 +218,7 @@ impl<D: Disk, C: Clock, H: Origin, N: Ledger> Desk<D, C, H, N> {
         /// A handle that is dropped gives its seat back. [But see](docs/WRONG_BODIES.md#the-calls-of-a-desk).
         ensures { result ≡ holder handle }
     {
-        let seat = self.counter.lock(rt).abandon(handle);
+        let seat = self.queue.lock(rt).abandon(handle);
         self.signals.tell();
         seat
     }
@@ -269,15 +269,15 @@ impl<D: Disk, C: Clock, H: Origin, N: Ledger> Desk<D, C, H, N> {
         ensures refused { IfErr result (RefusesWait ticket seat.old seat.new) }
     {
         self.waits.come(rt);
-        let counter = self.counter.lock(rt);
-        let mut counter = self
+        let queue = self.queue.lock(rt);
+        let mut queue = self
             .waits
-            .settled(counter.is_odd_for(ticket))
-            .wait_while(rt, counter, |counter| counter.is_awaited(ticket));
+            .settled(queue.is_odd_for(ticket))
+            .wait_while(rt, queue, |queue| queue.is_awaited(ticket));
         self.waits.go(rt);
-        let number = counter.number_of(&self.histories, seen, ticket)?;
-        let (tickets, settled) = (counter.tickets(), counter.seen());
-        drop(counter);
+        let number = queue.number_of(&self.histories, seen, ticket)?;
+        let (tickets, settled) = (queue.tickets(), queue.seen());
+        drop(queue);
         let count = ticket + 1;
         self.board.raise_stopped(&mut seat.board, count, &tickets);
         self.board.raise_taken(&mut seat.board, count, &settled);

@@ -9,17 +9,17 @@ use jb_handle::Words;
 use std::marker::Model;
 
 /// A batch of one handle at least, which has a cut within the journal's limit, and whose handles stopped with words
-/// that a handle may stop with (`S.begun`); that its tickets were given and are out; and a prefix of the history
+/// that a handle may stop with (`H.begun`); that its tickets were given and are out; and a prefix of the history
 /// of stops that has its handles. It must be used up, as the batch in it.
 #[must_use]
-pub struct HeldBatch<S: Origin> {
+pub struct HeldBatch<H: Origin> {
     batch: Batch,
-    tickets: Tickets<S>,
-    sight: Prefix<Words, S>,
+    tickets: Tickets<H>,
+    prefix: Prefix<Words, H>,
     out: Out,
 }
 
-impl<S: Origin> Model for HeldBatch<S> {
+impl<H: Origin> Model for HeldBatch<H> {
     ghost use Rattle.std.specs.Coded.{codes};
     ghost use Rattle.jb_board.specs.Seats.{given_by};
     ghost use Rattle.jb_handle.specs.Word.{words_code};
@@ -32,45 +32,45 @@ impl<S: Origin> Model for HeldBatch<S> {
 
     ghost view = { λ h. h.batch };
 
-    ghost invariant = { λ h. IsOut S.begun h.batch (given_by h.tickets) h.sight h.out };
+    ghost invariant = { λ h. IsOut H.begun h.batch (given_by h.tickets) h.prefix h.out };
 }
 
-impl<S: Origin> HeldBatch<S> {
+impl<H: Origin> HeldBatch<H> {
     ghost use Rattle.jb_board.specs.Seats.{given_by};
     ghost use Rattle.jb_desk.specs.BatchOut.{IsOut};
 
     /// A batch to be held.
     pub(crate) fn of(
         batch: Batch,
-        tickets: Tickets<S>,
-        sight: Prefix<Words, S>,
+        tickets: Tickets<H>,
+        prefix: Prefix<Words, H>,
         out: Out,
-    ) -> HeldBatch<S>
-        requires { IsOut S.begun batch (given_by tickets) sight out }
+    ) -> HeldBatch<H>
+        requires { IsOut H.begun batch (given_by tickets) prefix out }
         ensures { result ≡ batch }
     {
         HeldBatch {
             batch,
             tickets,
-            sight,
+            prefix,
             out,
         }
     }
 
     /// The batch again, that its tickets were given, what has its handles, and that it is out.
-    pub(crate) fn end(self) -> (Batch, Tickets<S>, Prefix<Words, S>, Out)
+    pub(crate) fn end(self) -> (Batch, Tickets<H>, Prefix<Words, H>, Out)
         ensures batch { result.0 ≡ self }
         /// A batch that is held for a round has handles of the history of stops, with their words; it has the tickets
         /// and the shape with which it is out.
-        ensures out { IsOut S.begun result.0 (given_by result.1) result.2 result.3 }
+        ensures out { IsOut H.begun result.0 (given_by result.1) result.2 result.3 }
     {
         let HeldBatch {
             batch,
             tickets,
-            sight,
+            prefix,
             out,
         } = self;
-        (batch, tickets, sight, out)
+        (batch, tickets, prefix, out)
     }
 
     /// The batch is lost, as its book has failed.

@@ -1,4 +1,4 @@
-//! Lines that are put where a choice takes them.
+//! Lines that are put where a filter takes them.
 ghost use Rattle.std.specs.Prelude.{◌≡◌, ◌&&◌, ◌||◌, map, nat_eq};
 ghost use Rattle.std.specs.List.{list_any};
 ghost use Rattle.jb_dump.specs.Choices.{OfTransaction, is_head_or_any, is_named, is_recent, takes_line};
@@ -11,9 +11,9 @@ use jb_tags::Tag;
 /// Which lines of one transaction are put.
 #[derive(Clone, Copy)]
 pub(crate) struct LineFilter {
-    /// The choice.
-    pub choice: DumpFilter,
-    /// How many transactions there are, where the choice asks for the last ones.
+    /// The filter.
+    pub filter: DumpFilter,
+    /// How many transactions there are, where the filter asks for the last ones.
     pub total: usize,
     /// The index of the transaction.
     pub index: usize,
@@ -21,11 +21,11 @@ pub(crate) struct LineFilter {
 
 impl LineFilter {
     /// That of the transaction of an index, where there are this many transactions.
-    pub(crate) fn of(choice: DumpFilter, total: usize, index: usize) -> LineFilter
-        ensures { result ≡ record { choice = choice; total = total; index = index } }
+    pub(crate) fn of(filter: DumpFilter, total: usize, index: usize) -> LineFilter
+        ensures { result ≡ record { filter = filter; total = total; index = index } }
     {
         LineFilter {
-            choice,
+            filter,
             total,
             index,
         }
@@ -33,31 +33,31 @@ impl LineFilter {
 
     /// Whether a line that speaks of these home blocks is put.
     pub(crate) fn takes(self, homes: &[u64]) -> bool
-        ensures { result ≡ takes_line self.choice self.total (OfTransaction self.index) homes.now }
+        ensures { result ≡ takes_line self.filter self.total (OfTransaction self.index) homes.now }
     {
-        is_named(self.choice.home, homes) && self.takes_transaction()
+        is_named(self.filter.home, homes) && self.takes_transaction()
     }
 
     /// Whether the line of a descriptor block with these tags is put.
     pub(crate) fn takes_run(self, copies: &[(Tag, Block)]) -> bool
-        ensures { result ≡ takes_line self.choice self.total (OfTransaction self.index) (map home_in copies.now) }
+        ensures { result ≡ takes_line self.filter self.total (OfTransaction self.index) (map home_in copies.now) }
     {
-        are_named(self.choice.home, copies) && self.takes_transaction()
+        are_named(self.filter.home, copies) && self.takes_transaction()
     }
 
     /// Whether a line of the transaction is put that speaks of every home block.
     fn takes_transaction(self) -> bool
-        ensures { result ≡ (is_recent (OfTransaction self.index) self.choice.last self.total
-            && is_head_or_any (OfTransaction self.index) (self.choice.superblock || self.choice.summary)) }
+        ensures { result ≡ (is_recent (OfTransaction self.index) self.filter.last self.total
+            && is_head_or_any (OfTransaction self.index) (self.filter.superblock || self.filter.summary)) }
     {
-        self.is_recent() && !self.choice.is_head()
+        self.is_recent() && !self.filter.is_head()
     }
 
     /// Whether the transaction is one of the last that are asked for.
     fn is_recent(self) -> bool
-        ensures { result ≡ is_recent (OfTransaction self.index) self.choice.last self.total }
+        ensures { result ≡ is_recent (OfTransaction self.index) self.filter.last self.total }
     {
-        match self.choice.last {
+        match self.filter.last {
             Some(last) => (self.total as u64) <= (self.index as u64).saturating_add(last),
             None => true,
         }

@@ -1,4 +1,4 @@
-//! The lines that a choice takes of a journal that debugfs wrote, and of journals that have few lines or none.
+//! The lines that a filter takes of a journal that debugfs wrote, and of journals that have few lines or none.
 
 use crate::checks::By;
 use crate::dumped::{SESSION, SESSION_TEXT};
@@ -74,7 +74,7 @@ fn is_lines(
     *written == *lines.as_slice()
 }
 
-/// The choice of a row.
+/// The filter of a row.
 fn choice_of(taken: &Taken) -> DumpFilter {
     DumpFilter {
         home: taken.0,
@@ -85,7 +85,7 @@ fn choice_of(taken: &Taken) -> DumpFilter {
     }
 }
 
-/// Checks that a choice takes its lines of a journal's text.
+/// Checks that a filter takes its lines of a journal's text.
 fn check_lines(
     test: &impl Test,
     alloc: Global,
@@ -101,7 +101,7 @@ fn check_lines(
     check_in(test, is_wanted, name, "what is written in row", row)
 }
 
-/// Checks that each choice takes its lines of a journal's text.
+/// Checks that each filter takes its lines of a journal's text.
 fn check_taken(
     test: &impl Test,
     alloc: Global,
@@ -115,20 +115,20 @@ fn check_taken(
     }
 }
 
-/// Checks that a choice answers the fault of a journal without a text, and writes nothing.
+/// Checks that a filter answers the fault of a journal without a text, and writes nothing.
 fn check_fault(
     test: &impl Test,
     alloc: Global,
     journal: &[u8],
     fault: DumpFault,
-    choice: DumpFilter,
+    filter: DumpFilter,
     row: u64,
 ) {
-    let (answer, written) = told_of(alloc, journal, choice);
+    let (answer, written) = told_of(alloc, journal, filter);
     check_told(test, answer, &written, Err(fault), row)
 }
 
-/// The same of each choice.
+/// The same of each filter.
 fn check_faults(test: &impl Test, alloc: Global, journal: &[u8], fault: DumpFault) {
     for (row, taken) in OF_SESSION.iter().enumerate() {
         check_fault(test, alloc, journal, fault, choice_of(taken), row as u64)

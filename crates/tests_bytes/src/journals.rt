@@ -59,14 +59,14 @@ pub fn told(alloc: Global, journal: &[u8]) -> (Result<(), DumpFault>, Vec<u8>) {
     (answer, text)
 }
 
-/// What a dump by this choice answers, and what it writes.
+/// What a dump by this filter answers, and what it writes.
 pub fn told_of(
     alloc: Global,
     journal: &[u8],
-    choice: DumpFilter,
+    filter: DumpFilter,
 ) -> (Result<(), DumpFault>, Vec<u8>) {
     let (mut rest, mut text) = (journal, Vec::new(alloc));
-    let answer = dump_chosen(alloc, &mut rest, &mut text, choice);
+    let answer = dump_chosen(alloc, &mut rest, &mut text, filter);
     (answer, text)
 }
 

@@ -119,7 +119,7 @@ uuid 000102030405060708090a0b0c0d0e0f
 more number=0 nr_users=1 dynsuper=0 max_trans_data=0 checksum_type=4 num_fc_blks=0 head=0 checksum=2557addb
 ";
 
-/// The choice of the superblock alone, with others that change nothing then.
+/// The filter of the superblock alone, with others that change nothing then.
 fn alone(checksums: bool, home: Option<u64>, last: Option<u64>) -> DumpFilter {
     DumpFilter {
         home,
@@ -141,11 +141,11 @@ fn answer_of(fault: Option<CheckedSuperFault>) -> Result<(), DumpFault> {
 /// Checks what is answered and shown of a journal.
 fn check_shown(test: &impl Test, alloc: Global, journal: &[u8], of: &Shown, row: u64) {
     let Shown(_, checksums, fault, wanted) = *of;
-    for choice in [
+    for filter in [
         alone(checksums, None, None),
         alone(checksums, Some(5), Some(0)),
     ] {
-        let (answer, written) = told_of(alloc, journal, choice);
+        let (answer, written) = told_of(alloc, journal, filter);
         let is_answer = answer == answer_of(fault);
         check_at(test, is_answer, "what is answered in row", row);
         let is_text = *written == *wanted.as_bytes();

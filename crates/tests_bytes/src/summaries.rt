@@ -149,14 +149,14 @@ fn check_several(test: &impl Test, alloc: Global) {
 /// Checks that the other choices change nothing at a glance.
 fn check_alone(test: &impl Test, alloc: Global) {
     let journal = by_hand(test, alloc, WRAPPED);
-    let choice = DumpFilter {
+    let filter = DumpFilter {
         home: Some(7),
         last: Some(0),
         superblock: true,
         summary: true,
         checksums: false,
     };
-    let (answer, written) = told_of(alloc, &journal, choice);
+    let (answer, written) = told_of(alloc, &journal, filter);
     check(
         test,
         answer.is_ok(),

@@ -82,7 +82,7 @@ struct Told {
     is_over: AtomicBool,
 }
 
-/// Reads what the first handle wrote, with a sight that is informed of what was seen after a wait for it.
+/// Reads what the first handle wrote, with sights that are informed of what was seen after a wait for it.
 fn read_informed<R: Abort + Wait, D: Disk, H: Origin, N: Ledger>(
     rt: &R,
     desk: &Still<D, H, N>,

@@ -56,9 +56,9 @@ fn both_put<R: Threads + Wait + Sync, L: Place + Send + Sync>(
         mut appender,
         ..
     } = put.into_inner();
-    let mut sight = history.show(&mut appender);
+    let mut prefix = history.show(&mut appender);
     let mut early = history.show(&mut appender);
-    history.learn(&mut early, &mut sight);
+    history.learn(&mut early, &mut prefix);
     history.check(&mut appender, early);
     history.audit(&mut appender, all);
     numbers.len()

@@ -2,7 +2,7 @@
 use crate::book::Book;
 use crate::origin::Origin;
 
-impl<S: Origin> Book<S> {
+impl<H: Origin> Book<H> {
     ghost use Rattle.std.specs.Prelude.{◌≡◌, List, true};
     ghost use Rattle.jb_book.specs.Account.{failed_of};
     ghost use Rattle.jb_book.specs.Calls.{Call, Does, Failed, Shut};

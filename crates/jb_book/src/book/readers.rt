@@ -6,7 +6,7 @@ use jb_board::{Appender, History, OwnEntries};
 use jb_deck::Entry;
 use jb_handle::{Shape, Words};
 
-impl<S: Origin> Book<S> {
+impl<H: Origin> Book<H> {
     ghost use Rattle.std.specs.Prelude.{◌≡◌, ℕ, ◌<◌, ◌≤◌, ◌^◌, ◌↔◌, ◌⊎◌, List};
     ghost use Rattle.std.specs.Prelude.{[], ◌∷◌, ◌++◌, length, IfSome, IfNone, IsTrue};
     ghost use Rattle.jb_handle.specs.declared.stopped.Stopped.{Stopped};
@@ -121,9 +121,9 @@ impl<S: Origin> Book<S> {
     /// Adds the words of the handle that stopped last to the history of stops, as made for this token.
     pub(crate) fn record_last(
         &self,
-        history: &History<Words, S>,
-        appender: &mut Appender<Words, S>,
-        made: &mut OwnEntries<Words, S>,
+        history: &History<Words, H>,
+        appender: &mut Appender<Words, H>,
+        made: &mut OwnEntries<Words, H>,
     )
         requires { 0 < length self.now.shadow.queue }
         ensures { (before : List Stopped) (last : Stopped) → self.now.shadow.queue ≡ before ++ last ∷ []

@@ -4,7 +4,7 @@ use crate::follow::{count_to, first_start, start_of_last};
 use crate::origin::Origin;
 use crate::room::drop_entries;
 
-impl<S: Origin> Book<S> {
+impl<H: Origin> Book<H> {
     ghost use Rattle.std.specs.Prelude.{◌≡◌, ◌≤◌, ◌^◌};
     ghost use Rattle.jb_deck.specs.Done.{start_of};
     ghost use Rattle.jb_book.specs.Account.{last_start, shortened};

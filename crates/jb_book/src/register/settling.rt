@@ -11,7 +11,7 @@ use jb_deck::Done;
 use jb_disk::Disk;
 use jb_handle::Shape;
 
-impl<D: Disk, S: Origin> Register<D, S> {
+impl<D: Disk, H: Origin> Register<D, H> {
     ghost use Rattle.jb_book.specs.CallsToBook.{FailsAfter, IsOutAs, IsSettling, SettlesOrFails};
     ghost use Rattle.jb_book.specs.Marks.{HasFailedMark, IsMarked, SeesSame};
 
@@ -23,8 +23,8 @@ impl<D: Disk, S: Origin> Register<D, S> {
     /// `WrongBatch` where it is not the batch that is out, or not all of it is committed. The book has failed then.
     pub fn settle(
         &mut self,
-        histories: &Histories<D, S>,
-        seen: &mut Sights<D, S>,
+        histories: &Histories<D, H>,
+        seen: &mut Sights<D, H>,
         done: &Done,
         end: u64,
         shape: Shape,
@@ -63,8 +63,8 @@ impl<D: Disk, S: Origin> Register<D, S> {
     /// `WrongBatch` where it is not the batch that is out. The book has failed without it then.
     pub fn settle_last(
         &mut self,
-        histories: &Histories<D, S>,
-        seen: &mut Sights<D, S>,
+        histories: &Histories<D, H>,
+        seen: &mut Sights<D, H>,
         done: &Done,
         end: u64,
         shape: Shape,

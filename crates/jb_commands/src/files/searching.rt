@@ -35,7 +35,7 @@ pub(crate) fn dump_opened<'a, D: Disk + Drop, O: Write>(
     }
 }
 
-/// Writes the lines that a choice takes, and reports a transaction that the log has lost, if that is shown.
+/// Writes the lines that a filter takes, and reports a transaction that the log has lost, if that is shown.
 ///
 /// # Errors
 /// Those of [`find_lost`], before anything is written, and those of `dump_from`; `CommandFault::Lost` and
@@ -43,14 +43,14 @@ pub(crate) fn dump_opened<'a, D: Disk + Drop, O: Write>(
 fn dump_searched<'a, D: Disk + Drop, O: Write>(
     alloc: Global,
     disk: D,
-    choice: DumpFilter,
+    filter: DumpFilter,
     out: &mut O,
 ) -> Result<u8, CommandFault<'a>>
-    ensures dumps { DumpsSearched D.Disk choice disk (O.contents out.old) (O.contents out.new) result }
+    ensures dumps { DumpsSearched D.Disk filter disk (O.contents out.old) (O.contents out.new) result }
 {
     let mut disk = disk;
     match find_lost(&mut disk) {
-        Ok(lost) => unless_lost(lost, dump_disk(alloc, disk, choice, out)),
+        Ok(lost) => unless_lost(lost, dump_disk(alloc, disk, filter, out)),
         Err(fault) => Err(CommandFault::of_peek(fault, None)),
     }
 }
@@ -81,17 +81,17 @@ fn lost_fault<'a>(lost: Lost) -> CommandFault<'a>
     }
 }
 
-/// Writes those lines of the text of the journal at the front of a disk which a choice takes.
+/// Writes those lines of the text of the journal at the front of a disk which a filter takes.
 fn dump_disk<'a, D: Disk + Drop, O: Write>(
     alloc: Global,
     disk: D,
-    choice: DumpFilter,
+    filter: DumpFilter,
     out: &mut O,
 ) -> Result<u8, CommandFault<'a>>
-    ensures dumps { DumpsOn choice None None (O.contents out.old) (O.contents out.new) result }
+    ensures dumps { DumpsOn filter None None (O.contents out.old) (O.contents out.new) result }
 {
     let mut journal = DiskReader::of(disk);
-    dump_from(alloc, &mut journal, choice, out)
+    dump_from(alloc, &mut journal, filter, out)
 }
 
 /// Whether the rest of the log is searched.

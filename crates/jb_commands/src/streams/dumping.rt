@@ -5,7 +5,7 @@ use jb_dump::{DumpFilter, dump_chosen};
 use std::alloc::Global;
 use std::io::{Read, Write};
 
-/// Writes those lines of the text of the journal that a reader gives which a choice takes, and gives status 0. The
+/// Writes those lines of the text of the journal that a reader gives which a filter takes, and gives status 0. The
 /// reader is read for the journal's blocks and no further.
 ///
 /// # Errors
@@ -15,13 +15,13 @@ use std::io::{Read, Write};
 pub fn dump_from<'a, I: Read, O: Write>(
     alloc: Global,
     journal: &mut I,
-    choice: DumpFilter,
+    filter: DumpFilter,
     out: &mut O,
 ) -> Result<u8, CommandFault<'a>>
-    ensures dumps { DumpsOn choice (I.remaining journal.old) (I.remaining journal.new) (O.contents out.old)
+    ensures dumps { DumpsOn filter (I.remaining journal.old) (I.remaining journal.new) (O.contents out.old)
         (O.contents out.new) result }
 {
-    match dump_chosen(alloc, journal, out, choice) {
+    match dump_chosen(alloc, journal, out, filter) {
         Ok(()) => Ok(0),
         Err(fault) => Err(CommandFault::from(fault)),
     }

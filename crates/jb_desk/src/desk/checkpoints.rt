@@ -25,7 +25,7 @@ impl<D: Disk, C: Clock, H: Origin, N: Ledger> Desk<D, C, H, N> {
         /// see](docs/WRONG_BODIES.md#the-calls-of-a-desk).
         ensures { ChecksRound D.Disk H.begun result }
     {
-        self.works.lock(rt).checkpoint()
+        self.journal.lock(rt).checkpoint()
     }
 
     /// Writes the committed groups home together, at most 64 of them, where this many blocks of the log are in use
@@ -47,7 +47,7 @@ impl<D: Disk, C: Clock, H: Origin, N: Ledger> Desk<D, C, H, N> {
         /// journal has failed. [But see](docs/WRONG_BODIES.md#the-calls-of-a-desk).
         ensures { ChecksAt D.Disk H.begun level result }
     {
-        self.works.lock(rt).checkpoint_at(level)
+        self.journal.lock(rt).checkpoint_at(level)
     }
 
     /// Writes committed groups home, the oldest first, until the desk is over and no group is left, or until
@@ -70,7 +70,7 @@ impl<D: Disk, C: Clock, H: Origin, N: Ledger> Desk<D, C, H, N> {
     {
         for _ in rt.forever() {
             // asked before the checkpoint, so that what is settled since then is not missed
-            let before = self.counter.lock(rt).progress();
+            let before = self.queue.lock(rt).progress();
             if before.is_aborted {
                 return Ended::Aborted;
             }
@@ -95,10 +95,10 @@ impl<D: Disk, C: Clock, H: Origin, N: Ledger> Desk<D, C, H, N> {
 
     /// Waits until the book has come further than this.
     fn await_progress<R: Wait>(&self, rt: &R, before: Progress) {
-        let counter = self.counter.lock(rt);
+        let queue = self.queue.lock(rt);
         let _moved = self
             .signals
             .moved
-            .wait_while(rt, counter, |counter| counter.progress() == before);
+            .wait_while(rt, queue, |queue| queue.progress() == before);
     }
 }

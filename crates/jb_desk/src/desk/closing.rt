@@ -145,23 +145,23 @@ impl<D: Disk + Drop, C: Clock, H: Origin, N: Ledger> Desk<D, C, H, N> {
         ensures refused { IfErr result (IsNotClosed D.Disk H.begun self lefts seen) }
     {
         let Desk {
-            counter,
-            works,
+            queue,
+            journal,
             signals,
-            turns,
+            fair_queue,
             waits,
             board,
             histories,
             shape,
             alloc,
         } = self;
-        let counter = counter.into_inner();
-        if counter.given() != lefts.len() as u64 {
+        let queue = queue.into_inner();
+        if queue.given() != lefts.len() as u64 {
             let desk = Desk {
-                counter: Mutex::new(counter),
-                works,
+                queue: Mutex::new(queue),
+                journal,
                 signals,
-                turns,
+                fair_queue,
                 waits,
                 board,
                 histories,
@@ -170,7 +170,7 @@ impl<D: Disk + Drop, C: Clock, H: Origin, N: Ledger> Desk<D, C, H, N> {
             };
             return Err(CloseFault::SeatsOut(desk, lefts, seen));
         }
-        close_parts(&histories, counter, works.into_inner(), lefts, seen)
+        close_parts(&histories, queue, journal.into_inner(), lefts, seen)
     }
 
     /// Ends the desk, whatever its seats have left, and gives the journal's disk and the clock. It writes nothing. What
@@ -183,13 +183,13 @@ impl<D: Disk + Drop, C: Clock, H: Origin, N: Ledger> Desk<D, C, H, N> {
         ensures { EndsSeen D.Disk H.begun result.0 seen.stops seen.marks }
     {
         let Desk {
-            counter,
-            works,
+            queue,
+            journal,
             histories,
             ..
         } = self;
-        let mut appender = counter.into_inner().end();
-        let (deck, clock) = end_works(&histories, &mut appender, works.into_inner(), seen);
+        let mut appender = queue.into_inner().end();
+        let (deck, clock) = end_journal(&histories, &mut appender, journal.into_inner(), seen);
         (deck.close(), clock)
     }
 }
@@ -197,13 +197,13 @@ impl<D: Disk + Drop, C: Clock, H: Origin, N: Ledger> Desk<D, C, H, N> {
 /// Closes what the two locks guarded, where every seat that was given has left.
 fn close_parts<D: Disk + Drop, C: Clock, H: Origin, N: Ledger>(
     histories: &Histories<D, H>,
-    counter: QueueState<D, H, N>,
-    works: JournalState<D, C, H>,
+    queue: QueueState<D, H, N>,
+    journal: JournalState<D, C, H>,
     lefts: Vec<Left<H, N>>,
     seen: Sights<D, H>,
 ) -> Result<Closed<D, C>, CloseFault<D, C, H, N>>
     requires parts { (H.parts ≡ ledger_parts) × (N.parts ≡ ledger_parts) }
-    requires all { vec_len lefts ≡ counter.given }
+    requires all { vec_len lefts ≡ queue.given }
     ensures sums { IfOk result (λ closed. AddsUp lefts.items closed.handles closed.changes) }
     ensures tiles { IfOk result (λ closed. (past : ℕ) × Follow (start_of closed.trail.items) 0 past closed.trail.items
         × (past ≤ closed.handles)) }
@@ -211,18 +211,15 @@ fn close_parts<D: Disk + Drop, C: Clock, H: Origin, N: Ledger>(
         closed.shape closed.disk closed.trail.items seen.stops seen.marks closed.in_log) }
     ensures came { IfOk result (λ closed. CameAbout D.Disk H.begun (map made_left lefts.items) closed.shape
         closed.disk closed.trail.items) }
-    ensures given { IfOk result (λ closed. (closed.disk ≡ works.deck.disk) × (closed.clock ≡ works.clock)
-        × (closed.trail.items ≡ works.deck.trail) × (closed.trail.items ≡ counter.register.book.trail)
-        × (closed.handles ≡ counter.register.book.shadow.next) × (closed.changes ≡ counter.register.book.changes)) }
-    ensures refused { IfErr result (DiffersAs D.Disk H.begun counter works seen) }
+    ensures given { IfOk result (λ closed. (closed.disk ≡ journal.deck.disk) × (closed.clock ≡ journal.clock)
+        × (closed.trail.items ≡ journal.deck.trail) × (closed.trail.items ≡ queue.register.book.trail)
+        × (closed.handles ≡ queue.register.book.shadow.next) × (closed.changes ≡ queue.register.book.changes)) }
+    ensures refused { IfErr result (DiffersAs D.Disk H.begun queue journal seen) }
 {
-    let (trail, handles, changes, mut appender, mut known) = counter.totals(
-        &histories.stops,
-        lefts,
-    );
+    let (trail, handles, changes, mut appender, mut known) = queue.totals(&histories.stops, lefts);
     let Sights { stops, mut marks } = seen;
     histories.marks.learn(&mut marks, &mut known);
-    let (deck, clock) = end_works(histories, &mut appender, works, Sights { stops, marks });
+    let (deck, clock) = end_journal(histories, &mut appender, journal, Sights { stops, marks });
     if !are_same(&trail, deck.trail()) {
         return Err(CloseFault::TrailsDiffer {
             deck,
@@ -245,20 +242,20 @@ fn close_parts<D: Disk + Drop, C: Clock, H: Origin, N: Ledger>(
 
 /// The journal and the clock of what the second lock guarded. The history begins with what was seen of it, and the
 /// marks that were seen last.
-fn end_works<D: Disk, C: Clock, H: Origin>(
+fn end_journal<D: Disk, C: Clock, H: Origin>(
     histories: &Histories<D, H>,
     appender: &mut Appender<Words, H>,
-    works: JournalState<D, C, H>,
+    journal: JournalState<D, C, H>,
     seen: Sights<D, H>,
 ) -> (Deck<D>, C)
     ensures kept { appender.new ≡ appender.old }
-    ensures parts { (result.0 ≡ works.deck) × (result.1 ≡ works.clock) }
+    ensures parts { (result.0 ≡ journal.deck) × (result.1 ≡ journal.clock) }
     ensures knows { IsFirstPart seen.stops appender.old }
     ensures since { IsMarkedOf D.Disk H.begun (IsStop H.begun appender.old) seen.marks result.0 }
 {
     let Sights { stops, marks } = seen;
-    let (deck, clock, sight) = works.end(histories, marks);
-    histories.stops.check(appender, sight);
+    let (deck, clock, prefix) = journal.end(histories, marks);
+    histories.stops.check(appender, prefix);
     histories.stops.check(appender, stops);
     (deck, clock)
 }

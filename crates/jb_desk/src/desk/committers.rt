@@ -42,7 +42,7 @@ impl<D: Disk, C: Clock, H: Origin, N: Ledger> Desk<D, C, H, N> {
         let Some(batch) = batch else {
             return Ok(Retired { seat, lost: None });
         };
-        let released = self.counter.lock(rt).release(batch);
+        let released = self.queue.lock(rt).release(batch);
         match released {
             Ok(failed) => Ok(Retired {
                 seat,
@@ -63,7 +63,7 @@ impl<D: Disk, C: Clock, H: Origin, N: Ledger> Desk<D, C, H, N> {
         ensures lost { is_some result.lost ≡ is_some (held_by committer) }
     {
         let Committer { seat, batch } = committer;
-        let lost = self.counter.lock(rt).give_up(&self.histories.stops, batch);
+        let lost = self.queue.lock(rt).give_up(&self.histories.stops, batch);
         self.signals.tell();
         self.waits.wake_all();
         Retired { seat, lost }
@@ -74,7 +74,7 @@ impl<D: Disk, C: Clock, H: Origin, N: Ledger> Desk<D, C, H, N> {
         requires { HasFailedMark seen.old.marks }
         ensures { SeesSame seen.old seen.new }
     {
-        let failed = self.counter.lock(rt).fail(&self.histories, seen);
+        let failed = self.queue.lock(rt).fail(&self.histories, seen);
         self.signals.tell();
         self.waits.wake_all();
         failed

@@ -73,11 +73,11 @@ impl<D: Disk, C: Clock, H: Origin, N: Ledger> Desk<D, C, H, N> {
     /// Waits until there is a batch to take, or none can come any more, as the desk is over or the journal has
     /// failed.
     fn await_work<R: Wait>(&self, rt: &R) -> Option<Drained> {
-        let counter = self.counter.lock(rt);
-        let counter = self
+        let queue = self.queue.lock(rt);
+        let queue = self
             .signals
             .stopped
-            .wait_while(rt, counter, |counter| counter.rests());
-        counter.over()
+            .wait_while(rt, queue, |queue| queue.rests());
+        queue.drained()
     }
 }

@@ -93,36 +93,36 @@ impl<D: Disk, C: Clock, H: Origin, N: Ledger> Desk<D, C, H, N> {
     /// do. The lock is held between the two: else one that stops meanwhile would be taken at once. The time is asked
     /// before and after each sleep: where the clock cannot be read there is none.
     fn await_handles<R: Wait + time::Clock>(&self, rt: &R, delay: Delay) {
-        let counter = self.counter.lock(rt);
-        let mut counter = self
+        let queue = self.queue.lock(rt);
+        let mut queue = self
             .signals
             .stopped
-            .wait_while(rt, counter, |counter| counter.rests());
-        counter.want_handles(delay.handles);
+            .wait_while(rt, queue, |queue| queue.rests());
+        queue.want_handles(delay.handles);
         let _gathered = self
             .signals
             .gathered
-            .wait_timeout_while(rt, counter, delay.time, |counter| counter.is_put_off());
+            .wait_timeout_while(rt, queue, delay.time, |queue| queue.is_put_off());
     }
 
     /// Waits so long, a few times, until as many handles have stopped as were waited for when the last round ended, or
     /// none has stopped meanwhile.
     fn await_stops<R: Wait + time::Clock>(&self, rt: &R, patience: Duration) {
         let wanted = self.waits.woken(rt);
-        let mut counter = self.counter.lock(rt);
-        counter.want_handles(wanted);
-        let mut queued = counter.queued();
+        let mut queue = self.queue.lock(rt);
+        queue.want_handles(wanted);
+        let mut queued = queue.queued();
         for _ in 0..TIMES {
             let before = queued;
-            if !counter.is_put_off() {
+            if !queue.is_put_off() {
                 break;
             }
             let (back, _) = self
                 .signals
                 .gathered
-                .wait_timeout_while(rt, counter, patience, |counter| counter.is_put_off());
-            counter = back;
-            queued = counter.queued();
+                .wait_timeout_while(rt, queue, patience, |queue| queue.is_put_off());
+            queue = back;
+            queued = queue.queued();
             if queued == before {
                 break;
             }

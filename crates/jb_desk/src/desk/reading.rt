@@ -42,6 +42,6 @@ impl<D: Disk, C: Clock, H: Origin, N: Ledger> Desk<D, C, H, N> {
             buf.new result }
         ensures sees { SeesMore seen.old seen.new }
     {
-        self.works.lock(rt).read(&self.histories, seen, home, buf)
+        self.journal.lock(rt).read(&self.histories, seen, home, buf)
     }
 }

@@ -78,21 +78,21 @@ impl<D: Disk, C: Clock, H: Origin, N: Ledger> Desk<D, C, H, N> {
         ensures cut { CutsRound D.Disk H.begun (length seen.old.stops) (held_by committer.old) result }
     {
         let held = committer.batch.take();
-        let mut counter = self.counter.lock(rt);
-        let Some(held) = counter.next_batch(&self.histories.stops, seen, held)? else {
-            return Ok(Round::Idle(counter.no_batch()));
+        let mut queue = self.queue.lock(rt);
+        let Some(held) = queue.next_batch(&self.histories.stops, seen, held)? else {
+            return Ok(Round::Idle(queue.nothing_to_take()));
         };
-        drop(counter);
-        let (batch, tickets, sight, out) = held.end();
+        drop(queue);
+        let (batch, tickets, prefix, out) = held.end();
         let end = past(&batch);
         self.board
             .raise_stopped(&mut committer.seat.board, end, &tickets);
         self.board
             .raise_taken(&mut committer.seat.board, end, out.counts());
         match prepare(self.alloc, batch) {
-            Ok(prepared) => self.commit(rt, committer, prepared, (tickets, sight, out)),
+            Ok(prepared) => self.commit(rt, committer, prepared, (tickets, prefix, out)),
             Err((batch, fault)) => {
-                committer.hold(HeldBatch::of(batch, tickets, sight, out));
+                committer.hold(HeldBatch::of(batch, tickets, prefix, out));
                 match fault {
                     PrepareFault::Memory => Err(RoundFault::Memory),
                     // a batch of a book has a cut
@@ -122,11 +122,14 @@ impl<D: Disk, C: Clock, H: Origin, N: Ledger> Desk<D, C, H, N> {
         ensures round { CommitsRound D.Disk H.begun 0 (Some prepared.batch) (held_by committer.new)
             (view_of (seat_of committer.new)).settled result }
     {
-        let (tickets, sight, out) = held;
+        let (tickets, prefix, out) = held;
         // for the proof alone: only the clause of this method says that the cut is a least one
         let _groups = prepared.groups();
         // bound first, so that the lock is free again before the book's is taken
-        let (result, mut seen) = self.works.lock(rt).commit(prepared, &self.histories, sight);
+        let (result, mut seen) = self
+            .journal
+            .lock(rt)
+            .commit(prepared, &self.histories, prefix);
         match result {
             Ok(done) => {
                 let settled = self.settle(rt, &mut committer.seat, &mut seen, &done, out);
@@ -180,17 +183,17 @@ impl<D: Disk, C: Clock, H: Origin, N: Ledger> Desk<D, C, H, N> {
         ensures failed { IfErr result (λ fault. (failed : HasAborted) × (fault ≡ Aborted failed)
             × (seat.new ≡ seat.old)) }
     {
-        let mut counter = self.counter.lock(rt);
-        let settled = counter.settle(&self.histories, seen, done, out);
+        let mut queue = self.queue.lock(rt);
+        let settled = queue.settle(&self.histories, seen, done, out);
         let Ok(()) = settled else {
-            let failed = counter.failed();
-            drop(counter);
+            let failed = queue.failed();
+            drop(queue);
             self.signals.tell();
             self.waits.wake_all();
             return Err(RoundFault::Aborted(failed));
         };
-        let (counts, is_odd) = (counter.seen(), counter.is_odd());
-        drop(counter);
+        let (counts, is_odd) = (queue.seen(), queue.is_odd());
+        drop(queue);
         self.signals.tell();
         self.waits.wake(rt, is_odd);
         self.board
@@ -219,17 +222,17 @@ impl<D: Disk, C: Clock, H: Origin, N: Ledger> Desk<D, C, H, N> {
             raised_settled (view_of seat.old) (past_after (first_ticket done.now) (entries_of done.now))))
             ⊎ ((result ≡ Aborted failed) × (seat.new ≡ seat.old))) }
     {
-        let mut counter = self.counter.lock(rt);
-        let settled = counter.settle_last(&self.histories, seen, done, out);
+        let mut queue = self.queue.lock(rt);
+        let settled = queue.settle_last(&self.histories, seen, done, out);
         let Ok(()) = settled else {
-            let failed = counter.failed();
-            drop(counter);
+            let failed = queue.failed();
+            drop(queue);
             self.signals.tell();
             self.waits.wake_all();
             return RoundFault::Aborted(failed);
         };
-        let (counts, failed) = (counter.seen(), counter.failed());
-        drop(counter);
+        let (counts, failed) = (queue.seen(), queue.failed());
+        drop(queue);
         self.signals.tell();
         self.waits.wake_all();
         self.board

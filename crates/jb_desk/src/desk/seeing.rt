@@ -13,7 +13,7 @@ impl<D: Disk, C: Clock, H: Origin, N: Ledger> Desk<D, C, H, N> {
     /// What can be seen now of the handles that stopped and of the journal's marks, with which a thread stops, waits
     /// and reads.
     pub fn sights<R: Wait>(&self, rt: &R) -> Sights<D, H> {
-        self.counter.lock(rt).sights(&self.histories)
+        self.queue.lock(rt).sights(&self.histories)
     }
 
     /// Sees what another thread has seen, too: so what one has stopped or waited for, another may rely on.
@@ -34,6 +34,6 @@ impl<D: Disk, C: Clock, H: Origin, N: Ledger> Desk<D, C, H, N> {
         /// then. [But see](docs/WRONG_BODIES.md#the-calls-of-a-desk).
         ensures sees { SeesMore seen.old seen.new }
     {
-        self.counter.lock(rt).see(&self.histories, seen, ticket)
+        self.queue.lock(rt).see(&self.histories, seen, ticket)
     }
 }

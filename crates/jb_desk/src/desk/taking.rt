@@ -25,11 +25,11 @@ impl<D: Disk, C: Clock, H: Origin, N: Ledger> Desk<D, C, H, N> {
         ensures { GivesTrail D.Disk H.begun result }
     {
         // the book may be behind the journal, never ahead of it; what it has last stays in both
-        let past = self.counter.lock(rt).last_start();
-        let taken = self.works.lock(rt).take_trail(past);
+        let past = self.queue.lock(rt).last_start();
+        let taken = self.journal.lock(rt).take_trail(past);
         let taken = taken?;
         if let Some(entry) = taken.last() {
-            self.counter.lock(rt).drop_to(entry.past);
+            self.queue.lock(rt).drop_to(entry.past);
         }
         Ok(taken)
     }

@@ -51,9 +51,9 @@ impl<D: Disk, C: Clock, H: Origin, N: Ledger> Desk<D, C, H, N> {
         if let Some(fault) = fault {
             return Err((seat, fault));
         }
-        let in_vain = self.turns.wait(rt);
+        let in_vain = self.fair_queue.wait(rt);
         let (begun, in_vain) = self.begin_in_turn(rt, seat, credits, in_vain);
-        self.turns.pass(rt, in_vain);
+        self.fair_queue.pass(rt, in_vain);
         begun
     }
 
@@ -70,7 +70,7 @@ impl<D: Disk, C: Clock, H: Origin, N: Ledger> Desk<D, C, H, N> {
         ensures back { IfErr result (λ back. back.0 ≡ seat) }
         ensures refused { IfErr result (λ back. IfSome back.1 (IsTooMany credits)) }
     {
-        if !self.turns.is_empty(rt) {
+        if !self.fair_queue.is_empty(rt) {
             return Err((seat, None));
         }
         let (seat, fault) = match self.begin(rt, seat, credits) {
@@ -102,10 +102,10 @@ impl<D: Disk, C: Clock, H: Origin, N: Ledger> Desk<D, C, H, N> {
     {
         let (mut seat, mut since) = (seat, StallTimer::new());
         for _ in rt.forever() {
-            let mut counter = self.counter.lock(rt);
-            counter.want_room(false);
-            let settled = counter.progress().settled;
-            let (back, fault) = match counter.begin(self.alloc, self.shape, seat, credits) {
+            let mut queue = self.queue.lock(rt);
+            queue.want_room(false);
+            let settled = queue.progress().settled;
+            let (back, fault) = match queue.begin(self.alloc, self.shape, seat, credits) {
                 Ok(handle) => return (Ok(handle), in_vain),
                 Err(back) => back,
             };
@@ -117,9 +117,9 @@ impl<D: Disk, C: Clock, H: Origin, N: Ledger> Desk<D, C, H, N> {
                 return (Err((back, fault)), Some(settled));
             }
             seat = back;
-            counter.want_room(true);
+            queue.want_room(true);
             self.signals.tell_full();
-            self.signals.moved.wait_timeout(rt, counter, left);
+            self.signals.moved.wait_timeout(rt, queue, left);
         }
         unreachable!()
     }

@@ -27,7 +27,7 @@ impl<D: Disk, H: Origin, N: Ledger> QueueState<D, H, N> {
     ghost use Rattle.jb_book.specs.Account.{IsOver};
 
     /// That the desk is over, where it is.
-    pub fn over(&self) -> Option<Drained>
+    pub fn drained(&self) -> Option<Drained>
         /// What says that a desk is over comes from a look at a book that is shut, with no handle open, queued or
         /// taken, and that has not failed.
         ensures some { IfSome result (λ over. IsOver self.now.register.book × (self.now.register.book.aborted ≡ false)

@@ -30,7 +30,7 @@ impl<D: Disk, H: Origin, N: Ledger> QueueState<D, H, N> {
     ghost use Rattle.jb_book.specs.Account.{CanTake};
 
     /// That there is nothing to take.
-    pub fn no_batch(&self) -> NothingToTake
+    pub fn nothing_to_take(&self) -> NothingToTake
         requires running { self.now.register.book.aborted ≡ false }
         requires none { CanTake self.now.register.book → ⊥ }
         /// What says that a round found nothing to take comes from a look at a book that has not failed and has nothing

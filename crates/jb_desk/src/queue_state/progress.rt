@@ -26,7 +26,7 @@ impl<D: Disk, H: Origin, N: Ledger> QueueState<D, H, N> {
     {
         Progress {
             settled: self.register.book().settled(),
-            over: self.over(),
+            over: self.drained(),
             is_aborted: self.register.book().is_aborted(),
         }
     }

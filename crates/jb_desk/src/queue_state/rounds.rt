@@ -61,9 +61,9 @@ impl<D: Disk, H: Origin, N: Ledger> QueueState<D, H, N> {
     {
         // for the proof alone: only the clause of a method says that the book is sound
         let _reserved = self.register.book().reserved();
-        let (batch, sight) = self.register.take(history)?;
+        let (batch, prefix) = self.register.take(history)?;
         self.is_odd = !self.is_odd;
-        Some(HeldBatch::of(batch, self.tickets(), sight, self.out()))
+        Some(HeldBatch::of(batch, self.tickets(), prefix, self.out()))
     }
 
     /// Settles a batch that is committed whole: one whose handles were seen, and its groups at a mark.
@@ -157,9 +157,9 @@ impl<D: Disk, H: Origin, N: Ledger> QueueState<D, H, N> {
         let Some(held) = held else {
             return None;
         };
-        let (batch, _, sight, out) = held.end();
+        let (batch, _, prefix, out) = held.end();
         let _lost = out.end();
-        self.register.give_up(history, sight, batch);
+        self.register.give_up(history, prefix, batch);
         Some(self.failed())
     }
 

@@ -8,7 +8,7 @@ tell-requires-clause-other g c = (c.share-seat.ensures.seen.0, ap (λ m. m.1) c.
 pub returns-clause-own : goal.returns-clause-own
 returns-clause-own g c =
     let saw = c.observe.ensures.saw in
-    rw (sym c.sight.view_is, ap (λ m. m.0.seen) saw.2, sym (ap (λ m. m.0.seen) c.tell.ensures.told)) saw.1.seen
+    rw (sym c.prefix.view_is, ap (λ m. m.0.seen) saw.2, sym (ap (λ m. m.0.seen) c.tell.ensures.told)) saw.1.seen
 
 -- and what the other has seen
 pub returns-clause-other : goal.returns-clause-other

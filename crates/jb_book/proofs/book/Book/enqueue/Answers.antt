@@ -35,6 +35,6 @@ invariant_of-self-2 g c =
     let order = c.self.invariant.sound.order in
     let within = c.self.invariant.sound.within in
     let room : vec_len c.make_room.new.trail + (c.self.inside.next + 1 - c.self.inside.settled) ≤ vec_capacity c.make_room.new.trail = omega (arith, c.in-Ok.ensures.entries) in
-    kept-by g.S.Origin.begun _ (queued c.args.seat (changes_of c.args.handle).words (account_of c.self.inside)) (search rules) (queued-sound (account_of c.self.inside) c.self.invariant.sound c.args.seat c.in-Some.credits (changes_of c.args.handle).words running there) open_sum line_sum
+    kept-by g.H.Origin.begun _ (queued c.args.seat (changes_of c.args.handle).words (account_of c.self.inside)) (search rules) (queued-sound (account_of c.self.inside) c.self.invariant.sound c.args.seat c.in-Some.credits (changes_of c.args.handle).words running there) open_sum line_sum
     c.self.invariant.least c.self.invariant.narrow room c.remove.ensures.ordered
-    (stops-more g.S.Origin.begun c.self.inside.queue.items c.self.inside.next (changes_of c.args.handle).words c.self.invariant.stops c.requires)
+    (stops-more g.H.Origin.begun c.self.inside.queue.items c.self.inside.next (changes_of c.args.handle).words c.self.invariant.stops c.requires)

@@ -30,7 +30,7 @@ invariant_of-self g c =
     let parts = sum_by-take-drop (λ (x : ℕ). x) c.self.inside.credits.items (c.in-Some.past - c.self.inside.settled) in
     let line_sum : c.self.inside.line_sum - c.drop_first.result ≡ sum (drop (c.in-Some.past - c.self.inside.settled) c.self.inside.credits.items) = omega (arith, parts, c.drop_first.ensures.sum, c.self.invariant.line_sum) in
     let room : vec_len c.push_all.new.trail + (c.self.inside.next - c.in-Some.past) ≤ vec_capacity c.push_all.new.trail = omega (arith, c.push_all.ensures.len, c.push_all.ensures.capacity, c.in-Some.ensures.within, c.self.invariant.sound.within, c.self.invariant.room) in
-    kept-by g.S.Origin.begun _ (settled_to c.in-Some.past c.entries-entries.result.now (account_of c.self.inside))
+    kept-by g.H.Origin.begun _ (settled_to c.in-Some.past c.entries-entries.result.now (account_of c.self.inside))
     (settled-is (account_of c.self.inside) c.self.invariant.sound c.in-Some.past c.entries-entries.result.now c.drop_first.new.credits.items c.push_all.new.trail.items (omega (arith, up)) c.drop_first.ensures.items c.push_all.ensures.items)
     (settled-sound (account_of c.self.inside) c.self.invariant.sound c.in-Some.past c.entries-entries.result.now (settles g (goal.at.invariant_of-self g c).After-push_all))
     c.self.invariant.open_sum line_sum

@@ -10,7 +10,7 @@ use Rattle.jb_book.proofs.journal_state.JournalState.checkpoint_at.Goals.{else-n
 pub returns-then-in_use-level-clause-round : goal.returns-then-in_use-level-clause-round
 returns-then-in_use-level-clause-round g c = record {
   deck = c.self.inside.deck;
-  since = plain-is g.D.Disk g.S.Origin.begun (IsStop g.S.Origin.begun c.self.inside.sight) (λ h s. s.0) c.self.inside.deck c.self.invariant.since;
+  since = plain-is g.D.Disk g.H.Origin.begun (IsStop g.H.Origin.begun c.self.inside.prefix) (λ h s. s.0) c.self.inside.deck c.self.invariant.since;
   up = search rules;
   in_use = c.in_use-in_use.ensures.blocks;
   low = c.if-in_use-level.true;
@@ -18,7 +18,7 @@ returns-then-in_use-level-clause-round g c = record {
 
 pub invariant_of-self : goal.invariant_of-self
 invariant_of-self g c =
-    checkpoint-marked g.D.Disk g.met.D.Disk.counts_now g.S.Origin.begun (IsStop g.S.Origin.begun c.self.inside.sight)
+    checkpoint-marked g.D.Disk g.met.D.Disk.counts_now g.H.Origin.begun (IsStop g.H.Origin.begun c.self.inside.prefix)
     c.self.inside.deck c.checkpoint_up_to.new.self c.checkpoint_up_to.ensures.kept c.self.inside.appender
     most_at_once c.checkpoint_up_to.result c.checkpoint_up_to.ensures.answers c.checkpoint_up_to.ensures.checkpoints c.checkpoint_up_to.ensures.leaves c.self.invariant
 
@@ -34,6 +34,6 @@ returns-clause-round g c =
       | in-Ok w ↦ ap round_of w.in-Ok.is ∙ sym w.result-is
       | in-Err w ↦ ap round_of w.in-Err.is ∙ sym w.result-is
     ] in
-    subst (λ (r : Result CheckpointRound CheckpointFault). ChecksAt g.D.Disk g.S.Origin.begun c.args.level r) is
-    (round-at g.D.Disk g.S.Origin.begun (IsStop g.S.Origin.begun c.self.inside.sight) (λ h s. s.0) deck c.checkpoint_up_to.new.self c.checkpoint_up_to.ensures.kept c.self.invariant.since (invariant_of-self g c).since
+    subst (λ (r : Result CheckpointRound CheckpointFault). ChecksAt g.D.Disk g.H.Origin.begun c.args.level r) is
+    (round-at g.D.Disk g.H.Origin.begun (IsStop g.H.Origin.begun c.self.inside.prefix) (λ h s. s.0) deck c.checkpoint_up_to.new.self c.checkpoint_up_to.ensures.kept c.self.invariant.since (invariant_of-self g c).since
     c.args.level high c.checkpoint_up_to.result c.checkpoint_up_to.ensures.answers c.checkpoint_up_to.ensures.checkpoints)

@@ -29,7 +29,7 @@ invariant_of-self-in-Ok g c =
     let both = c.is_whole.ensures.0 (search rules) in (
       kept-settled c.requires.settling c.look.ensures.seen both.0
           c.reserved-reserved.ensures.sound c.self.invariant.0 past settles both.1 after c.look.ensures.kept.0,
-      marked-settled c.self.inside.seen c.args.seen.now.marks c.learn.new.sight c.self.inside.book c.settle.new.self (entries_of c.args.done.now) c.self.invariant.1 c.learn.ensures.own c.learn.ensures.other c.requires.marked past after,
+      marked-settled c.self.inside.seen c.args.seen.now.marks c.learn.new.prefix c.self.inside.book c.settle.new.self (entries_of c.args.done.now) c.self.invariant.1 c.learn.ensures.own c.learn.ensures.other c.requires.marked past after,
     )
 
 pub invariant_of-self : goal.invariant_of-self

@@ -21,8 +21,8 @@ invariant_of-self-2 g c =
     let out : IsOutAs c.self.inside.book (first_ticket c.args.done.now) c.args.end c.args.shape = subst (λ n. IsOutAs c.self.inside.book n c.args.end c.args.shape) c.first.ensures (c.is_out.ensures.0 (search rules)) in (
       kept-last c.requires.settling c.look.ensures.seen out
           c.settle-settled.new.self c.fail-2.new.self c.look.new.appender c.settle-settled.result c.reserved-reserved.ensures.sound c.self.invariant.0 c.settle-settled.ensures.ok c.settle-settled.ensures.err c.fail-2.ensures.value c.look.ensures.kept.0,
-      marked-same c.learn.new.sight c.settle-settled.new.self c.fail-2.new.self
-          (marked-by c.self.inside.seen c.args.seen.now.marks c.learn.new.sight c.self.inside.book c.settle-settled.new.self (entries_of c.args.done.now) c.self.invariant.1 c.learn.ensures.own c.learn.ensures.other c.requires.marked c.settle-settled.result c.settle-settled.ensures.ok c.settle-settled.ensures.err)
+      marked-same c.learn.new.prefix c.settle-settled.new.self c.fail-2.new.self
+          (marked-by c.self.inside.seen c.args.seen.now.marks c.learn.new.prefix c.self.inside.book c.settle-settled.new.self (entries_of c.args.done.now) c.self.invariant.1 c.learn.ensures.own c.learn.ensures.other c.requires.marked c.settle-settled.result c.settle-settled.ensures.ok c.settle-settled.ensures.err)
           (failed_of c.settle-settled.new.self) refl refl c.fail-2.ensures.value,
     )
 

@@ -31,7 +31,7 @@ pub returns-in-Ok-clause-sees : goal.returns-in-Ok-clause-sees
 returns-in-Ok-clause-sees g c =
     let words = (changes_of c.args.handle).words in
     let adds = c.record_last.ensures _ _ (ap (λ (a : Account). a.shadow.queue) c.in-Ok.ensures.book) in
-    sees-stop c.args.sight.now c.learn.new.sight c.self.inside.appender c.record_last.new.appender words c.in-Ok.given.1 c.look.ensures.seen (adds.0 ∙ ap (λ l. l ++ words ∷ []) c.look.ensures.kept.0) (subst (λ l. IsFirstPart l c.learn.new.sight) c.show-all.ensures.sight c.learn.ensures.other) (c.in-Ok.ensures.given.1 ∙ sym c.self.invariant.0.counted) (subst (λ l. IsFirstPart l c.learn.new.sight) c.look.ensures.kept.1 c.learn.ensures.own)
+    sees-stop c.args.prefix.now c.learn.new.prefix c.self.inside.appender c.record_last.new.appender words c.in-Ok.given.1 c.look.ensures.seen (adds.0 ∙ ap (λ l. l ++ words ∷ []) c.look.ensures.kept.0) (subst (λ l. IsFirstPart l c.learn.new.prefix) c.show-all.ensures.prefix c.learn.ensures.other) (c.in-Ok.ensures.given.1 ∙ sym c.self.invariant.0.counted) (subst (λ l. IsFirstPart l c.learn.new.prefix) c.look.ensures.kept.1 c.learn.ensures.own)
 
 pub returns-in-Err-clause-refused : goal.returns-in-Err-clause-refused
 returns-in-Err-clause-refused g c = subst (λ (r : Registered). RefusesStop r.book c.args.seat (changes_of c.args.handle).words c.in-Err.back.1) c.self.view_is c.in-Err.ensures.refused

@@ -8,7 +8,7 @@ use Rattle.jb_book.proofs.register.Register.take.Goals as goal
 use Rattle.jb_book.proofs.register.Register.take.Goals.{in-Some, in-None}
 
 pub invariant_of-self : goal.invariant_of-self
-invariant_of-self g c = both-take c.self.invariant c.show-sight.ensures.kept c.take.result c.reserved-reserved.ensures.sound c.take.ensures.cut c.take.ensures.taken c.take.ensures.none
+invariant_of-self g c = both-take c.self.invariant c.show-prefix.ensures.kept c.take.result c.reserved-reserved.ensures.sound c.take.ensures.cut c.take.ensures.taken c.take.ensures.none
 
 pub returns-clause-cut : goal.returns-clause-cut
 returns-clause-cut g c =

@@ -11,7 +11,7 @@ use Rattle.jb_book.specs.Since.{EndsSince, may_stop}
 use Rattle.jb_book.specs.SinceMark.{EndsMarked}
 use Rattle.jb_book.proofs.SinceNoHandles.{is-weaker}
 use Rattle.jb_desk.specs.Close.{DiffersAs, IsNotClosed}
-use Rattle.jb_book.specs.JournalValue.{Worked}
+use Rattle.jb_book.specs.JournalValue.{JournalAndClock}
 use Rattle.jb_desk.specs.declared.queue_state.QueueState.{QueueState}
 use Rattle.jb_desk.specs.declared.desk.Desk.{Desk}
 use Rattle.jb_desk.specs.declared.desk.closing.CloseFault.{CloseFault}
@@ -31,10 +31,10 @@ ends-since G b stops handles shape disk trail known marks marked =
     let ends = marked.ends in
     record { deck = ends.deck; same_disk = ends.same_disk; same_trail = ends.same_trail; since = is-weaker G b (IsStop b ends.log) (may_stop b) (λ h s. s.0) ends.deck ends.since }
 
-not-closed : {D C H N : Type 0} {Q : Disks D} {O : Ghosts H} {P : Places H} (G : Disks D) (b : Begun) (counter : QueueState D H N Q O P) (works : Worked D C) (desk : Desk D C H N Q O P) (lefts : Vec (Left H N O P)) (seen : Sights D H) (r : Result (Closed D C) (CloseFault D C H N Q O P)) → IfErr r (DiffersAs G b counter works seen) → IfErr r (IsNotClosed G b desk lefts seen)
-not-closed G b counter works desk lefts seen (Ok closed) is = tt
-not-closed G b counter works desk lefts seen (Err (SeatsOut back kept sights)) is = absurd is
-not-closed G b counter works desk lefts seen (Err (TrailsDiffer deck clock book)) is = (is.3, is.4)
+not-closed : {D C H N : Type 0} {Q : Disks D} {O : Ghosts H} {P : Places H} (G : Disks D) (b : Begun) (queue : QueueState D H N Q O P) (journal : JournalAndClock D C) (desk : Desk D C H N Q O P) (lefts : Vec (Left H N O P)) (seen : Sights D H) (r : Result (Closed D C) (CloseFault D C H N Q O P)) → IfErr r (DiffersAs G b queue journal seen) → IfErr r (IsNotClosed G b desk lefts seen)
+not-closed G b queue journal desk lefts seen (Ok closed) is = tt
+not-closed G b queue journal desk lefts seen (Err (SeatsOut back kept sights)) is = absurd is
+not-closed G b queue journal desk lefts seen (Err (TrailsDiffer deck clock book)) is = (is.3, is.4)
 
 pub returns-clause-sums : goal.returns-clause-sums
 returns-clause-sums g c = c.close_parts.ensures.sums
@@ -43,4 +43,4 @@ pub returns-clause-since : goal.returns-clause-since
 returns-clause-since g c = IfOk-weaker c.close_parts.result _ _ (λ closed ends. ends-since g.D.Disk g.H.Origin.begun _ _ _ _ _ _ _ ends.marked) c.close_parts.ensures.stops
 
 pub returns-clause-refused : goal.returns-clause-refused
-returns-clause-refused g c = not-closed g.D.Disk g.H.Origin.begun c.into_inner-counter.result c.into_inner.result c.args.self c.args.lefts c.args.seen c.close_parts.result c.close_parts.ensures.refused
+returns-clause-refused g c = not-closed g.D.Disk g.H.Origin.begun c.into_inner-queue.result c.into_inner.result c.args.self c.args.lefts c.args.seen c.close_parts.result c.close_parts.ensures.refused

@@ -36,7 +36,7 @@ use Rattle.jb_desk.proofs.desk.Desk.commit.Goals.{After-settled, After-settle_la
 use Rattle.jb_desk.proofs.desk.Desk.commit.Goals as goal
 
 -- a batch that is handed back as it was is out as it was
-out-on : {b : Begun} {batch back : Gathered} {given : ℕ} {sight seen : List WordMap} {out : Out} → back ≡ batch → seen ≡ sight → IsOut b batch given sight out → IsOut b back given seen out
+out-on : {b : Begun} {batch back : Gathered} {given : ℕ} {prefix seen : List WordMap} {out : Out} → back ≡ batch → seen ≡ prefix → IsOut b batch given prefix out → IsOut b back given seen out
 out-on {b} {given = given} {out = out} same kept is = subst (λ (x : Gathered × List WordMap). IsOut b x.0 given x.1 out) (λ i. (sym same i, sym kept i)) is
 
 -- what is told of a commit is told of its fault

@@ -131,13 +131,13 @@ returns-in-Memory-clause-cut g c = tt
 
 -- ---- there is no batch
 
-pub no_batch-requires-clause-running : goal.no_batch-requires-clause-running
-no_batch-requires-clause-running g c =
+pub nothing_to_take-requires-clause-running : goal.nothing_to_take-requires-clause-running
+nothing_to_take-requires-clause-running g c =
     let none = rw c.in_default.is at c.in_ok-held.ensures.none in
     ap (λ s. s.register.book.aborted) c.deref.ensures ∙ none.0
 
-pub no_batch-requires-clause-none : goal.no_batch-requires-clause-none
-no_batch-requires-clause-none g c =
+pub nothing_to_take-requires-clause-none : goal.nothing_to_take-requires-clause-none
+nothing_to_take-requires-clause-none g c =
     let none = rw c.in_default.is at c.in_ok-held.ensures.none in
     subst (λ s. CanTake s.register.book → ⊥) (sym c.deref.ensures) none.1
 
@@ -149,7 +149,7 @@ returns-in_default-clause-answers g c = (sym c.take-held.ensures.value ∙ gives
 
 pub returns-in_default-clause-idle : goal.returns-in_default-clause-idle
 returns-in_default-clause-idle g c =
-    let same = ap (λ (s : Front). s.stopped) c.no_batch.ensures in
+    let same = ap (λ (s : Front). s.stopped) c.nothing_to_take.ensures in
     let next = ap (λ s. s.register.book.shadow.next) c.deref.ensures in
     let all = c.in_ok-held.ensures.all in
     (refl, omega (arith, same, next, all))

@@ -8,5 +8,5 @@ use Rattle.jb_desk.proofs.desk.Desk.start.Goals as goal
 pub new-register-requires-clause-journal : goal.new-register-requires-clause-journal
 new-register-requires-clause-journal g c =
     let none = c.named-marks.result.1 in
-    subst (λ (ms : List (OpenDeck g.row.D.Denot)). HasShapeMark ms c.shape-shape.result) (sym c.mark-seen.ensures.whole ∙ sym c.mark-seen.ensures.sight)
+    subst (λ (ms : List (OpenDeck g.row.D.Denot)). HasShapeMark ms c.shape-shape.result) (sym c.mark-seen.ensures.whole ∙ sym c.mark-seen.ensures.prefix)
     (record { at = length none; mark = c.args.deck; stands = get_last none c.args.deck; same = sym c.shape-shape.ensures.value })

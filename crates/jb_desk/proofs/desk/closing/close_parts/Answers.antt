@@ -13,11 +13,11 @@ returns-clause-sums g c = c.totals-trail.ensures.sums
 pub returns-clause-stops : goal.returns-clause-stops
 returns-clause-stops g c =
     let b = g.H.Origin.begun in
-    let deck = c.end_works-deck.result.0 in
+    let deck = c.end_journal-deck.result.0 in
     let log = c.totals-trail.result.3 in
     let shape = c.shape-shape.result in
-    let marks = c.learn.new.sight in
-    let is = c.end_works-deck.ensures.since in
+    let marks = c.learn.new.prefix in
+    let is = c.end_journal-deck.ensures.since in
     record {
       marked = record {
         ends = record {
@@ -31,7 +31,7 @@ returns-clause-stops g c =
           since = is.since;
           journal = λ known_start held. of-begun g.D.Disk b (IsStop b log) deck shape c.shape-shape.ensures.journal is.since known_start (subst g.D.Disk.honest c.close.ensures.value held);
         };
-        knows = c.end_works-deck.ensures.knows;
+        knows = c.end_journal-deck.ensures.knows;
         last = all-first (Lasts g.D.Disk b is.since.given deck) c.args.seen.marks marks c.learn.ensures.own is.marks_last;
       };
       used = c.used_of-in_log.ensures.used;
@@ -44,16 +44,16 @@ returns-clause-stops g c =
 -- the book's shape is that of the journal at a mark, and so its shape now
 pub returns-clause-came : goal.returns-clause-came
 returns-clause-came g c =
-    let deck = c.end_works-deck.result.0 in
-    let marks = c.learn.new.sight in
-    let since = c.end_works-deck.ensures.since in
+    let deck = c.end_journal-deck.result.0 in
+    let marks = c.learn.new.prefix in
+    let since = c.end_journal-deck.ensures.since in
     let book = c.totals-trail.ensures.journal in
     let stands = placed_on c.totals-trail.result.4 marks c.learn.ensures.other (book.at, book.mark) book.stands in
     let last = at-place (Lasts g.D.Disk g.H.Origin.begun since.since.given deck) marks book.at book.mark stands since.marks_last in
     record {
       log = c.totals-trail.result.3;
       stopped = search rules;
-      run_shape = c.args.counter.register.book.shape;
+      run_shape = c.args.queue.register.book.shape;
       run = search rules;
       runs_as = λ known_start held. sym book.same ∙ sym last.same_shape ∙ sym c.shape-shape.ensures.value;
     }
@@ -67,8 +67,8 @@ returns-clause-refused g c = tt
 -- the journal and the book differ
 pub returns-then-not-are_same-clause-refused : goal.returns-then-not-are_same-clause-refused
 returns-then-not-are_same-clause-refused g c =
-    let deck = c.end_works-deck.result.0 in
-    let ended = c.end_works-deck.ensures in (
+    let deck = c.end_journal-deck.result.0 in
+    let ended = c.end_journal-deck.ensures in (
       ended.parts.0,
       ended.parts.1,
       c.totals-trail.ensures.book.0,
@@ -79,6 +79,6 @@ returns-then-not-are_same-clause-refused g c =
         deck = deck;
         same_disk = refl;
         since = ended.since.since;
-        last = all-first (Lasts g.D.Disk g.H.Origin.begun ended.since.since.given deck) c.args.seen.marks c.learn.new.sight c.learn.ensures.own ended.since.marks_last;
+        last = all-first (Lasts g.D.Disk g.H.Origin.begun ended.since.since.given deck) c.args.seen.marks c.learn.new.prefix c.learn.ensures.own ended.since.marks_last;
       },
     )

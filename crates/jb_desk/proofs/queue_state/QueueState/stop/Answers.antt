@@ -65,7 +65,7 @@ returns-in-Ok-clause-ok g c =
     }
 
 pub returns-in-Ok-clause-sees : goal.returns-in-Ok-clause-sees
-returns-in-Ok-clause-sees g c = subst (SeesStop c.args.seen.now.stops c.stop.new.sight c.in-Ok.ticket) (ap (λ (h : Held). h.words) c.with_seat-seat.ensures.changes) c.in-Ok.ensures.sees
+returns-in-Ok-clause-sees g c = subst (SeesStop c.args.seen.now.stops c.stop.new.prefix c.in-Ok.ticket) (ap (λ (h : Held). h.words) c.with_seat-seat.ensures.changes) c.in-Ok.ensures.sees
 
 pub returns-in-Ok-clause-marks : goal.returns-in-Ok-clause-marks
 returns-in-Ok-clause-marks g c = refl
