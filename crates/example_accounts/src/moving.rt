@@ -1,5 +1,6 @@
 //! Money is moved between accounts.
-ghost use Rattle.std.specs.Prelude.{◌<◌};
+ghost use Rattle.std.specs.Prelude.{◌≡◌, ◌<◌};
+ghost use Rattle.jb_journal.specs.declared.options.Commits.TheVariants.{Meanwhile};
 
 use crate::accounts::{Balances, put};
 use jb_journal::{Client, Clock, Disk, Handle, JournalFault, Origin, TouchFault, Worker};
@@ -15,7 +16,9 @@ pub struct Moving {
 }
 
 impl Worker<Result<(), JournalFault>> for Moving {
-    ghost use Rattle.jb_journal.specs.Client.{IsClient};
+    ghost use Rattle.jb_journal.specs.Client.{IsClient, commits_of};
+
+    ghost needs = { λ _ commits. commits ≡ Meanwhile };
 
     fn work<'a, D: Disk, C: Clock, R: Wait + time::Clock, H: Origin, N: Ledger>(
         &self,
@@ -24,6 +27,7 @@ impl Worker<Result<(), JournalFault>> for Moving {
         at: usize,
     ) -> Result<(), JournalFault>
         requires client { IsClient H.begun client.old }
+        requires commits { commits_of client.old ≡ Meanwhile }
     {
         let mut draw = at as u64;
         let mut last = None;
@@ -42,7 +46,7 @@ impl Worker<Result<(), JournalFault>> for Moving {
 }
 
 impl Moving {
-    ghost use Rattle.jb_journal.specs.Client.{IsClient};
+    ghost use Rattle.jb_journal.specs.Client.{IsClient, commits_of};
 
     /// Moves money from one account to another: both change, or none. Gives the ticket of the handle; nothing where the
     /// first account does not hold as much.
@@ -52,7 +56,8 @@ impl Moving {
         draw: u64,
     ) -> Result<Option<u64>, JournalFault>
         requires { IsClient H.begun client.old }
-        ensures { IsClient H.begun client.new }
+        ensures client { IsClient H.begun client.new }
+        ensures commits { commits_of client.new ≡ commits_of client.old }
     {
         let (from, to) = (place(draw >> 8), place(draw >> 24));
         let amount = (draw >> 40) % 50;

@@ -1,5 +1,7 @@
 //! Handles of two blocks, each of which is waited for.
-ghost use Rattle.jb_journal.specs.Client.{IsClient};
+ghost use Rattle.std.specs.Prelude.{◌≡◌};
+ghost use Rattle.jb_journal.specs.Client.{IsClient, commits_of};
+ghost use Rattle.jb_journal.specs.declared.options.Commits.TheVariants.{Meanwhile};
 
 use crate::times::{Part, micros};
 use jb_journal::{
@@ -31,7 +33,9 @@ pub struct Durable {
 }
 
 impl Worker<Result<Part, JournalFault>> for Durable {
-    ghost use Rattle.jb_journal.specs.Client.{IsClient};
+    ghost use Rattle.jb_journal.specs.Client.{IsClient, commits_of};
+
+    ghost needs = { λ _ commits. commits ≡ Meanwhile };
 
     fn work<'a, D: Disk, C: Clock, R: Wait + time::Clock, H: Origin, N: Ledger>(
         &self,
@@ -40,6 +44,7 @@ impl Worker<Result<Part, JournalFault>> for Durable {
         at: usize,
     ) -> Result<Part, JournalFault>
         requires client { IsClient H.begun client.old }
+        requires commits { commits_of client.old ≡ Meanwhile }
     {
         let rt = client.runtime();
         let mut draw = at as u64;
@@ -63,8 +68,10 @@ fn one_handle<'a, D: Disk, C: Clock, R: Wait + time::Clock, H: Origin, N: Ledger
     draw: u64,
     word: &Word,
 ) -> Result<(), JournalFault>
-    requires { IsClient H.begun client.old }
-    ensures { IsClient H.begun client.new }
+    requires client { IsClient H.begun client.old }
+    requires commits { commits_of client.old ≡ Meanwhile }
+    ensures client { IsClient H.begun client.new }
+    ensures commits { commits_of client.new ≡ commits_of client.old }
 {
     let (first, second) = ((draw >> 8) % HOMES, (draw >> 24) % HOMES);
     let (_, ticket) = client.change(2, |handle: &mut Handle<()>| -> Result<(), TouchFault> {

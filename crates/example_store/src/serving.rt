@@ -23,10 +23,13 @@ pub struct Serving {
 
 impl Worker<Result<(), Failed>> for Serving {
     ghost use Rattle.std.specs.Prelude.{◌≡◌, []};
-    ghost use Rattle.jb_journal.specs.Client.{IsClient, client_known, client_stops};
+    ghost use Rattle.jb_journal.specs.Client.{IsClient, client_known, client_stops, commits_of};
+    ghost use Rattle.jb_journal.specs.declared.options.Commits.TheVariants.{Meanwhile};
     ghost use Rattle.example_store.specs.AcknowledgedPuts.{Acknowledges};
 
     ghost answers = { λ serving begun shape sure workers at stops known answer. Acknowledges stops known.notes answer };
+
+    ghost needs = { λ _ commits. commits ≡ Meanwhile };
 
     fn work<'a, D: Disk, C: Clock, R: Wait + time::Clock, H: Origin, N: Ledger>(
         &self,
@@ -36,6 +39,7 @@ impl Worker<Result<(), Failed>> for Serving {
     ) -> Result<(), Failed>
         requires client { IsClient H.begun client.old }
         requires fresh { client_stops client.old ≡ [] }
+        requires commits { commits_of client.old ≡ Meanwhile }
         ensures answers { Acknowledges (client_stops client.new) (client_known client.new).notes result }
     {
         for command in &self.commands {
@@ -46,7 +50,9 @@ impl Worker<Result<(), Failed>> for Serving {
 }
 
 impl Serving {
-    ghost use Rattle.jb_journal.specs.Client.{IsClient, client_known, client_stops};
+    ghost use Rattle.std.specs.Prelude.{◌≡◌};
+    ghost use Rattle.jb_journal.specs.Client.{IsClient, client_known, client_stops, commits_of};
+    ghost use Rattle.jb_journal.specs.declared.options.Commits.TheVariants.{Meanwhile};
     ghost use Rattle.jb_journal.specs.Notes.{AreInNotes};
     ghost use Rattle.example_store.specs.AcknowledgedPuts.{Acknowledges};
 
@@ -57,8 +63,10 @@ impl Serving {
         command: Command,
     ) -> Result<(), Failed>
         requires client { IsClient H.begun client.old }
+        requires commits { commits_of client.old ≡ Meanwhile }
         requires noted { AreInNotes (client_known client.old).notes (client_stops client.old) }
         ensures client { IsClient H.begun client.new }
+        ensures commits { commits_of client.new ≡ commits_of client.old }
         ensures acknowledged { Acknowledges (client_stops client.new) (client_known client.new).notes result }
     {
         let rt = client.runtime();

@@ -1,6 +1,7 @@
 //! The store: each key is in one home block, and each change of it is a handle.
 ghost use Rattle.std.specs.Prelude.{◌≡◌, ◌%◌};
-ghost use Rattle.jb_journal.specs.Client.{IsClient, client_known, client_stops};
+ghost use Rattle.jb_journal.specs.Client.{IsClient, client_known, client_stops, commits_of};
+ghost use Rattle.jb_journal.specs.declared.options.Commits.TheVariants.{Meanwhile};
 ghost use Rattle.jb_journal.specs.Notes.{KnowsMore};
 ghost use Rattle.example_store.specs.AcknowledgedPuts.{PutsHome, PutsBlock};
 
@@ -23,8 +24,10 @@ pub fn put<'a, D: Disk, C: Clock, R: Wait + time::Clock, H: Origin, N: Ledger>(
     key: u64,
     value: u64,
 ) -> Result<(), Failed>
-    requires { IsClient H.begun client.old }
+    requires client { IsClient H.begun client.old }
+    requires commits { commits_of client.old ≡ Meanwhile }
     ensures client { IsClient H.begun client.new }
+    ensures commits { commits_of client.new ≡ commits_of client.old }
     ensures begins { KnowsMore (client_known client.old) (client_known client.new) }
     ensures puts { PutsHome (key % 32) (client_stops client.old) (client_stops client.new)
         (client_known client.new).notes
@@ -46,6 +49,7 @@ pub fn get<'a, D: Disk, C: Clock, R: Wait + time::Clock, H: Origin, N: Ledger>(
 ) -> Result<Option<u64>, JournalFault>
     requires { IsClient H.begun client.old }
     ensures client { IsClient H.begun client.new }
+    ensures commits { commits_of client.new ≡ commits_of client.old }
     ensures begins { KnowsMore (client_known client.old) (client_known client.new) }
     ensures kept { client_stops client.new ≡ client_stops client.old }
 {
@@ -61,8 +65,10 @@ pub fn delete<'a, D: Disk, C: Clock, R: Wait + time::Clock, H: Origin, N: Ledger
     client: &mut Client<'a, D, C, R, H, N>,
     key: u64,
 ) -> Result<(), JournalFault>
-    requires { IsClient H.begun client.old }
+    requires client { IsClient H.begun client.old }
+    requires commits { commits_of client.old ≡ Meanwhile }
     ensures client { IsClient H.begun client.new }
+    ensures commits { commits_of client.new ≡ commits_of client.old }
     ensures begins { KnowsMore (client_known client.old) (client_known client.new) }
     ensures puts { PutsHome (key % 32) (client_stops client.old) (client_stops client.new)
         (client_known client.new).notes
@@ -80,6 +86,7 @@ fn table_of<'a, D: Disk, C: Clock, R: Wait + time::Clock, H: Origin, N: Ledger>(
 ) -> Result<Table, JournalFault>
     requires { IsClient H.begun client.old }
     ensures client { IsClient H.begun client.new }
+    ensures commits { commits_of client.new ≡ commits_of client.old }
     ensures begins { KnowsMore (client_known client.old) (client_known client.new) }
     ensures kept { client_stops client.new ≡ client_stops client.old }
 {
@@ -94,8 +101,10 @@ fn write<'a, D: Disk, C: Clock, R: Wait + time::Clock, H: Origin, N: Ledger>(
     key: u64,
     block: &Block,
 ) -> Result<(), JournalFault>
-    requires { IsClient H.begun client.old }
+    requires client { IsClient H.begun client.old }
+    requires commits { commits_of client.old ≡ Meanwhile }
     ensures client { IsClient H.begun client.new }
+    ensures commits { commits_of client.new ≡ commits_of client.old }
     ensures begins { KnowsMore (client_known client.old) (client_known client.new) }
     ensures puts { PutsBlock (key % 32) block.now (client_stops client.old) (client_stops client.new)
         (client_known client.new).notes result }

@@ -45,12 +45,13 @@ first-trans xs ys zs p q = (p.0 ++ q.0, sym (append_assoc xs p.0 q.0) ∙ ap (λ
 pub sees-trans : {D S : Type 0} (one two three : Sights D S) → SeesMore one two → SeesMore two three → SeesMore one three
 sees-trans one two three p q = (first-trans one.stops two.stops three.stops p.0 q.0, first-trans one.marks two.marks three.marks p.1 q.1)
 
--- a client that has seen more goes on, at the same desk
-pub goes-on : {D C R H N : Type 0} {Q : Ghosts D} {O : OriginGhosts H} {P : Places H} (old new : Client D C R H N Q O P) → new.desk ≡ old.desk → SeesMore old.seen new.seen → ClientGoesOn old new
-goes-on {Q = Q} old new same more = record {
+-- a client that has seen more goes on, at the same desk of the same run
+pub goes-on : {D C R H N : Type 0} {Q : Ghosts D} {O : OriginGhosts H} {P : Places H} (old new : Client D C R H N Q O P) → new.desk ≡ old.desk → new.commits ≡ old.commits → SeesMore old.seen new.seen → ClientGoesOn old new
+goes-on {Q = Q} old new same when more = record {
   knows = (more.0, first-notes (note_of Q.moment) old.seen.marks new.seen.marks more.1);
   honest = all-first (λ m. Q.honest m.disk) old.seen.marks new.seen.marks more.1;
   shape = ap (λ desk. shape_in desk.now) same;
+  commits = when;
 }
 
 -- what stands in a first part stands in the whole

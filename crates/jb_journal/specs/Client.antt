@@ -19,6 +19,7 @@ use Rattle.jb_board.specs.HistoryRule.{StandsIn}
 use Rattle.jb_journal.specs.Notes.{Known, KnowsMore, Stop, note_of}
 use Rattle.jb_journal.specs.declared.client.Client.{Client}
 use Rattle.jb_journal.specs.declared.counted.CountedSeat.{CountedSeat}
+use Rattle.jb_journal.specs.declared.options.Commits.{Commits}
 
 -- the words of a handle that has written these bytes to one home, and has touched no other
 abbrev pub one_block : ℕ → List ℕ → WordMap
@@ -79,8 +80,13 @@ module _ {D C R H N : Type 0} {Q : Disks D} {O : OriginGhosts H} {P : Places H} 
   abbrev pub shape_of : Client D C R H N Q O P → Shape
   shape_of client = shape_in client.desk.now
 
-  -- how a client goes on: it knows all that it knew, the disk was honest at all that it had seen if it was so at all that it has seen now, and its handles have to fit the same shape
+  -- when what the clients of its run stop is committed
+  abbrev pub commits_of : Client D C R H N Q O P → Commits
+  commits_of client = client.commits
+
+  -- how a client goes on: it knows all that it knew, the disk was honest at all that it had seen if it was so at all that it has seen now, and its handles have to fit the same shape, and are committed when they were before
   pub record ClientGoesOn (old new : Client D C R H N Q O P) : Type 0 where
     pub knows : KnowsMore (client_known old) (client_known new)
     pub honest : client_honest new → client_honest old
     pub shape : shape_of new ≡ shape_of old
+    pub commits : commits_of new ≡ commits_of old

@@ -7,10 +7,12 @@ ghost use Rattle.jb_desk.specs.Seats.{made_by, desk_of};
 ghost use Rattle.jb_desk.specs.declared.fault.WaitFault.TheVariants.{Taken};
 ghost use Rattle.jb_handle.specs.Word.{WordMap};
 ghost use Rattle.jb_journal.specs.Change.{AnswersChange};
+ghost use Rattle.jb_journal.specs.declared.options.Commits.TheVariants.{Meanwhile};
 
 use crate::change::change_at;
 use crate::counted::CountedSeat;
 use crate::fault::HandleFault;
+use crate::options::Commits;
 use jb_block::{BlockSize, Memory};
 use jb_cost::{Geometry, most_credits};
 use jb_deck::{Entry, ReadHomeFault};
@@ -27,6 +29,8 @@ pub struct Client<'a, D: Disk, C: Clock, R, H: Origin, N: Ledger> {
     rt: &'a R,
     desk: &'a Desk<D, C, H, N>,
     shape: Shape,
+    /// when commits are made, in its run
+    commits: Commits,
     seat: Option<CountedSeat<H, N>>,
     /// what it has seen of the handles that stopped and of the journal
     seen: Sights<D, H>,
@@ -37,7 +41,7 @@ impl<'a, D: Disk, C: Clock, R: Wait + time::Clock, H: Origin, N: Ledger> Client<
     ghost use Rattle.jb_plan.specs.Costs.{geometry_of};
     ghost use Rattle.jb_cost.specs.Credits.{IsMost};
     ghost use Rattle.jb_journal.specs.Client.{ClientGoesOn, IsClient, client_honest, client_known, client_stops};
-    ghost use Rattle.jb_journal.specs.Client.{made_from, seen_by, shape_of, sights_of};
+    ghost use Rattle.jb_journal.specs.Client.{commits_of, made_from, seen_by, shape_of, sights_of};
     ghost use Rattle.jb_journal.specs.Notes.{IsInNotes, NotesTaken, ReadsAs};
 
     /// A client at a desk, where handles may stop with any words.
@@ -45,6 +49,7 @@ impl<'a, D: Disk, C: Clock, R: Wait + time::Clock, H: Origin, N: Ledger> Client<
         rt: &'a R,
         desk: &'a Desk<D, C, H, N>,
         shape: Shape,
+        commits: Commits,
         seat: CountedSeat<H, N>,
     ) -> Client<'a, D, C, R, H, N>
         requires desk { desk_of seat.seat ≡ desk_id desk.now }
@@ -53,12 +58,14 @@ impl<'a, D: Disk, C: Clock, R: Wait + time::Clock, H: Origin, N: Ledger> Client<
         requires fresh { made_by seat.seat ≡ [] }
         ensures client { IsClient H.begun result }
         ensures shape { shape_of result ≡ shape }
+        ensures commits { commits_of result ≡ commits }
         ensures stopped { client_stops result ≡ [] }
     {
         Client {
             rt,
             desk,
             shape,
+            commits,
             seat: Some(seat),
             seen: desk.sights(rt),
         }
@@ -110,6 +117,7 @@ impl<'a, D: Disk, C: Clock, R: Wait + time::Clock, H: Origin, N: Ledger> Client<
             rt: _rt,
             desk: _desk,
             shape: _shape,
+            commits: _commits,
             seat,
             seen,
         } = self;
@@ -212,6 +220,7 @@ impl<'a, D: Disk, C: Clock, R: Wait + time::Clock, H: Origin, N: Ledger> Client<
         ensures seat { self.new.seat ≡ Some seat }
         ensures desk { self.new.desk ≡ self.old.desk }
         ensures shape { self.new.shape ≡ self.old.shape }
+        ensures commits { self.new.commits ≡ self.old.commits }
         ensures seen { self.new.seen ≡ self.old.seen }
     {
         match mem::replace(&mut self.seat, Some(seat)) {
@@ -224,13 +233,14 @@ impl<'a, D: Disk, C: Clock, R: Wait + time::Clock, H: Origin, N: Ledger> Client<
     }
 
     /// Waits until the handle with this ticket is committed, and gives the number of its transaction
-    /// (`jbd2_log_wait_commit`). It survives a crash then.
+    /// (`jbd2_log_wait_commit`). It survives a crash then. Only where commits are made meanwhile: else a worker would
+    /// wait for a commit that waits for it.
     ///
     /// # Errors
     /// `Aborted` where the journal has failed and the handle is not committed; `Taken` where it is committed and the
     /// entry of its transaction was taken from the trail; `Unknown` where no handle has the ticket.
     pub fn wait(&mut self, ticket: u64) -> Result<u32, WaitFault>
-        requires client { IsClient H.begun self.old }
+        requires client { IsClient H.begun self.old × (commits_of self.old ≡ Meanwhile) }
         ensures client { IsClient H.begun self.new }
         ensures settled { IfOk result (λ _. ticket < (seen_by self.new).settled) }
         ensures taken { IfErr result (λ fault. fault ≡ Taken → ticket < (seen_by self.new).settled) }

@@ -12,10 +12,11 @@ pub enum Commits {
     /// make these threads, no worker is called, and the answer is `NoThread`.
     Meanwhile,
     /// The same where the system makes the threads. Otherwise the workers run one after the other, and what they
-    /// stopped is committed after them. For workers that wait for no commit: one that does may wait for ever.
+    /// stopped is committed after them. For workers that wait for no commit: a [wait](crate::Client::wait) requires
+    /// `Meanwhile`.
     MeanwhileOrAfter,
-    /// Once all workers have ended, with threads or without. For workers that wait for no commit: one that does waits
-    /// for ever. A handle that finds no room in the log is refused (`Full`).
+    /// Once all workers have ended, with threads or without. For workers that wait for no commit, likewise. A handle
+    /// that finds no room in the log is refused (`Full`).
     After,
 }
 

@@ -57,6 +57,7 @@ pub fn run<
     R: AllocGlobal + Threads + Wait + time::Clock + Sync,
 >(rt: &R, disk: D, clock: C, options: Options, worker: &W) -> Result<Ran<T, D>, NotRun<T, D>>
     requires workers { (1 ≤ options.workers) × (options.workers ≤ 64) }
+    requires needs { W.needs worker.now options.commits }
     /// `run` promises what `Desk::close` does, of its clients' handles and from a known start. Each note holds: what a
     /// crash leaves since then, up to the end of the run, recovers to all handles that were durable then, and perhaps
     /// some that follow by ticket.
@@ -71,18 +72,14 @@ pub fn run<
     /// is left was given the first of them by their tickets, each with its words. The machine of handles accepts a list
     /// of events in which they stopped in this order, and whose settled groups are those of the trail.
     ///
-    /// It says how many home blocks these handles changed, each handle's added up.
-    ///
-    /// It says how many blocks of the log are in use, where the journal has not failed. Where none are and the disk is
-    /// honest, each home is on the disk as the first of these handles left it that the journal was given, freed ones
-    /// aside.
+    /// It says how many home blocks these handles changed, each handle's added up, and how many blocks of the log are in
+    /// use, where the journal has not failed. Where none are and the disk is honest, each home is on the disk as the
+    /// first of these handles left it that the journal was given, freed ones aside.
     ///
     /// What a client knew when its worker answered lasts: the handles are the first of those that stopped. If the disk
     /// that is given back is honest, what a crash leaves since one of its notes, up to the end of the run, recovers to
-    /// the handles that were committed then, and after them a prefix of the others.
-    ///
-    /// If the disk that is given back is honest, it was so at all that any client has seen, so that each worker's
-    /// answer holds in full.
+    /// the handles that were committed then, and after them a prefix of the others. The disk was then honest at all
+    /// that any client has seen, so that each worker's answer holds in full.
     ensures ran { IfOk result (RanOn D.Disk disk (started_on D.Disk disk)
         (W.answers worker.now (started_on D.Disk disk)) options.workers) }
     /// It says how many handles are settled, by the end of the trail, which has no gap: all that have stopped, where it
@@ -131,6 +128,7 @@ pub fn run_on<
     worker: &W,
 ) -> Result<Ran<T, D>, NotRun<T, D>>
     requires workers { (1 ≤ options.workers) × (options.workers ≤ 64) }
+    requires needs { W.needs worker.now options.commits }
     requires begun { IsBegunOn D.Disk H.begun disk }
     requires any { (words : WordMap) → H.begun.stops words }
     ensures ran { IfOk result (RanOn D.Disk disk H.begun (W.answers worker.now H.begun) options.workers) }
@@ -166,6 +164,7 @@ fn run_deck<
     worker: &W,
 ) -> Result<Ran<T, D>, NotRun<T, D>>
     requires workers { (1 ≤ options.workers) × (options.workers ≤ 64) }
+    requires needs { W.needs worker.now options.commits }
     requires deck { (deck.trail ≡ []) × (deck.aborted ≡ false) × (deck.shape ≡ shape) × IsSince D.Disk H.begun deck }
     requires any { (words : WordMap) → H.begun.stops words }
     ensures ran { IfOk result (RanAll D.Disk H.begun (W.answers worker.now H.begun shape) options.workers shape) }
@@ -219,7 +218,8 @@ fn run_open<
         × (changes.name ≡ N.name) × (changes.parts ≡ N.parts) × (N.parts ≡ 2 ^ 61 + 1) }
     requires histories { (history_in handles ≡ H.history) × (history_id marks ≡ H.marks) }
     requires deck { (deck.trail ≡ []) × (deck.aborted ≡ false) × (deck.shape ≡ shape) × IsSince D.Disk H.begun deck }
-    requires work { (1 ≤ options.workers) × (options.workers ≤ 64) × ((words : WordMap) → H.begun.stops words) }
+    requires work { (1 ≤ options.workers) × (options.workers ≤ 64) × ((words : WordMap) → H.begun.stops words)
+        × W.needs worker.now options.commits }
     ensures ran { IfOk result (RanAll D.Disk H.begun (W.answers worker.now H.begun shape) options.workers shape) }
     ensures ends { IfOk result (EndsRun options.checkpoint) }
     ensures since { IfOk result (λ ran. EndsSince D.Disk H.begun ran.disk ran.trail.items) }
@@ -279,7 +279,8 @@ fn run_at<
 ) -> Result<Ran<T, D>, NotRun<T, D>>
     requires parts { (H.parts ≡ 2 ^ 61 + 1) × (N.parts ≡ 2 ^ 61 + 1) }
     requires shape { shape ≡ shape_in desk }
-    requires work { (1 ≤ options.workers) × (options.workers ≤ 64) × ((words : WordMap) → H.begun.stops words) }
+    requires work { (1 ≤ options.workers) × (options.workers ≤ 64) × ((words : WordMap) → H.begun.stops words)
+        × W.needs worker.now options.commits }
     requires room { IsRoomFor options.workers room }
     ensures ran { IfOk result (RanAll D.Disk H.begun (W.answers worker.now H.begun shape) options.workers shape) }
     ensures ends { IfOk result (EndsRun options.checkpoint) }

@@ -85,6 +85,7 @@ pub(crate) fn run_all<
     places: Vec<Worked<T, D, H, N>>,
 ) -> Threaded<T, D, H, N>
     requires shape { shape ≡ shape_in desk.now }
+    requires needs { W.needs worker.now options.commits }
     requires work { (1 ≤ vec_len places) × (vec_len places ≤ 64) × ((words : WordMap) → H.begun.stops words) }
     requires fresh { All HasNotWorked places.items }
     ensures ran { HasThreaded D.Disk (W.answers worker.now H.begun shape) (vec_len places) result }
@@ -101,7 +102,8 @@ pub(crate) fn run_all<
         || check_home(rt, desk, &gate, options.level),
         || -> Threaded<T, D, H, N>
             requires { (shape ≡ shape_in desk.now) × (1 ≤ vec_len places) × (vec_len places ≤ 64)
-                × ((words : WordMap) → H.begun.stops words) × All HasNotWorked places.items }
+                × ((words : WordMap) → H.begun.stops words) × All HasNotWorked places.items
+                × W.needs worker.now options.commits }
         { run_workers(rt, desk, shape, &gate, options, worker, places) },
     );
     ran.ends.checkpoint = Some(checkpoint);
@@ -152,6 +154,7 @@ fn run_workers<
     places: Vec<Worked<T, D, H, N>>,
 ) -> Threaded<T, D, H, N>
     requires shape { shape ≡ shape_in desk.now }
+    requires needs { W.needs worker.now options.commits }
     requires work { (1 ≤ vec_len places) × (vec_len places ≤ 64) × ((words : WordMap) → H.begun.stops words) }
     requires fresh { All HasNotWorked places.items }
     ensures ran { HasThreaded D.Disk (W.answers worker.now H.begun shape) (vec_len places) result }
@@ -164,7 +167,7 @@ fn run_workers<
     };
     let delay = options.delay;
     if options.commits == Commits::After {
-        let places = work(rt, desk, shape, gate, worker, places);
+        let places = work(rt, desk, shape, gate, options.commits, worker, places);
         return Threaded::of(places, Some(commit_all(rt, desk, delay, seat)), false);
     }
     // the committer is first, since the first closure runs last where no thread can be made
@@ -174,8 +177,8 @@ fn run_workers<
         || commit_from(rt, desk, gate, delay, &mut place),
         || -> Vec<Worked<T, D, H, N>>
             requires { (shape ≡ shape_in desk.now) × (1 ≤ vec_len places) × (vec_len places ≤ 64)
-                × ((words : WordMap) → H.begun.stops words) }
-        { work(rt, desk, shape, gate, worker, places) },
+                × ((words : WordMap) → H.begun.stops words) × W.needs worker.now options.commits }
+        { work(rt, desk, shape, gate, options.commits, worker, places) },
     );
     if let Some(seat) = place {
         let _left = seat.leave(rt, desk);

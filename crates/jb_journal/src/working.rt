@@ -7,6 +7,7 @@ ghost use Rattle.jb_journal.specs.Run.{HasWorked, HaveWorked};
 use crate::client::Client;
 use crate::counted::CountedSeat;
 use crate::gate::Gate;
+use crate::options::Commits;
 use crate::threads::Worked;
 use crate::worker::Worker;
 use jb_desk::{Desk, Origin};
@@ -31,15 +32,25 @@ pub(crate) fn work<
     desk: &Desk<D, C, H, N>,
     shape: Shape,
     gate: &Gate,
+    commits: Commits,
     worker: &W,
     places: Vec<Worked<T, D, H, N>>,
 ) -> Vec<Worked<T, D, H, N>>
     requires shape { shape ≡ shape_in desk.now }
+    requires needs { W.needs worker.now commits }
     requires work { (1 ≤ vec_len places) × (vec_len places ≤ 64) × ((words : WordMap) → H.begun.stops words) }
     ensures { HaveWorked D.Disk (W.answers worker.now H.begun shape) (vec_len places) result.items }
 {
     let mut places = places;
-    work_each(rt, desk, shape, gate, worker, places.as_mut_slice());
+    work_each(
+        rt,
+        desk,
+        shape,
+        gate,
+        commits,
+        worker,
+        places.as_mut_slice(),
+    );
     desk.shut(rt);
     places
 }
@@ -58,10 +69,12 @@ fn work_each<
     desk: &Desk<D, C, H, N>,
     shape: Shape,
     gate: &Gate,
+    commits: Commits,
     worker: &W,
     places: &mut [Worked<T, D, H, N>],
 )
     requires shape { shape ≡ shape_in desk.now }
+    requires needs { W.needs worker.now commits }
     requires work { (1 ≤ length places.old) × (length places.old ≤ 64) × ((words : WordMap) → H.begun.stops words) }
     ensures number { length places.new ≡ length places.old }
     ensures worked { HaveWorked D.Disk (W.answers worker.now H.begun shape) (length places.old) places.new }
@@ -73,9 +86,9 @@ fn work_each<
         workers,
         &|at: usize, place: &mut Worked<T, D, H, N>|
             requires { (shape ≡ shape_in desk.now) × (1 ≤ workers) × (workers ≤ 64)
-                × ((words : WordMap) → H.begun.stops words) }
+                × ((words : WordMap) → H.begun.stops words) × W.needs worker.entry.now commits }
             ensures { HasWorked D.Disk (W.answers worker.entry.now H.begun shape) workers at place.exit.now }
-        { *place = work_at(rt, desk, shape, gate, workers, worker, at) },
+        { *place = work_at(rt, desk, shape, gate, commits, workers, worker, at) },
     );
 }
 
@@ -85,11 +98,13 @@ fn work_at<T, W: Worker<T>, D: Disk, C: Clock, R: Wait + time::Clock, H: Origin,
     desk: &Desk<D, C, H, N>,
     shape: Shape,
     gate: &Gate,
+    commits: Commits,
     workers: usize,
     worker: &W,
     at: usize,
 ) -> Worked<T, D, H, N>
     requires shape { shape ≡ shape_in desk.now }
+    requires needs { W.needs worker.now commits }
     requires work { (1 ≤ workers) × (workers ≤ 64) × ((words : WordMap) → H.begun.stops words) }
     ensures { HasWorked D.Disk (W.answers worker.now H.begun shape) workers at result }
 {
@@ -99,7 +114,7 @@ fn work_at<T, W: Worker<T>, D: Disk, C: Clock, R: Wait + time::Clock, H: Origin,
     let Some(seat) = CountedSeat::at(rt, desk) else {
         return Worked::none(desk.sights(rt));
     };
-    let mut client = Client::new(rt, desk, shape, seat);
+    let mut client = Client::new(rt, desk, shape, commits, seat);
     let answer = worker.work(&mut client, workers, at);
     let (seat, seen) = client.into_seat();
     let left = match seat {

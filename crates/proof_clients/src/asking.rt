@@ -68,6 +68,7 @@ pub fn run_in_file<
     worker: &W,
 ) -> Option<Ran<T, FileDisk>>
     requires workers { (1 ≤ options.workers) × (options.workers ≤ 64) }
+    requires needs { W.needs worker.now options.commits }
     /// Whatever was answered, no call of a file whose journal is run comes after a write or a sync that failed.
     ensures { IfSome result (λ ran. faults_of ran.disk < most_faults → IsWellAsked ran.disk) }
 {

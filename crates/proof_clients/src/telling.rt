@@ -44,10 +44,13 @@ pub struct Telling {
 
 impl Worker<Found> for Telling {
     ghost use Rattle.std.specs.Prelude.{◌≡◌, []};
-    ghost use Rattle.jb_journal.specs.Client.{IsClient, client_honest, client_known, client_stops};
+    ghost use Rattle.jb_journal.specs.Client.{IsClient, client_honest, client_known, client_stops, commits_of};
+    ghost use Rattle.jb_journal.specs.declared.options.Commits.TheVariants.{Meanwhile};
 
     ghost answers = { λ telling begun shape sure workers at stops known found.
         HasFound telling.bytes begun sure stops known found };
+
+    ghost needs = { λ _ commits. commits ≡ Meanwhile };
 
     fn work<'a, D: Disk, C: Clock, R: Wait + time::Clock, H: Origin, N: Ledger>(
         &self,
@@ -57,6 +60,7 @@ impl Worker<Found> for Telling {
     ) -> Found
         requires client { IsClient H.begun client.old }
         requires fresh { client_stops client.old ≡ [] }
+        requires commits { commits_of client.old ≡ Meanwhile }
         ensures answers { HasFound self.now.bytes H.begun (client_honest client.new) (client_stops client.new)
             (client_known client.new) result }
     {
@@ -75,7 +79,8 @@ impl Worker<Found> for Telling {
 
 impl Telling {
     ghost use Rattle.std.specs.Prelude.{◌≡◌, []};
-    ghost use Rattle.jb_journal.specs.Client.{IsClient, client_honest, client_known, client_stops};
+    ghost use Rattle.jb_journal.specs.Client.{IsClient, client_honest, client_known, client_stops, commits_of};
+    ghost use Rattle.jb_journal.specs.declared.options.Commits.TheVariants.{Meanwhile};
 
     /// Two workers that have told nothing yet.
     pub fn new(bytes: [u8; 1024]) -> Telling
@@ -95,6 +100,7 @@ impl Telling {
     ) -> Option<u64>
         requires client { IsClient H.begun client.old }
         requires fresh { client_stops client.old ≡ [] }
+        requires commits { commits_of client.old ≡ Meanwhile }
         ensures { IfSome result (HasWritten self.now.bytes (client_stops client.new) (client_known client.new)) }
     {
         let changed = client.change(1, |handle: &mut Handle<()>| -> Result<(), TouchFault> {
@@ -116,6 +122,7 @@ impl Telling {
     ) -> Found
         requires client { IsClient H.begun client.old }
         requires fresh { client_stops client.old ≡ [] }
+        requires commits { commits_of client.old ≡ Meanwhile }
         ensures { HasFound self.now.bytes H.begun (client_honest client.new) (client_stops client.new)
             (client_known client.new) result }
     {

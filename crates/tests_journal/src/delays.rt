@@ -1,6 +1,7 @@
 //! Rounds that are put off, or made after the workers: how many handles they commit, and what they take.
-ghost use Rattle.std.specs.Prelude.{◌≤◌};
-ghost use Rattle.jb_journal.specs.Client.{IsClient};
+ghost use Rattle.std.specs.Prelude.{◌≡◌, ◌≤◌, true};
+ghost use Rattle.jb_journal.specs.Client.{IsClient, commits_of};
+ghost use Rattle.jb_journal.specs.declared.options.Commits.TheVariants.{Meanwhile};
 
 use crate::checks::{By, Host};
 use crate::journals::{CLOCK, by, formatted};
@@ -31,6 +32,8 @@ struct Stopping {
 }
 
 impl Worker<Result<(), JournalFault>> for Stopping {
+    ghost needs = { λ stopping commits. stopping.is_awaited ≡ true → commits ≡ Meanwhile };
+
     fn work<'a, D: Disk, C: Clock, R: Wait + time::Clock, H: Origin, N: Ledger>(
         &self,
         client: &mut Client<'a, D, C, R, H, N>,
@@ -38,6 +41,7 @@ impl Worker<Result<(), JournalFault>> for Stopping {
         at: usize,
     ) -> Result<(), JournalFault>
         requires client { IsClient H.begun client.old }
+        requires commits { self.now.is_awaited ≡ true → commits_of client.old ≡ Meanwhile }
     {
         let rt = client.runtime();
         let apart = (at as u64).saturating_add(1).saturating_mul(self.apart);
@@ -158,22 +162,22 @@ static ROWS: [Row; 6] = [
         transactions: Some(1),
         took: (400, LONG / 2),
     },
-    // after the workers it would never be
+    // after the workers both would have one transaction
     Row {
         name: "where there are threads, what stops is committed meanwhile",
         workers: 2,
         stopping: Stopping {
             handles: 1,
             credits: 1,
-            apart: 50,
-            is_awaited: true,
+            apart: 200,
+            is_awaited: false,
         },
         commits: Commits::MeanwhileOrAfter,
         millis: 0,
         waiting: 0,
         handles: 2,
-        transactions: None,
-        took: (200, LONG / 2),
+        transactions: Some(2),
+        took: (800, LONG / 2),
     },
 ];
 
@@ -219,6 +223,17 @@ fn millis(time: Duration) -> u64 {
         .saturating_add(u64::from(time.subsec_millis()))
 }
 
+/// When commits are made in a row: one whose workers wait has them made meanwhile.
+fn commits_in(row: &Row) -> Commits
+    ensures { row.now.stopping.is_awaited ≡ true → result ≡ Meanwhile }
+{
+    if row.stopping.is_awaited {
+        Commits::Meanwhile
+    } else {
+        row.commits
+    }
+}
+
 /// Checks a run of the journal on a disk, whose commits are put off.
 fn check_delayed<D: Disk + Drop + Send>(rt: &impl Host, row: &Row, disk: D) {
     let test = By(rt, rt.alloc());
@@ -228,7 +243,7 @@ fn check_delayed<D: Disk + Drop + Send>(rt: &impl Host, row: &Row, disk: D) {
         time: Duration::from_millis(row.millis),
         handles: row.waiting,
     };
-    options.commits = row.commits;
+    options.commits = commits_in(row);
     let start = Instant::now(rt).must(&test, "the time");
     let ran = run(rt, disk, CLOCK, options, &row.stopping).must(&test, row.name);
     let took = millis(start.elapsed(rt).must(&test, "the time"));

@@ -1,5 +1,6 @@
 //! New journals on disks, how they are run, and their homes after a crash and a recovery.
-ghost use Rattle.std.specs.Prelude.{◌≤◌};
+ghost use Rattle.std.specs.Prelude.{◌≡◌, ◌≤◌};
+ghost use Rattle.jb_journal.specs.declared.options.Commits.TheVariants.{Meanwhile};
 
 use jb_journal::{
     BlockSize, Commits, Delay, FixedClock, MemoryDisk, Options, Stamp, Width, format, recover,
@@ -23,7 +24,8 @@ pub fn formatted(test: &impl Bench, size: BlockSize) -> MemoryDisk {
 
 /// How a journal is run by this many workers.
 pub fn by(workers: usize) -> Options
-    ensures { (1 ≤ result.workers) × (result.workers ≤ 64) }
+    ensures workers { (1 ≤ result.workers) × (result.workers ≤ 64) }
+    ensures commits { result.commits ≡ Meanwhile }
 {
     Options {
         workers: workers.clamp(1, 64),

@@ -1,5 +1,7 @@
 //! A worker takes the entries of the trail, which stays short.
-ghost use Rattle.jb_journal.specs.Client.{IsClient};
+ghost use Rattle.std.specs.Prelude.{◌≡◌};
+ghost use Rattle.jb_journal.specs.Client.{IsClient, commits_of};
+ghost use Rattle.jb_journal.specs.declared.options.Commits.TheVariants.{Meanwhile};
 
 use crate::checks::{By, Host};
 use crate::journals::{CLOCK, by, formatted};
@@ -27,6 +29,8 @@ struct Long {
 }
 
 impl Worker<Taken> for Long {
+    ghost needs = { λ _ commits. commits ≡ Meanwhile };
+
     fn work<'a, D: Disk, C: Clock, R: Wait + time::Clock, H: Origin, N: Ledger>(
         &self,
         client: &mut Client<'a, D, C, R, H, N>,
@@ -34,6 +38,7 @@ impl Worker<Taken> for Long {
         _at: usize,
     ) -> Taken
         requires client { IsClient H.begun client.old }
+        requires commits { commits_of client.old ≡ Meanwhile }
     {
         let (mut entries, mut past) = (0_usize, 0);
         for _ in 0..self.rounds {

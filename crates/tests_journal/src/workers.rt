@@ -1,6 +1,7 @@
 //! Workers change home blocks; the homes are compared after a crash and a recovery.
-ghost use Rattle.std.specs.Prelude.{◌≤◌};
-ghost use Rattle.jb_journal.specs.Client.{IsClient};
+ghost use Rattle.std.specs.Prelude.{◌≡◌, ◌≤◌};
+ghost use Rattle.jb_journal.specs.Client.{IsClient, commits_of};
+ghost use Rattle.jb_journal.specs.declared.options.Commits.TheVariants.{Meanwhile};
 
 use crate::checks::{By, Host};
 use crate::journals::{CLOCK, by, formatted, homes};
@@ -29,6 +30,8 @@ pub struct Pairs {
 }
 
 impl Worker<Found> for Pairs {
+    ghost needs = { λ _ commits. commits ≡ Meanwhile };
+
     fn work<'a, D: Disk, C: Clock, R: Wait + time::Clock, H: Origin, N: Ledger>(
         &self,
         client: &mut Client<'a, D, C, R, H, N>,
@@ -36,6 +39,7 @@ impl Worker<Found> for Pairs {
         at: usize,
     ) -> Found
         requires client { IsClient H.begun client.old }
+        requires commits { commits_of client.old ≡ Meanwhile }
     {
         let (home, apart) = (at as u64 % 8, self.apart % 100);
         let byte = ((at % 200) as u8).saturating_add(1);
@@ -72,14 +76,16 @@ pub fn run_on<D: Disk + Drop + Send>(
     options: Options,
     pairs: &Pairs,
 ) -> Result<Ran<Found, D>, NotRun<Found, D>>
-    requires { (1 ≤ options.workers) × (options.workers ≤ 64) }
+    requires workers { (1 ≤ options.workers) × (options.workers ≤ 64) }
+    requires commits { options.commits ≡ Meanwhile }
 {
     run(rt, disk, CLOCK, options, pairs)
 }
 
 /// A new journal is run by them.
 pub fn run_new(rt: &impl Host, options: Options, pairs: &Pairs) -> Ran<Found, MemoryDisk>
-    requires { (1 ≤ options.workers) × (options.workers ≤ 64) }
+    requires workers { (1 ≤ options.workers) × (options.workers ≤ 64) }
+    requires commits { options.commits ≡ Meanwhile }
 {
     let test = By(rt, rt.alloc());
     let disk = formatted(&test, BlockSize::OneKib);
@@ -92,7 +98,8 @@ fn run_again<D: Disk + Drop + Send>(
     disk: D,
     options: Options,
 ) -> Result<u64, RunFault>
-    requires { (1 ≤ options.workers) × (options.workers ≤ 64) }
+    requires workers { (1 ≤ options.workers) × (options.workers ≤ 64) }
+    requires commits { options.commits ≡ Meanwhile }
 {
     match run_on(rt, disk, options, &PAIRS) {
         Ok(ran) => Ok(ran.handles),

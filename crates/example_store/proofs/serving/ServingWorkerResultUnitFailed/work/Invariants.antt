@@ -1,4 +1,6 @@
-use Rattle.jb_journal.specs.Client.{IsClient, client_known, client_stops}
+use Rattle.std.specs.Prelude.{◌≡◌}
+use Rattle.jb_journal.specs.Client.{IsClient, client_known, client_stops, commits_of}
+use Rattle.jb_journal.specs.declared.options.Commits.TheVariants.{Meanwhile}
 use Rattle.jb_journal.specs.Notes.{AreInNotes}
 use Rattle.example_store.proofs.serving.ServingWorkerResultUnitFailed.work.Given as goal
 
@@ -6,5 +8,6 @@ use Rattle.example_store.proofs.serving.ServingWorkerResultUnitFailed.work.Given
 abbrev pub invariant-loop-command : goal.invariant-loop-command
 invariant-loop-command g l = record {
   client : IsClient g.H.Origin.begun l.client;
+  commits : commits_of l.client ≡ Meanwhile;
   noted : AreInNotes (client_known l.client).notes (client_stops l.client);
 }

@@ -10,4 +10,4 @@ pub returns-clause-noted_taken : goal.returns-clause-noted_taken
 returns-clause-noted_taken g c = IfErr-weaker c.wait.result _ _ (λ fault is. taken-of g.D.Disk.moment c.wait.new.seen.marks c.args.ticket fault is) c.wait.ensures.taken
 
 pub returns-clause-goes_on : goal.returns-clause-goes_on
-returns-clause-goes_on g c = goes-on _ _ refl c.wait.ensures.begins
+returns-clause-goes_on g c = goes-on _ _ refl refl c.wait.ensures.begins
