@@ -46,7 +46,7 @@ impl Worker<Result<(), JournalFault>> for Moving {
 }
 
 impl Moving {
-    ghost use Rattle.jb_journal.specs.Client.{IsClient, commits_of};
+    ghost use Rattle.jb_journal.specs.Client.{MayWait};
 
     /// Moves money from one account to another: both change, or none. Gives the ticket of the handle; nothing where the
     /// first account does not hold as much.
@@ -55,9 +55,8 @@ impl Moving {
         client: &mut Client<'a, D, C, R, H, N>,
         draw: u64,
     ) -> Result<Option<u64>, JournalFault>
-        requires { IsClient H.begun client.old }
-        ensures client { IsClient H.begun client.new }
-        ensures commits { commits_of client.new ≡ commits_of client.old }
+        requires { MayWait H.begun client.old }
+        ensures { MayWait H.begun client.new }
     {
         let (from, to) = (place(draw >> 8), place(draw >> 24));
         let amount = (draw >> 40) % 50;

@@ -1,6 +1,6 @@
 //! Handles of two blocks, each of which is waited for.
 ghost use Rattle.std.specs.Prelude.{◌≡◌};
-ghost use Rattle.jb_journal.specs.Client.{IsClient, commits_of};
+ghost use Rattle.jb_journal.specs.Client.{MayWait};
 ghost use Rattle.jb_journal.specs.declared.options.Commits.TheVariants.{Meanwhile};
 
 use crate::times::{Part, micros};
@@ -68,10 +68,8 @@ fn one_handle<'a, D: Disk, C: Clock, R: Wait + time::Clock, H: Origin, N: Ledger
     draw: u64,
     word: &Word,
 ) -> Result<(), JournalFault>
-    requires client { IsClient H.begun client.old }
-    requires commits { commits_of client.old ≡ Meanwhile }
-    ensures client { IsClient H.begun client.new }
-    ensures commits { commits_of client.new ≡ commits_of client.old }
+    requires { MayWait H.begun client.old }
+    ensures { MayWait H.begun client.new }
 {
     let (first, second) = ((draw >> 8) % HOMES, (draw >> 24) % HOMES);
     let (_, ticket) = client.change(2, |handle: &mut Handle<()>| -> Result<(), TouchFault> {

@@ -50,9 +50,7 @@ impl Worker<Result<(), Failed>> for Serving {
 }
 
 impl Serving {
-    ghost use Rattle.std.specs.Prelude.{◌≡◌};
-    ghost use Rattle.jb_journal.specs.Client.{IsClient, client_known, client_stops, commits_of};
-    ghost use Rattle.jb_journal.specs.declared.options.Commits.TheVariants.{Meanwhile};
+    ghost use Rattle.jb_journal.specs.Client.{MayWait, client_known, client_stops};
     ghost use Rattle.jb_journal.specs.Notes.{AreInNotes};
     ghost use Rattle.example_store.specs.AcknowledgedPuts.{Acknowledges};
 
@@ -62,11 +60,9 @@ impl Serving {
         client: &mut Client<'a, D, C, R, H, N>,
         command: Command,
     ) -> Result<(), Failed>
-        requires client { IsClient H.begun client.old }
-        requires commits { commits_of client.old ≡ Meanwhile }
+        requires client { MayWait H.begun client.old }
         requires noted { AreInNotes (client_known client.old).notes (client_stops client.old) }
-        ensures client { IsClient H.begun client.new }
-        ensures commits { commits_of client.new ≡ commits_of client.old }
+        ensures client { MayWait H.begun client.new }
         ensures acknowledged { Acknowledges (client_stops client.new) (client_known client.new).notes result }
     {
         let rt = client.runtime();

@@ -1,7 +1,6 @@
 //! The store: each key is in one home block, and each change of it is a handle.
 ghost use Rattle.std.specs.Prelude.{◌≡◌, ◌%◌};
-ghost use Rattle.jb_journal.specs.Client.{IsClient, client_known, client_stops, commits_of};
-ghost use Rattle.jb_journal.specs.declared.options.Commits.TheVariants.{Meanwhile};
+ghost use Rattle.jb_journal.specs.Client.{MayWait, client_known, client_stops};
 ghost use Rattle.jb_journal.specs.Notes.{KnowsMore};
 ghost use Rattle.example_store.specs.AcknowledgedPuts.{PutsHome, PutsBlock};
 
@@ -24,10 +23,8 @@ pub fn put<'a, D: Disk, C: Clock, R: Wait + time::Clock, H: Origin, N: Ledger>(
     key: u64,
     value: u64,
 ) -> Result<(), Failed>
-    requires client { IsClient H.begun client.old }
-    requires commits { commits_of client.old ≡ Meanwhile }
-    ensures client { IsClient H.begun client.new }
-    ensures commits { commits_of client.new ≡ commits_of client.old }
+    requires { MayWait H.begun client.old }
+    ensures client { MayWait H.begun client.new }
     ensures begins { KnowsMore (client_known client.old) (client_known client.new) }
     ensures puts { PutsHome (key % 32) (client_stops client.old) (client_stops client.new)
         (client_known client.new).notes
@@ -47,9 +44,8 @@ pub fn get<'a, D: Disk, C: Clock, R: Wait + time::Clock, H: Origin, N: Ledger>(
     client: &mut Client<'a, D, C, R, H, N>,
     key: u64,
 ) -> Result<Option<u64>, JournalFault>
-    requires { IsClient H.begun client.old }
-    ensures client { IsClient H.begun client.new }
-    ensures commits { commits_of client.new ≡ commits_of client.old }
+    requires { MayWait H.begun client.old }
+    ensures client { MayWait H.begun client.new }
     ensures begins { KnowsMore (client_known client.old) (client_known client.new) }
     ensures kept { client_stops client.new ≡ client_stops client.old }
 {
@@ -65,10 +61,8 @@ pub fn delete<'a, D: Disk, C: Clock, R: Wait + time::Clock, H: Origin, N: Ledger
     client: &mut Client<'a, D, C, R, H, N>,
     key: u64,
 ) -> Result<(), JournalFault>
-    requires client { IsClient H.begun client.old }
-    requires commits { commits_of client.old ≡ Meanwhile }
-    ensures client { IsClient H.begun client.new }
-    ensures commits { commits_of client.new ≡ commits_of client.old }
+    requires { MayWait H.begun client.old }
+    ensures client { MayWait H.begun client.new }
     ensures begins { KnowsMore (client_known client.old) (client_known client.new) }
     ensures puts { PutsHome (key % 32) (client_stops client.old) (client_stops client.new)
         (client_known client.new).notes
@@ -84,9 +78,8 @@ fn table_of<'a, D: Disk, C: Clock, R: Wait + time::Clock, H: Origin, N: Ledger>(
     client: &mut Client<'a, D, C, R, H, N>,
     key: u64,
 ) -> Result<Table, JournalFault>
-    requires { IsClient H.begun client.old }
-    ensures client { IsClient H.begun client.new }
-    ensures commits { commits_of client.new ≡ commits_of client.old }
+    requires { MayWait H.begun client.old }
+    ensures client { MayWait H.begun client.new }
     ensures begins { KnowsMore (client_known client.old) (client_known client.new) }
     ensures kept { client_stops client.new ≡ client_stops client.old }
 {
@@ -101,10 +94,8 @@ fn write<'a, D: Disk, C: Clock, R: Wait + time::Clock, H: Origin, N: Ledger>(
     key: u64,
     block: &Block,
 ) -> Result<(), JournalFault>
-    requires client { IsClient H.begun client.old }
-    requires commits { commits_of client.old ≡ Meanwhile }
-    ensures client { IsClient H.begun client.new }
-    ensures commits { commits_of client.new ≡ commits_of client.old }
+    requires { MayWait H.begun client.old }
+    ensures client { MayWait H.begun client.new }
     ensures begins { KnowsMore (client_known client.old) (client_known client.new) }
     ensures puts { PutsBlock (key % 32) block.now (client_stops client.old) (client_stops client.new)
         (client_known client.new).notes result }

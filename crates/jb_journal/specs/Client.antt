@@ -20,6 +20,7 @@ use Rattle.jb_journal.specs.Notes.{Known, KnowsMore, Stop, note_of}
 use Rattle.jb_journal.specs.declared.client.Client.{Client}
 use Rattle.jb_journal.specs.declared.counted.CountedSeat.{CountedSeat}
 use Rattle.jb_journal.specs.declared.options.Commits.{Commits}
+use Rattle.jb_journal.specs.declared.options.Commits.TheVariants.{Meanwhile}
 
 -- the words of a handle that has written these bytes to one home, and has touched no other
 abbrev pub one_block : ℕ → List ℕ → WordMap
@@ -83,6 +84,11 @@ module _ {D C R H N : Type 0} {Q : Disks D} {O : OriginGhosts H} {P : Places H} 
   -- when what the clients of its run stop is committed
   abbrev pub commits_of : Client D C R H N Q O P → Commits
   commits_of client = client.commits
+
+  -- a client that may wait for commits: they are made meanwhile
+  pub record MayWait (b : Begun) (of : Client D C R H N Q O P) : Type 0 where
+    pub client : IsClient b of
+    pub meanwhile : commits_of of ≡ Meanwhile
 
   -- how a client goes on: it knows all that it knew, the disk was honest at all that it had seen if it was so at all that it has seen now, and its handles have to fit the same shape, and are committed when they were before
   pub record ClientGoesOn (old new : Client D C R H N Q O P) : Type 0 where

@@ -7,7 +7,6 @@ ghost use Rattle.jb_desk.specs.Seats.{made_by, desk_of};
 ghost use Rattle.jb_desk.specs.declared.fault.WaitFault.TheVariants.{Taken};
 ghost use Rattle.jb_handle.specs.Word.{WordMap};
 ghost use Rattle.jb_journal.specs.Change.{AnswersChange};
-ghost use Rattle.jb_journal.specs.declared.options.Commits.TheVariants.{Meanwhile};
 
 use crate::change::change_at;
 use crate::counted::CountedSeat;
@@ -40,7 +39,7 @@ impl<'a, D: Disk, C: Clock, R: Wait + time::Clock, H: Origin, N: Ledger> Client<
     ghost use Rattle.jb_book.specs.Journal.{GivesTrail, ReadsHome};
     ghost use Rattle.jb_plan.specs.Costs.{geometry_of};
     ghost use Rattle.jb_cost.specs.Credits.{IsMost};
-    ghost use Rattle.jb_journal.specs.Client.{ClientGoesOn, IsClient, client_honest, client_known, client_stops};
+    ghost use Rattle.jb_journal.specs.Client.{ClientGoesOn, IsClient, MayWait, client_honest, client_known, client_stops};
     ghost use Rattle.jb_journal.specs.Client.{commits_of, made_from, seen_by, shape_of, sights_of};
     ghost use Rattle.jb_journal.specs.Notes.{IsInNotes, NotesTaken, ReadsAs};
 
@@ -240,8 +239,8 @@ impl<'a, D: Disk, C: Clock, R: Wait + time::Clock, H: Origin, N: Ledger> Client<
     /// `Aborted` where the journal has failed and the handle is not committed; `Taken` where it is committed and the
     /// entry of its transaction was taken from the trail; `Unknown` where no handle has the ticket.
     pub fn wait(&mut self, ticket: u64) -> Result<u32, WaitFault>
-        requires client { IsClient H.begun self.old × (commits_of self.old ≡ Meanwhile) }
-        ensures client { IsClient H.begun self.new }
+        requires client { MayWait H.begun self.old }
+        ensures client { MayWait H.begun self.new }
         ensures settled { IfOk result (λ _. ticket < (seen_by self.new).settled) }
         ensures taken { IfErr result (λ fault. fault ≡ Taken → ticket < (seen_by self.new).settled) }
         /// After a successful wait some note of the library's client lists the ticket under the number that was

@@ -72,8 +72,8 @@ pub fn run<
     /// is left was given the first of them by their tickets, each with its words. The machine of handles accepts a list
     /// of events in which they stopped in this order, and whose settled groups are those of the trail.
     ///
-    /// It says how many home blocks these handles changed, each handle's added up, and how many blocks of the log are in
-    /// use, where the journal has not failed. Where none are and the disk is honest, each home is on the disk as the
+    /// It says how many home blocks these handles changed, each handle's added up, and how many blocks of the log are
+    /// in use, where the journal has not failed. Where none are and the disk is honest, each home is on the disk as the
     /// first of these handles left it that the journal was given, freed ones aside.
     ///
     /// What a client knew when its worker answered lasts: the handles are the first of those that stopped. If the disk

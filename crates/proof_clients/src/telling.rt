@@ -79,8 +79,7 @@ impl Worker<Found> for Telling {
 
 impl Telling {
     ghost use Rattle.std.specs.Prelude.{◌≡◌, []};
-    ghost use Rattle.jb_journal.specs.Client.{IsClient, client_honest, client_known, client_stops, commits_of};
-    ghost use Rattle.jb_journal.specs.declared.options.Commits.TheVariants.{Meanwhile};
+    ghost use Rattle.jb_journal.specs.Client.{MayWait, client_honest, client_known, client_stops};
 
     /// Two workers that have told nothing yet.
     pub fn new(bytes: [u8; 1024]) -> Telling
@@ -98,9 +97,8 @@ impl Telling {
         &self,
         client: &mut Client<'a, D, C, R, H, N>,
     ) -> Option<u64>
-        requires client { IsClient H.begun client.old }
+        requires client { MayWait H.begun client.old }
         requires fresh { client_stops client.old ≡ [] }
-        requires commits { commits_of client.old ≡ Meanwhile }
         ensures { IfSome result (HasWritten self.now.bytes (client_stops client.new) (client_known client.new)) }
     {
         let changed = client.change(1, |handle: &mut Handle<()>| -> Result<(), TouchFault> {
@@ -120,9 +118,8 @@ impl Telling {
         &self,
         client: &mut Client<'a, D, C, R, H, N>,
     ) -> Found
-        requires client { IsClient H.begun client.old }
+        requires client { MayWait H.begun client.old }
         requires fresh { client_stops client.old ≡ [] }
-        requires commits { commits_of client.old ≡ Meanwhile }
         ensures { HasFound self.now.bytes H.begun (client_honest client.new) (client_stops client.new)
             (client_known client.new) result }
     {

@@ -1,11 +1,6 @@
-use Rattle.std.specs.Prelude.{◌≡◌}
-use Rattle.jb_journal.specs.Client.{IsClient, commits_of}
-use Rattle.jb_journal.specs.declared.options.Commits.TheVariants.{Meanwhile}
+use Rattle.jb_journal.specs.Client.{MayWait}
 use Rattle.example_accounts.proofs.moving.MovingWorkerResultUnitJournalFault.work.Given as goal
 
 -- the client can change and wait
 abbrev pub invariant-loop : goal.invariant-loop
-invariant-loop g l = record {
-  client : IsClient g.H.Origin.begun l.client;
-  commits : commits_of l.client ≡ Meanwhile;
-}
+invariant-loop g l = MayWait g.H.Origin.begun l.client
