@@ -16,7 +16,7 @@ pub struct Moving {
 }
 
 impl Worker<Result<(), JournalFault>> for Moving {
-    ghost use Rattle.jb_journal.specs.Client.{IsClient, commits_of};
+    ghost use Rattle.jb_journal.specs.Client.{IsClient, when_committed};
 
     ghost needs = { λ _ commits. commits ≡ Meanwhile };
 
@@ -27,7 +27,7 @@ impl Worker<Result<(), JournalFault>> for Moving {
         at: usize,
     ) -> Result<(), JournalFault>
         requires client { IsClient H.begun client.old }
-        requires commits { commits_of client.old ≡ Meanwhile }
+        requires commits { when_committed client.old ≡ Meanwhile }
     {
         let mut draw = at as u64;
         let mut last = None;

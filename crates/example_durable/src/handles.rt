@@ -33,7 +33,7 @@ pub struct Durable {
 }
 
 impl Worker<Result<Part, JournalFault>> for Durable {
-    ghost use Rattle.jb_journal.specs.Client.{IsClient, commits_of};
+    ghost use Rattle.jb_journal.specs.Client.{IsClient, when_committed};
 
     ghost needs = { λ _ commits. commits ≡ Meanwhile };
 
@@ -44,7 +44,7 @@ impl Worker<Result<Part, JournalFault>> for Durable {
         at: usize,
     ) -> Result<Part, JournalFault>
         requires client { IsClient H.begun client.old }
-        requires commits { commits_of client.old ≡ Meanwhile }
+        requires commits { when_committed client.old ≡ Meanwhile }
     {
         let rt = client.runtime();
         let mut draw = at as u64;

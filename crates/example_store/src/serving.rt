@@ -23,7 +23,7 @@ pub struct Serving {
 
 impl Worker<Result<(), Failed>> for Serving {
     ghost use Rattle.std.specs.Prelude.{◌≡◌, []};
-    ghost use Rattle.jb_journal.specs.Client.{IsClient, client_known, client_stops, commits_of};
+    ghost use Rattle.jb_journal.specs.Client.{IsClient, client_known, client_stops, when_committed};
     ghost use Rattle.jb_journal.specs.declared.options.Commits.TheVariants.{Meanwhile};
     ghost use Rattle.example_store.specs.AcknowledgedPuts.{Acknowledges};
 
@@ -39,7 +39,7 @@ impl Worker<Result<(), Failed>> for Serving {
     ) -> Result<(), Failed>
         requires client { IsClient H.begun client.old }
         requires fresh { client_stops client.old ≡ [] }
-        requires commits { commits_of client.old ≡ Meanwhile }
+        requires commits { when_committed client.old ≡ Meanwhile }
         ensures answers { Acknowledges (client_stops client.new) (client_known client.new).notes result }
     {
         for command in &self.commands {

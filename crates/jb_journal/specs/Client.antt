@@ -82,17 +82,17 @@ module _ {D C R H N : Type 0} {Q : Disks D} {O : OriginGhosts H} {P : Places H} 
   shape_of client = shape_in client.desk.now
 
   -- when what the clients of its run stop is committed
-  abbrev pub commits_of : Client D C R H N Q O P → Commits
-  commits_of client = client.commits
+  abbrev pub when_committed : Client D C R H N Q O P → Commits
+  when_committed client = client.commits
 
   -- a client that may wait for commits: they are made meanwhile
   pub record MayWait (b : Begun) (of : Client D C R H N Q O P) : Type 0 where
     pub client : IsClient b of
-    pub meanwhile : commits_of of ≡ Meanwhile
+    pub meanwhile : when_committed of ≡ Meanwhile
 
   -- how a client goes on: it knows all that it knew, the disk was honest at all that it had seen if it was so at all that it has seen now, and its handles have to fit the same shape, and are committed when they were before
   pub record ClientGoesOn (old new : Client D C R H N Q O P) : Type 0 where
     pub knows : KnowsMore (client_known old) (client_known new)
     pub honest : client_honest new → client_honest old
     pub shape : shape_of new ≡ shape_of old
-    pub commits : commits_of new ≡ commits_of old
+    pub commits : when_committed new ≡ when_committed old

@@ -39,8 +39,9 @@ impl<'a, D: Disk, C: Clock, R: Wait + time::Clock, H: Origin, N: Ledger> Client<
     ghost use Rattle.jb_book.specs.Journal.{GivesTrail, ReadsHome};
     ghost use Rattle.jb_plan.specs.Costs.{geometry_of};
     ghost use Rattle.jb_cost.specs.Credits.{IsMost};
-    ghost use Rattle.jb_journal.specs.Client.{ClientGoesOn, IsClient, MayWait, client_honest, client_known, client_stops};
-    ghost use Rattle.jb_journal.specs.Client.{commits_of, made_from, seen_by, shape_of, sights_of};
+    ghost use Rattle.jb_journal.specs.Client.{ClientGoesOn, IsClient, MayWait, client_honest, client_known};
+    ghost use Rattle.jb_journal.specs.Client.{client_stops};
+    ghost use Rattle.jb_journal.specs.Client.{when_committed, made_from, seen_by, shape_of, sights_of};
     ghost use Rattle.jb_journal.specs.Notes.{IsInNotes, NotesTaken, ReadsAs};
 
     /// A client at a desk, where handles may stop with any words.
@@ -57,7 +58,7 @@ impl<'a, D: Disk, C: Clock, R: Wait + time::Clock, H: Origin, N: Ledger> Client<
         requires fresh { made_by seat.seat ≡ [] }
         ensures client { IsClient H.begun result }
         ensures shape { shape_of result ≡ shape }
-        ensures commits { commits_of result ≡ commits }
+        ensures commits { when_committed result ≡ commits }
         ensures stopped { client_stops result ≡ [] }
     {
         Client {

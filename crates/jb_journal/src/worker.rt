@@ -12,7 +12,7 @@ use std::time;
 pub trait Worker<T> {
     ghost use Rattle.jb_book.specs.Origin.{Begun};
     ghost use Rattle.jb_journal.specs.Client.{IsClient, client_honest, client_known, client_stops};
-    ghost use Rattle.jb_journal.specs.Client.{commits_of, shape_of};
+    ghost use Rattle.jb_journal.specs.Client.{when_committed, shape_of};
     ghost use Rattle.jb_journal.specs.declared.options.Commits.{Commits};
     ghost use Rattle.jb_journal.specs.Notes.{Known, Stop};
 
@@ -36,7 +36,7 @@ pub trait Worker<T> {
     ) -> T
         requires client { IsClient H.begun client.old }
         requires fresh { client_stops client.old ≡ [] }
-        requires commits { needs self.now (commits_of client.old) }
+        requires commits { needs self.now (when_committed client.old) }
         requires workers { (1 ≤ workers) × (workers ≤ 64) }
         ensures answers { answers self.now H.begun (shape_of client.old) (client_honest client.new) workers at
             (client_stops client.new) (client_known client.new) result };

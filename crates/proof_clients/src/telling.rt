@@ -44,7 +44,7 @@ pub struct Telling {
 
 impl Worker<Found> for Telling {
     ghost use Rattle.std.specs.Prelude.{◌≡◌, []};
-    ghost use Rattle.jb_journal.specs.Client.{IsClient, client_honest, client_known, client_stops, commits_of};
+    ghost use Rattle.jb_journal.specs.Client.{IsClient, client_honest, client_known, client_stops, when_committed};
     ghost use Rattle.jb_journal.specs.declared.options.Commits.TheVariants.{Meanwhile};
 
     ghost answers = { λ telling begun shape sure workers at stops known found.
@@ -60,7 +60,7 @@ impl Worker<Found> for Telling {
     ) -> Found
         requires client { IsClient H.begun client.old }
         requires fresh { client_stops client.old ≡ [] }
-        requires commits { commits_of client.old ≡ Meanwhile }
+        requires commits { when_committed client.old ≡ Meanwhile }
         ensures answers { HasFound self.now.bytes H.begun (client_honest client.new) (client_stops client.new)
             (client_known client.new) result }
     {

@@ -1,6 +1,6 @@
 //! Rounds that are put off, or made after the workers: how many handles they commit, and what they take.
 ghost use Rattle.std.specs.Prelude.{◌≡◌, ◌≤◌, true};
-ghost use Rattle.jb_journal.specs.Client.{IsClient, commits_of};
+ghost use Rattle.jb_journal.specs.Client.{IsClient, when_committed};
 ghost use Rattle.jb_journal.specs.declared.options.Commits.TheVariants.{Meanwhile};
 
 use crate::checks::{By, Host};
@@ -41,7 +41,7 @@ impl Worker<Result<(), JournalFault>> for Stopping {
         at: usize,
     ) -> Result<(), JournalFault>
         requires client { IsClient H.begun client.old }
-        requires commits { self.now.is_awaited ≡ true → commits_of client.old ≡ Meanwhile }
+        requires commits { self.now.is_awaited ≡ true → when_committed client.old ≡ Meanwhile }
     {
         let rt = client.runtime();
         let apart = (at as u64).saturating_add(1).saturating_mul(self.apart);

@@ -1,6 +1,6 @@
 //! Workers change home blocks; the homes are compared after a crash and a recovery.
 ghost use Rattle.std.specs.Prelude.{◌≡◌, ◌≤◌};
-ghost use Rattle.jb_journal.specs.Client.{IsClient, commits_of};
+ghost use Rattle.jb_journal.specs.Client.{IsClient, when_committed};
 ghost use Rattle.jb_journal.specs.declared.options.Commits.TheVariants.{Meanwhile};
 
 use crate::checks::{By, Host};
@@ -39,7 +39,7 @@ impl Worker<Found> for Pairs {
         at: usize,
     ) -> Found
         requires client { IsClient H.begun client.old }
-        requires commits { commits_of client.old ≡ Meanwhile }
+        requires commits { when_committed client.old ≡ Meanwhile }
     {
         let (home, apart) = (at as u64 % 8, self.apart % 100);
         let byte = ((at % 200) as u8).saturating_add(1);

@@ -1,5 +1,5 @@
 use Rattle.std.specs.Prelude.{◌≡◌, true}
-use Rattle.jb_journal.specs.Client.{IsClient, commits_of}
+use Rattle.jb_journal.specs.Client.{IsClient, when_committed}
 use Rattle.jb_journal.specs.declared.options.Commits.TheVariants.{Meanwhile}
 use Rattle.tests_journal.proofs.delays.StoppingWorkerResultUnitJournalFault.work.Given as goal
 
@@ -7,5 +7,5 @@ use Rattle.tests_journal.proofs.delays.StoppingWorkerResultUnitJournalFault.work
 abbrev pub invariant-loop : goal.invariant-loop
 invariant-loop g l = record {
   client : IsClient g.H.Origin.begun l.client;
-  commits : g.args.self.now.is_awaited ≡ true → commits_of l.client ≡ Meanwhile;
+  commits : g.args.self.now.is_awaited ≡ true → when_committed l.client ≡ Meanwhile;
 }
