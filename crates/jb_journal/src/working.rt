@@ -7,7 +7,7 @@ ghost use Rattle.jb_journal.specs.Run.{HasWorked, HaveWorked};
 use crate::client::Client;
 use crate::counted::CountedSeat;
 use crate::gate::Gate;
-use crate::threads::Worked;
+use crate::threads::WorkerResult;
 use crate::worker::Worker;
 use jb_desk::{Desk, Origin};
 use jb_disk::{Clock, Disk};
@@ -32,8 +32,8 @@ pub(crate) fn work<
     shape: Shape,
     gate: &Gate,
     worker: &W,
-    places: Vec<Worked<T, D, H, N>>,
-) -> Vec<Worked<T, D, H, N>>
+    places: Vec<WorkerResult<T, D, H, N>>,
+) -> Vec<WorkerResult<T, D, H, N>>
     requires shape { shape ≡ shape_in desk.now }
     requires work { (1 ≤ vec_len places) × (vec_len places ≤ 64) × ((words : WordMap) → H.begun.stops words) }
     ensures { HaveWorked D.Disk (W.answers worker.now H.begun shape) (vec_len places) result.items }
@@ -59,7 +59,7 @@ fn work_each<
     shape: Shape,
     gate: &Gate,
     worker: &W,
-    places: &mut [Worked<T, D, H, N>],
+    places: &mut [WorkerResult<T, D, H, N>],
 )
     requires shape { shape ≡ shape_in desk.now }
     requires work { (1 ≤ length places.old) × (length places.old ≤ 64) × ((words : WordMap) → H.begun.stops words) }
@@ -71,7 +71,7 @@ fn work_each<
         rt,
         places,
         workers,
-        &|at: usize, place: &mut Worked<T, D, H, N>|
+        &|at: usize, place: &mut WorkerResult<T, D, H, N>|
             requires { (shape ≡ shape_in desk.now) × (1 ≤ workers) × (workers ≤ 64)
                 × ((words : WordMap) → H.begun.stops words) }
             ensures { HasWorked D.Disk (W.answers worker.entry.now H.begun shape) workers at place.exit.now }
@@ -88,16 +88,16 @@ fn work_at<T, W: Worker<T>, D: Disk, C: Clock, R: Wait + time::Clock, H: Origin,
     workers: usize,
     worker: &W,
     at: usize,
-) -> Worked<T, D, H, N>
+) -> WorkerResult<T, D, H, N>
     requires shape { shape ≡ shape_in desk.now }
     requires work { (1 ≤ workers) × (workers ≤ 64) × ((words : WordMap) → H.begun.stops words) }
     ensures { HasWorked D.Disk (W.answers worker.now H.begun shape) workers at result }
 {
     if !gate.wait(rt) {
-        return Worked::none(desk.sights(rt));
+        return WorkerResult::none(desk.sights(rt));
     }
     let Some(seat) = CountedSeat::at(rt, desk) else {
-        return Worked::none(desk.sights(rt));
+        return WorkerResult::none(desk.sights(rt));
     };
     let mut client = Client::new(rt, desk, shape, seat);
     let answer = worker.work(&mut client, workers, at);
@@ -106,7 +106,7 @@ fn work_at<T, W: Worker<T>, D: Disk, C: Clock, R: Wait + time::Clock, H: Origin,
         Some(seat) => Some(seat.leave(rt, desk)),
         None => None,
     };
-    Worked {
+    WorkerResult {
         left,
         seen,
         answer: Some(answer),
