@@ -38,7 +38,8 @@ pub record AreInNotesButOne (notes : List Note) (stops : List Stop) : Type 0 whe
   pub one : length last ≤ 1
   pub noted : AreInNotes notes acknowledged
 
--- what the store has acknowledged of the handles that it has stopped: each of them, or after a fault all but the last one at most
+-- what the store has acknowledged of the handles that it has stopped: each of them, or after a fault all but the last
+-- one at most
 abbrev pub Acknowledges : {E : Type 0} → List Stop → List Note → Result Unit E → Type 0
 Acknowledges stops notes (Ok unit) = AreInNotes notes stops
 Acknowledges stops notes (Err fault) = AreInNotesButOne notes stops
@@ -48,9 +49,11 @@ abbrev pub IsLast : Result Unit Failed → List Stop → Type 0
 IsLast (Ok unit) last = last ≡ []
 IsLast (Err failed) last = length last ≤ 1
 
--- What the store has acknowledged stays, where the disk that is given back is honest: of the one worker that was run, each handle that it has stopped and acknowledged
+-- What the store has acknowledged stays, where the disk that is given back is honest: of the one worker that was run,
+-- each handle that it has stopped and acknowledged
 pub record Keeps {D : Type 0} (G : Ghosts D) (disk : D) (ran : Ran (Result Unit Failed) D) : Type 0 where
-  pub on : RanOn G disk (started_on G disk) (λ shape sure workers at stops known answer. Acknowledges stops known.notes answer) 1 ran
+  pub on : RanOn G disk (started_on G disk)
+      (λ shape sure workers at stops known answer. Acknowledges stops known.notes answer) 1 ran
   pub answer : Result Unit Failed
   pub answered : ran.answers.items ≡ answer ∷ []
   pub stops : List Stop
@@ -61,4 +64,6 @@ pub record Keeps {D : Type 0} (G : Ghosts D) (disk : D) (ran : Ran (Result Unit 
   pub last : List Stop
   pub are : stops ≡ acknowledged ++ last
   pub few : IsLast answer last
-  pub stay : All (HandleStays G (started_on G disk) (λ sure workers at stops known answer. Acknowledges stops known.notes answer) 1 on.shape ran on.all knew.notes) acknowledged
+  pub stay : All (HandleStays G (started_on G disk)
+      (λ sure workers at stops known answer. Acknowledges stops known.notes answer) 1 on.shape ran on.all knew.notes)
+      acknowledged

@@ -6,7 +6,7 @@ ghost use Rattle.jb_board.specs.History.{history_id};
 use crate::journals::{STAMP, recovered_word};
 use crate::met::{Met, ample, refusing, tried};
 use jb_block::Memory;
-use jb_board::Opened;
+use jb_board::NewHistory;
 use jb_deck::Deck;
 use jb_desk::{Closed, Desk, Left, Origin, StopLedger};
 use jb_disk::{Disk, FixedClock, MemoryDisk};
@@ -74,7 +74,7 @@ pub fn stops_row(rt: &impl Files<File = File>, alloc: Global) -> Option<Met> {
 type Parts = (
     StopLedger,
     Blank,
-    Opened<Deck<MemoryDisk>>,
+    NewHistory<Deck<MemoryDisk>>,
     Deck<MemoryDisk>,
     FixedClock,
 );
@@ -84,7 +84,7 @@ fn start<H: Origin, N: Ledger>(
     alloc: Global,
     handles: StopLedger,
     changes: Blank,
-    marks: Opened<Deck<MemoryDisk>>,
+    marks: NewHistory<Deck<MemoryDisk>>,
     deck: Deck<MemoryDisk>,
 ) -> Result<Small<MemoryDisk, H, N>, Parts>
     requires blind { (H.begun.is_known → ⊥) × (H.begun.none_failed → ⊥) }
@@ -103,7 +103,7 @@ fn start_again<H: Origin, N: Ledger>(
     alloc: Global,
     handles: StopLedger,
     changes: Blank,
-    marks: Opened<Deck<MemoryDisk>>,
+    marks: NewHistory<Deck<MemoryDisk>>,
     deck: Deck<MemoryDisk>,
 ) -> Option<Small<MemoryDisk, H, N>>
     requires blind { (H.begun.is_known → ⊥) × (H.begun.none_failed → ⊥) }
@@ -123,7 +123,7 @@ pub fn started<R: Files<File = File>, H: Origin, N: Ledger>(
     alloc: Global,
     handles: StopLedger,
     changes: Blank,
-    marks: Opened<Deck<MemoryDisk>>,
+    marks: NewHistory<Deck<MemoryDisk>>,
     deck: Deck<MemoryDisk>,
     is_refused: bool,
 ) -> (Met, Option<Small<MemoryDisk, H, N>>)

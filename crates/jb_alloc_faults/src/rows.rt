@@ -8,7 +8,7 @@ use crate::desks::{PARTS, Rest, Small, settle, started};
 use crate::journals::opened;
 use crate::met::Met;
 use crate::{books, decks, desks, disks, handles, logs, machines, rounds, stopping, texts, values};
-use jb_board::Opened;
+use jb_board::NewHistory;
 use jb_deck::Deck;
 use jb_desk::{Origin, StopLedger};
 use jb_disk::{Disk, MemoryDisk};
@@ -105,7 +105,7 @@ fn desk_row<R: Files<File = File> + Threads + Wait + Clock + Sync>(
     row: OfDesk,
 ) -> Option<Met> {
     let (handles, changes) = (StopLedger::new(alloc, PARTS).ok()?, Blank::new(PARTS));
-    let marks = Opened::new(alloc).ok()?;
+    let marks = NewHistory::new(alloc).ok()?;
     let deck = opened(alloc)?;
     run_row::<R, Brand, Brand>(rt, alloc, row, handles, changes, marks, deck)
 }
@@ -142,7 +142,7 @@ fn run_row<
     row: OfDesk,
     handles: StopLedger,
     changes: Blank,
-    marks: Opened<Deck<MemoryDisk>>,
+    marks: NewHistory<Deck<MemoryDisk>>,
     deck: Deck<MemoryDisk>,
 ) -> Option<Met>
     requires blind { (H.begun.is_known → ⊥) × (H.begun.none_failed → ⊥) }

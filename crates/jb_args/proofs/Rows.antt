@@ -4,10 +4,10 @@ use Rattle.std.proofs.Math.Seq.{drop-cons}
 use Rattle.clap.specs.Words.{App, with_rule, with_subcommand}
 use Rattle.jb_args.specs.Rows.{app_named, rule_of_word, with_commands, with_row_words}
 use Rattle.jb_args.specs.declared.commands.command_name.CommandName.{CommandName}
-use Rattle.jb_args.specs.declared.commands.word.Word.{Word}
+use Rattle.jb_args.specs.declared.commands.word.CommandWord.{CommandWord}
 
 -- one word more is the next of those that are left
-pub next_word : (a : App) (words : List Word) (i : ℕ) (word : Word) → i < length words
+pub next_word : (a : App) (words : List CommandWord) (i : ℕ) (word : CommandWord) → i < length words
     → with_row_words (with_rule a (rule_of_word (get_or words i word))) (drop (i + 1) words) ≡ with_row_words a (drop i words)
 next_word a words i word h = rw add-one (ap (with_row_words a) (sym (drop-cons words i word h)))
 

@@ -43,11 +43,13 @@ beside_of (hint.NoHome homes) = of_homes homes
 beside_of (hint.HandleOutOfRange homes) = Homes homes
 beside_of _ = Nothing
 
--- the second line of these words, with what it says beside them: a bad option and what that may be, the system's text, a number
+-- the second line of these words, with what it says beside them: a bad option and what that may be, the system's text,
+-- a number
 abbrev pub line_with : List ℕ → List ℕ → HintArg → List ℕ
 line_with system words Nothing = spelled (codes "jb:  " ∷ words ∷ codes "\n" ∷ [])
 line_with system words (BadOption option) =
-    spelled (codes "jb:  " ∷ words ∷ codes ": " ∷ option_text option ∷ codes " is " ∷ option_range option ∷ codes "\n" ∷ [])
+    spelled (codes "jb:  " ∷ words ∷ codes ": " ∷ option_text option ∷ codes " is " ∷ option_range option ∷ codes "\n"
+    ∷ [])
 line_with system words (System code) = spelled (codes "jb:  " ∷ words ∷ codes ": " ∷ system ∷ codes "\n" ∷ [])
 line_with system words (Homes homes) = spelled (codes "jb:  " ∷ words ∷ codes ": " ∷ decimal homes ∷ codes "\n" ∷ [])
 

@@ -80,21 +80,25 @@ format_app =
 -- `dump FILE [--home N] [--last N] [--super] [--summary] [--journal JOURNAL] [--extents LIST] [--checksums] [--ring]`
 abbrev pub dump_app : App
 dump_app =
-    let numbered = with_rule (with_rule (file_app (codes "dump")) (number_option (codes "home"))) (number_option (codes "last")) in
+    let numbered =
+    with_rule (with_rule (file_app (codes "dump")) (number_option (codes "home"))) (number_option (codes "last")) in
     let chosen = with_rule (with_rule numbered (flag (codes "super"))) (flag (codes "summary")) in
-    with_rule (with_rule (with_rule (with_rule chosen journal_option) extents_option) (flag (codes "checksums"))) (flag (codes "ring"))
+    with_rule (with_rule (with_rule (with_rule chosen journal_option) extents_option) (flag (codes "checksums")))
+    (flag (codes "ring"))
 
 -- `cat IMAGE HOME [-n N] [--hex] [--journal FILE] [--extents LIST] [--checksums]`
 abbrev pub cat_app : App
 cat_app =
     let numbered = with_rule (with_rule (image_app (codes "cat")) (number_word (codes "HOME"))) count_option in
-    with_rule (with_rule (with_rule (with_rule numbered (flag (codes "hex"))) journal_option) extents_option) (flag (codes "checksums"))
+    with_rule (with_rule (with_rule (with_rule numbered (flag (codes "hex"))) journal_option) extents_option)
+    (flag (codes "checksums"))
 
 -- `recover IMAGE [--extents LIST] [--journal FILE] [--force] [--dry-run] [--list] [--checksums]`
 abbrev pub recover_app : App
 recover_app =
     let found = with_rule (with_rule (image_app (codes "recover")) extents_option) journal_option in
-    with_rule (with_rule (with_rule (with_rule found (flag (codes "force"))) (flag (codes "dry-run"))) (flag (codes "list"))) (flag (codes "checksums"))
+    with_rule (with_rule (with_rule (with_rule found (flag (codes "force"))) (flag (codes "dry-run")))
+    (flag (codes "list"))) (flag (codes "checksums"))
 
 -- `load IMAGE FILE [--journal FILE] [--extents LIST] [--threads N] [--hold] [--stamp SEC] [--checkpoint]`
 abbrev pub load_app : App

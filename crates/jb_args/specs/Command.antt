@@ -3,7 +3,8 @@ use Rattle.std.specs.Prelude.{ℕ, Bool, List, Option, codes, if◌then◌else�
 use Rattle.std.specs.Str.{bytes_eq}
 use Rattle.clap.specs.Words.{Row, Text, subcommand_of}
 use Rattle.jb_args.specs.App.{jb_app}
-use Rattle.jb_args.specs.PlainCommand.{Asked, asked, asks, extents_asked, file_in, flag_in, image_in, journal_asked, number_in}
+use Rattle.jb_args.specs.PlainCommand.{Asked, asked, asks, extents_asked, file_in, flag_in, image_in, journal_asked}
+use Rattle.jb_args.specs.PlainCommand.{number_in}
 use Rattle.jb_args.specs.declared.command.LoadWords.{LoadWords}
 use Rattle.jb_args.specs.declared.command.CommandLine.{CommandLine}
 use Rattle.jb_args.specs.declared.command.CommandLine.TheVariants.{Load, Plain}
@@ -27,7 +28,16 @@ pub data Wanted : Type 0 where
 -- what a value of the program's own words of a load says
 abbrev pub load_said : LoadWords → Loading
 load_said l =
-    record { image = l.image.now; file = l.file.now; journal = option_map (λ word. word.now) l.journal; extents = option_map (λ word. word.now) l.extents; threads = l.threads; hold = l.hold; stamp = l.stamp; checkpoint = l.checkpoint }
+    record {
+      image = l.image.now;
+      file = l.file.now;
+      journal = option_map (λ word. word.now) l.journal;
+      extents = option_map (λ word. word.now) l.extents;
+      threads = l.threads;
+      hold = l.hold;
+      stamp = l.stamp;
+      checkpoint = l.checkpoint;
+    }
 
 -- what a value of the program's own type asks for
 abbrev pub wants : CommandLine → Wanted
@@ -37,8 +47,19 @@ wants (Load load) = WantsLoad (load_said load)
 -- `load IMAGE FILE ..`
 abbrev pub load_in : List Row → Option Loading
 load_in rows =
-    option_and_then (λ image. option_and_then (λ file. option_and_then (λ threads. option_and_then (λ hold. option_and_then (λ stamp.
-    option_map (λ checkpoint. record { image = image; file = file; journal = journal_asked rows; extents = extents_asked rows; threads = threads; hold = hold; stamp = stamp; checkpoint = checkpoint })
+    option_and_then (λ image.
+    option_and_then (λ file. option_and_then (λ threads. option_and_then (λ hold. option_and_then (λ stamp.
+    option_map (λ checkpoint.
+    record {
+      image = image;
+      file = file;
+      journal = journal_asked rows;
+      extents = extents_asked rows;
+      threads = threads;
+      hold = hold;
+      stamp = stamp;
+      checkpoint = checkpoint;
+    })
     (flag_in (codes "checkpoint") rows)) (number_in (codes "stamp") rows))
     (flag_in (codes "hold") rows)) (number_in (codes "threads") rows)) (file_in rows)) (image_in rows)
 

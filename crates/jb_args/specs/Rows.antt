@@ -6,9 +6,9 @@ use Rattle.clap.specs.declared.builder.value_parser.ValueParser.TheVariants.{Uns
 use Rattle.jb_args.specs.App as app
 use Rattle.jb_args.specs.declared.commands.command_name.CommandName.{CommandName}
 use Rattle.jb_args.specs.declared.commands.command_name.CommandName.TheVariants as name
-use Rattle.jb_args.specs.declared.commands.word.Kind.{Kind}
-use Rattle.jb_args.specs.declared.commands.word.Kind.TheVariants as kind
-use Rattle.jb_args.specs.declared.commands.word.Word.{Word}
+use Rattle.jb_args.specs.declared.commands.word.WordKind.{WordKind}
+use Rattle.jb_args.specs.declared.commands.word.WordKind.TheVariants as kind
+use Rattle.jb_args.specs.declared.commands.word.CommandWord.{CommandWord}
 use Rattle.jb_args.specs.declared.commands.CommandRow.{CommandRow}
 
 -- a value that is a number of 64 bits
@@ -16,11 +16,12 @@ abbrev pub number_parser : Option ValueParser
 number_parser = Some (Unsigned 0 18446744073709551615)
 
 -- the rule of a word or an option of this name and kind
-abbrev pub rule_of_kind : Text → Kind → Rule
+abbrev pub rule_of_kind : Text → WordKind → Rule
 rule_of_kind name kind.Word = app.required_word name
 rule_of_kind name kind.NumberWord = app.number_word name
 rule_of_kind name (kind.Text value) = record (new_rule name) { long = Some name; value_names = 1 }
-rule_of_kind name (kind.TextOr value text) = record (new_rule name) { long = Some name; value_names = 1; defaults = text.now ∷ [] }
+rule_of_kind name (kind.TextOr value text) =
+    record (new_rule name) { long = Some name; value_names = 1; defaults = text.now ∷ [] }
 rule_of_kind name kind.Number = app.number_option name
 rule_of_kind name kind.RequiredNumber = app.required_number name
 rule_of_kind name (kind.NumberOr value text) = app.number_or name text.now
@@ -28,11 +29,11 @@ rule_of_kind name kind.Count = record app.count_option { id = name }
 rule_of_kind name kind.Flag = app.flag name
 
 -- the rule of a word of the table
-abbrev pub rule_of_word : Word → Rule
+abbrev pub rule_of_word : CommandWord → Rule
 rule_of_word word = rule_of_kind word.name.now word.kind
 
 -- a command with these words of the table, one after the other
-abbrev pub with_row_words : App → List Word → App
+abbrev pub with_row_words : App → List CommandWord → App
 with_row_words command [] = command
 with_row_words command (word ∷ words) = with_row_words (with_rule command (rule_of_word word)) words
 

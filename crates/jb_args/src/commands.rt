@@ -12,7 +12,7 @@ mod word;
 use clap::Command;
 use command_name::{COMMANDS, CommandName, row_of};
 use std::alloc::{AllocError, Global};
-use word::{Word, arg_of};
+use word::{CommandWord, arg_of};
 
 /// A command, with its words and options.
 #[derive(Clone, Copy)]
@@ -24,14 +24,14 @@ pub(crate) struct CommandRow<'a> {
     /// What is at the end of its long help.
     more: &'a str,
     /// What it takes, in the order of the help.
-    words: &'a [Word<'a>],
+    words: &'a [CommandWord<'a>],
 }
 
 /// The command with these words, one after the other.
 fn with_words<'a>(
     alloc: Global,
     command: Command<'a>,
-    words: &[Word<'a>],
+    words: &[CommandWord<'a>],
 ) -> Result<Command<'a>, AllocError>
     requires { (fields_of command).has_globals ≡ false }
     ensures app { IfOk result (λ c. app_of c ≡ with_rules (app_of command.entry) words.now) }

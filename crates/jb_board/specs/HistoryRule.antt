@@ -24,7 +24,8 @@ module _ {E : Type 0} where
   abbrev pub StandsIn : List E → ℕ × E → Type 0
   StandsIn log e = slice_get log e.0 ≡ Some e.1
 
-  -- The history begins with what the seat has seen and was told of, and has what was made for it at its places. The writer has seen all of it
+  -- The history begins with what the seat has seen and was told of, and has what was made for it at its places. The
+  -- writer has seen all of it
   pub record Knows (keeper : ℕ) (log : List E) (seat : ℕ) (v : View E) : Type 0 where
     pub seen : IsPrefix v.seen log
     pub told : IsPrefix v.told log

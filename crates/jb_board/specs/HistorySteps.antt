@@ -17,7 +17,8 @@ module _ {E : Type 0} where
   abbrev pub AddsEntry : Step E → Me E (View E) → ℕ → Me E (View E) → Type 0
   AddsEntry step me found after = (e : E) × (step.said ≡ some e) × (after ≡ (added e me.0, me.1))
 
-  -- This is the history: it begins with all that the seat has seen and was told of, and has what was made for it at its places, and the rest
+  -- This is the history: it begins with all that the seat has seen and was told of, and has what was made for it at its
+  -- places, and the rest
   pub record Sees (v : View E) (log : List E) : Type 0 where
     pub seen : IsPrefix v.seen log
     pub told : IsPrefix v.told log

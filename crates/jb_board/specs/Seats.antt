@@ -1,5 +1,5 @@
--- What contracts say of a board, of a seat and of what shows that tickets were given: which board it is, what the seat is sure of, and
--- how many tickets these are.
+-- What contracts say of a board, of a seat and of what shows that tickets were given: which board it is, what the seat
+-- is sure of, and how many tickets these are.
 use Rattle.std.specs.Prelude.{ℕ}
 use Rattle.atomic_table.specs.Seated.{TableId}
 use Rattle.jb_board.specs.declared.front.Front.{Front}

@@ -33,33 +33,33 @@ abbrev pub raised_stopped : Front → ℕ → Front
 raised_stopped v count = front v.settled v.taken (max v.stopped count)
 
 -- the relation of a step: the step, the seat before, the number found in the word, and the seat after
-abbrev pub Told : Type 1
-Told = Step (Unit {0}) → Me (Unit {0}) Front → ℕ → Me (Unit {0}) Front → Type 0
+abbrev pub StepRelation : Type 1
+StepRelation = Step (Unit {0}) → Me (Unit {0}) Front → ℕ → Me (Unit {0}) Front → Type 0
 
 -- a new seat has seen nothing
-abbrev pub Enters : Told
+abbrev pub Enters : StepRelation
 Enters step me found after = after.0 ≡ front 0 0 0
 
 -- a seat reads the count of settled tickets
-abbrev pub SeesSettled : Told
+abbrev pub SeesSettled : StepRelation
 SeesSettled step me found after = (me.0.settled ≤ found) × (after ≡ (saw_settled me.0 found, me.1))
 
 -- a seat reads the count of taken ones
-abbrev pub SeesTaken : Told
+abbrev pub SeesTaken : StepRelation
 SeesTaken step me found after = (me.0.taken ≤ found) × (after ≡ (saw_taken me.0 found, me.1))
 
 -- a seat reads the count of stopped ones
-abbrev pub SeesStopped : Told
+abbrev pub SeesStopped : StepRelation
 SeesStopped step me found after = (me.0.stopped ≤ found) × (after ≡ (saw_stopped me.0 found, me.1))
 
 -- a seat raises the count of settled tickets
-abbrev pub RaisesSettled : Told
+abbrev pub RaisesSettled : StepRelation
 RaisesSettled step me found after = after ≡ (raised_settled me.0 step.first, me.1)
 
 -- a seat raises the count of taken ones
-abbrev pub RaisesTaken : Told
+abbrev pub RaisesTaken : StepRelation
 RaisesTaken step me found after = after ≡ (raised_taken me.0 step.first, me.1)
 
 -- a seat raises the count of stopped ones
-abbrev pub RaisesStopped : Told
+abbrev pub RaisesStopped : StepRelation
 RaisesStopped step me found after = after ≡ (raised_stopped me.0 step.first, me.1)

@@ -13,7 +13,7 @@ use std::marker::{Model, PhantomData};
 
 /// A new history, which has no name yet.
 #[derive(Drop)]
-pub struct Opened<E> {
+pub struct NewHistory<E> {
     table: Table<E, View<E>, (), Law, Global>,
     seat: Seat<E, View<E>>,
     ghost one_word: { table.shared.table_id.words ≡ 1 },
@@ -21,7 +21,7 @@ pub struct Opened<E> {
     ghost first: { seat.me ≡ (writer [], []) },
 }
 
-impl<E> Opened<E> {
+impl<E> NewHistory<E> {
     ghost use Rattle.jb_board.specs.History.{history_id};
 
     /// A history with no entry.
@@ -29,13 +29,13 @@ impl<E> Opened<E> {
     /// # Errors
     ///
     /// `Memory` where there is none.
-    pub fn new(alloc: Global) -> Result<Opened<E>, Memory> {
+    pub fn new(alloc: Global) -> Result<NewHistory<E>, Memory> {
         let (table, seat) = Table::of_words(alloc, &[0], &())?;
-        Ok(Opened { table, seat })
+        Ok(NewHistory { table, seat })
     }
 }
 
-impl<E> Opened<E> {
+impl<E> NewHistory<E> {
     ghost use Rattle.jb_board.specs.History.{history_id};
 
     /// The history with its name, and the right to add to it.
@@ -43,7 +43,7 @@ impl<E> Opened<E> {
         requires { history_id self ≡ L.history }
         ensures { result.1 ≡ [] }
     {
-        let Opened { table, seat } = self;
+        let NewHistory { table, seat } = self;
         let place = PhantomData;
         (
             History { table, place },

@@ -16,7 +16,7 @@ mod view;
 
 pub use board::{Board, BoardSeat};
 pub use front::Front;
-pub use history::{History, Opened};
+pub use history::{History, NewHistory};
 pub use place::Place;
 pub use tickets::Tickets;
 pub use tokens::{Appender, OwnEntries, Prefix};

@@ -16,13 +16,13 @@ use Rattle.jb_deck.specs.declared.done.Entry.{Entry}
 use Rattle.jb_deck.specs.Done.{Follow, start_of}
 use Rattle.jb_core.proofs.AcceptedEvents.{still-up}
 use Rattle.jb_book.specs.Account.{Account, IsAccountSound, IsNewBook, granted_to, dropped_of, queued, begin_refusal, CanStop}
-use Rattle.jb_book.specs.Calls.{AreOfFirst, handles_in, Call, Opened, Enqueued, Dropped, Shut, stops_of, out_of, settled_of}
+use Rattle.jb_book.specs.Calls.{AreOfFirst, handles_in, BookCall, Opened, Enqueued, Dropped, Shut, stops_of, out_of, settled_of}
 use Rattle.jb_book.specs.Shadow.{Shadow, credits_at}
 use Rattle.jb_handle.specs.Tickets.{TicketsFrom}
 use Rattle.jb_handle.specs.Word.{WordMap}
 use Rattle.jb_handle.proofs.Tickets.{tickets-append}
 use Rattle.jb_core.specs.declared.event.Reply.TheVariants.{Plain, Ticket}
-use Rattle.jb_core.specs.Lives.{Log, settled_now, handles_of_order, stop_order}
+use Rattle.jb_core.specs.Lives.{EventLog, settled_now, handles_of_order, stop_order}
 use Rattle.jb_core.specs.Machine.{Machine, after_event}
 use Rattle.jb_core.proofs.WholeLives.{whole}
 use Rattle.jb_book.specs.MachineTie.{Tied, touches_of}
@@ -99,10 +99,10 @@ vec_of v xs few = record { ptr = vec_ptr v; len = length xs; cap = length xs; al
 -- ---- what is known between two calls
 
 -- the events, and how the calls tell the stops and the groups
-pub record Stands (shape : Shape) (calls : List Call) (a : Account) : Type 0 where
+pub record Stands (shape : Shape) (calls : List BookCall) (a : Account) : Type 0 where
   pub same_shape : a.shape ≡ shape
   pub sound : IsAccountSound a
-  pub log : Log
+  pub log : EventLog
   pub machine : Machine
   pub tied : Tied a log machine
   pub stops : handles_of_order (stop_order log) ≡ stops_of calls
@@ -113,14 +113,14 @@ pub record Stands (shape : Shape) (calls : List Call) (a : Account) : Type 0 whe
   pub trail : settled_of calls ≡ map (handles_in (stops_of calls)) a.trail
 
 -- while the machine is up, what it has of the life are its stops
-all-of : (a : Account) (log : Log) (m : Machine) → Tied a log m → a.aborted ≡ false → joined m.settled ++ (joined m.taken ++ a.shadow.queue) ≡ handles_of_order (stop_order log)
+all-of : (a : Account) (log : EventLog) (m : Machine) → Tied a log m → a.aborted ≡ false → joined m.settled ++ (joined m.taken ++ a.shadow.queue) ≡ handles_of_order (stop_order log)
 all-of a log m t running =
     let is = t.running running in
     ap (λ n. joined (drop n m.settled) ++ (joined m.taken ++ a.shadow.queue)) (sym t.one_life)
     ∙ ap (λ (s : Shadow). settled_now m ++ (joined m.taken ++ s.queue)) (sym is.shadow)
     ∙ (whole a.shape log m t.ran).up is.up
 
-module _ (shape : Shape) (calls : List Call) (a : Account) (s : Stands shape calls a) where
+module _ (shape : Shape) (calls : List BookCall) (a : Account) (s : Stands shape calls a) where
   pub handles-all : a.aborted ≡ false → joined (settled_of calls) ++ (joined (out_of calls) ++ a.shadow.queue) ≡ stops_of calls
   handles-all running =
       ap (λ gs. joined gs ++ (joined (out_of calls) ++ a.shadow.queue)) (sym s.settled)
@@ -141,8 +141,8 @@ module _ (shape : Shape) (calls : List Call) (a : Account) (s : Stands shape cal
   -- ---- each call
 
   -- one by which no handle stops
-  pub call-by : (last : Call) (b : Account) → stops_of (last ∷ calls) ≡ stops_of calls → b.shape ≡ a.shape → b.shadow.next ≡ a.shadow.next → IsAccountSound b
-      → (log : Log) (m : Machine) → Tied b log m → handles_of_order (stop_order log) ≡ stops_of calls → m.settled ≡ settled_of (last ∷ calls) → m.taken ≡ out_of (last ∷ calls)
+  pub call-by : (last : BookCall) (b : Account) → stops_of (last ∷ calls) ≡ stops_of calls → b.shape ≡ a.shape → b.shadow.next ≡ a.shadow.next → IsAccountSound b
+      → (log : EventLog) (m : Machine) → Tied b log m → handles_of_order (stop_order log) ≡ stops_of calls → m.settled ≡ settled_of (last ∷ calls) → m.taken ≡ out_of (last ∷ calls)
       → settled_of (last ∷ calls) ≡ map (handles_in (stops_of calls)) b.trail → Stands shape (last ∷ calls) b
   call-by last b same shaped next sound log m tied stops settled out trail = record {
     same_shape = shaped ∙ s.same_shape;
@@ -159,8 +159,8 @@ module _ (shape : Shape) (calls : List Call) (a : Account) (s : Stands shape cal
   }
 
   -- and no group is settled
-  pub call-on : (last : Call) (b : Account) → stops_of (last ∷ calls) ≡ stops_of calls → settled_of (last ∷ calls) ≡ settled_of calls → b.shape ≡ a.shape → b.shadow.next ≡ a.shadow.next → b.trail ≡ a.trail → IsAccountSound b
-      → (log : Log) (m : Machine) → Tied b log m → handles_of_order (stop_order log) ≡ stops_of calls → m.settled ≡ settled_of calls → m.taken ≡ out_of (last ∷ calls) → Stands shape (last ∷ calls) b
+  pub call-on : (last : BookCall) (b : Account) → stops_of (last ∷ calls) ≡ stops_of calls → settled_of (last ∷ calls) ≡ settled_of calls → b.shape ≡ a.shape → b.shadow.next ≡ a.shadow.next → b.trail ≡ a.trail → IsAccountSound b
+      → (log : EventLog) (m : Machine) → Tied b log m → handles_of_order (stop_order log) ≡ stops_of calls → m.settled ≡ settled_of calls → m.taken ≡ out_of (last ∷ calls) → Stands shape (last ∷ calls) b
   call-on last b same groups shaped next trail sound log m tied stops settled out =
       call-by last b same shaped next sound log m tied stops (settled ∙ sym groups) out (groups ∙ s.trail ∙ ap (map (handles_in (stops_of calls))) (sym trail))
 
@@ -200,7 +200,7 @@ module _ (shape : Shape) (calls : List Call) (a : Account) (s : Stands shape cal
   pub call-dropped : (seat : ℕ) → Stands shape (Dropped seat ∷ calls) (dropped_of seat a)
   call-dropped seat = at a.aborted refl (credits_at a.shadow seat) refl
     where
-      dropped : (log : Log) (m : Machine) → Tied (dropped_of seat a) log m → handles_of_order (stop_order log) ≡ stops_of calls → m.settled ≡ settled_of calls → m.taken ≡ out_of calls → Stands shape (Dropped seat ∷ calls) (dropped_of seat a)
+      dropped : (log : EventLog) (m : Machine) → Tied (dropped_of seat a) log m → handles_of_order (stop_order log) ≡ stops_of calls → m.settled ≡ settled_of calls → m.taken ≡ out_of calls → Stands shape (Dropped seat ∷ calls) (dropped_of seat a)
       dropped = call-on (Dropped seat) (dropped_of seat a) refl refl refl refl refl (dropped-sound a s.sound seat)
 
       at : (b : Bool) → a.aborted ≡ b → (found : Option ℕ) → credits_at a.shadow seat ≡ found → Stands shape (Dropped seat ∷ calls) (dropped_of seat a)
@@ -212,5 +212,5 @@ module _ (shape : Shape) (calls : List Call) (a : Account) (s : Stands shape cal
   pub call-shut : Stands shape (Shut ∷ calls) (record a { shut = true })
   call-shut = call-on Shut (record a { shut = true }) refl refl refl refl refl (shut-sound a s.sound) s.log s.machine (tied-shuts a s.log s.machine s.tied) s.stops s.settled s.out
 
-  pub call-idle : (last : Call) → stops_of (last ∷ calls) ≡ stops_of calls → settled_of (last ∷ calls) ≡ settled_of calls → out_of (last ∷ calls) ≡ out_of calls → Stands shape (last ∷ calls) a
+  pub call-idle : (last : BookCall) → stops_of (last ∷ calls) ≡ stops_of calls → settled_of (last ∷ calls) ≡ settled_of calls → out_of (last ∷ calls) ≡ out_of calls → Stands shape (last ∷ calls) a
   call-idle last same settled out = call-on last a same settled refl refl refl s.sound s.log s.machine s.tied s.stops s.settled (s.out ∙ sym out)

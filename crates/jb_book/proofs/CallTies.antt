@@ -11,7 +11,7 @@ use Rattle.jb_deck.specs.declared.done.Entry.{Entry}
 use Rattle.jb_core.specs.declared.event.Event.TheVariants.{Take, Settle, Crash}
 use Rattle.jb_core.specs.declared.event.Reply.TheVariants.{Plain}
 use Rattle.jb_core.specs.Line.{count}
-use Rattle.jb_core.specs.Lives.{Log, settled_now}
+use Rattle.jb_core.specs.Lives.{EventLog, settled_now}
 use Rattle.jb_core.specs.Machine.{Machine, event_refusal, after_event}
 use Rattle.jb_core.specs.Steps.{IsLeastOf}
 use Rattle.jb_core.proofs.AcceptedEvents.{none-left, still-up}
@@ -27,7 +27,7 @@ use Rattle.jb_book.proofs.SeatTies.{tied-by, tied-drops, tied-drops-none, tied-o
 
 -- ---- the calls
 
-module _ (a : Account) (log : Log) (m : Machine) (t : Tied a log m) where
+module _ (a : Account) (log : EventLog) (m : Machine) (t : Tied a log m) where
   pub tied-takes : CanTake a → (bounds : Vec ℕ) → IsCutOf (gathered a.shadow.taken a.shadow.queue a.shape) bounds.items → Tied (taken_all a) ((Take bounds, Ok Plain) ∷ log) (after_event m (Take bounds))
   tied-takes can bounds cut =
       let lim = limits a.shape log m t.ran in

@@ -15,7 +15,7 @@ use Rattle.jb_handle.specs.Word.{WordMap}
 use Rattle.jb_cost.specs.Credits.{IsMost}
 use Rattle.jb_plan.specs.Costs.{geometry_of}
 use Rattle.jb_book.specs.Account.{Account, IsNewBook, IsAccountSound, granted_to, dropped_of, queued, taken_all, settled_to, failed_of, shortened, trail_from, begin_refusal, CanStop, CanTake, Settles}
-use Rattle.jb_book.specs.Calls.{Call, Does, Opened, Enqueued, Dropped, Took, Settled, Failed, Shut, stops_of, out_of, AreOfFirst, IsCutOf}
+use Rattle.jb_book.specs.Calls.{BookCall, Does, Opened, Enqueued, Dropped, Took, Settled, Failed, Shut, stops_of, out_of, AreOfFirst, IsCutOf}
 use Rattle.jb_book.specs.CallsToBook.{IsInHistory, with_trail, words_stopped, Led, AreCut, IsLed}
 use Rattle.jb_cost.proofs.ListPieces.{cut-joined}
 use Rattle.jb_book.specs.MachineTie.{HasHandle}
@@ -53,8 +53,8 @@ seated seats granted shut a = record a { shadow = record a.shadow { seats = seat
 
 module _ (log : List WordMap) (a : Account) (is : IsLed log a) where
   -- a call more that may change the seats, what is granted and whether the book is shut
-  led-seated : (c : Call) (seats : List (ℕ × ℕ)) (granted : ℕ) (shut : Bool) → ((calls : List Call) → (stops_of (c ∷ calls) ≡ stops_of calls) × (out_of (c ∷ calls) ≡ out_of calls))
-      → ((calls : List Call) (full : List Entry) → Does c calls (with_trail full a) (with_trail full (seated seats granted shut a))) → IsLed log (seated seats granted shut a)
+  led-seated : (c : BookCall) (seats : List (ℕ × ℕ)) (granted : ℕ) (shut : Bool) → ((calls : List BookCall) → (stops_of (c ∷ calls) ≡ stops_of calls) × (out_of (c ∷ calls) ≡ out_of calls))
+      → ((calls : List BookCall) (full : List Entry) → Does c calls (with_trail full a) (with_trail full (seated seats granted shut a))) → IsLed log (seated seats granted shut a)
   led-seated c seats granted shut same does = record {
     some = λ up. let s = is.some up in record { handles = s.handles; cut = s.cut; are = s.are };
     led = λ hs cut p. (let l = is.led hs cut p in record {

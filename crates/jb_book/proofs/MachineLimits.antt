@@ -17,9 +17,9 @@ use Rattle.jb_deck.specs.Done.{Follow}
 use Rattle.jb_core.specs.declared.event.Event.{Event}
 use Rattle.jb_core.specs.declared.event.Event.TheVariants.{Open}
 use Rattle.jb_core.specs.Line.{count}
-use Rattle.jb_core.specs.Lives.{Log}
+use Rattle.jb_core.specs.Lives.{EventLog}
 use Rattle.jb_core.specs.Machine.{Machine, reserved, after_event}
-use Rattle.jb_core.specs.MachineRuns.{Ran}
+use Rattle.jb_core.specs.MachineRuns.{RanFromStart}
 use Rattle.jb_book.specs.Calls.{AreOfFirst}
 use Rattle.jb_book.specs.Events.{granted_in, shadow_of}
 use Rattle.jb_book.specs.Shadow.{Shadow}
@@ -38,7 +38,7 @@ after-limits shape m (Open seat credits) was = assumption
 after-limits shape m other was = assumption
 
 -- they are those of its start
-pub limits : (shape : Shape) (log : Log) (m : Machine) → Ran shape log m → HasLimits shape m
+pub limits : (shape : Shape) (log : EventLog) (m : Machine) → RanFromStart shape log m → HasLimits shape m
 limits shape [] m start = assumption
 limits shape ((e, Ok reply) ∷ earlier) m (before, ran, step) = subst (HasLimits shape) (sym step.2) (after-limits shape before e (limits shape earlier before ran))
 limits shape ((e, Err fault) ∷ earlier) m (before, ran, step) = subst (HasLimits shape) (sym step.1) (limits shape earlier before ran)

@@ -29,7 +29,7 @@ use Rattle.jb_deck.specs.declared.batched.BatchFault.{BatchFault}
 use Rattle.jb_deck.specs.declared.done.Done.{Done}
 use Rattle.jb_deck.specs.declared.done.Entry.{Entry}
 use Rattle.jb_book.specs.Marks.{HasFailedMark, IsMarked}
-use Rattle.jb_book.specs.SinceMark.{HasSettledOf, IsMarkedOf, Lasts, MarksSettled, Within}
+use Rattle.jb_book.specs.SinceMark.{HasSettledOf, IsMarkedOf, Lasts, MarksSettled, HaveTickets}
 use Rattle.jb_book.proofs.CommitEntries.{cut-rise, cut-within}
 use Rattle.jb_book.proofs.TrailEntries.{follow-length}
 use Rattle.jb_deck.specs.declared.batched.BatchFault.TheVariants as batch
@@ -95,7 +95,7 @@ follow-within first least past (x ∷ es) is zero e at =
     subst (λ (y : Entry). (y.first < y.past) × (y.past ≤ past)) same (omega arith, omega (arith, rest))
 follow-within first least past (x ∷ es) is (suc k) e at = follow-within x.past (x.number + 1) past es is.3 k e at
 
-within-tiles : (es : List Entry) → Follow (start_of es) 0 (past_after 0 es) es → Within es
+within-tiles : (es : List Entry) → Follow (start_of es) 0 (past_after 0 es) es → HaveTickets es
 within-tiles es tiles e h = follow-within (start_of es) 0 (past_after 0 es) es tiles h.place e h.stands
 
 -- ---- a mark is made

@@ -13,7 +13,7 @@ use Rattle.jb_core.specs.Machine.{after_event}
 use Rattle.jb_core.proofs.SoundRuns.{sounds}
 use Rattle.jb_core.proofs.WholeLives.{whole}
 use Rattle.jb_book.specs.Account.{Account, IsNewBook, taken_all, settled_to, failed_of, CanTake, Settles, IsAccountSound, granted_to, dropped_of, queued, shortened, begin_refusal, CanStop}
-use Rattle.jb_book.specs.Calls.{Call, Opened, Enqueued, Dropped, Took, Settled, Failed, Shut, stops_of, out_of, settled_of, AreOfFirst, IsCutOf, Does, CallsMake, handles_in, KeepsWhole}
+use Rattle.jb_book.specs.Calls.{BookCall, Opened, Enqueued, Dropped, Took, Settled, Failed, Shut, stops_of, out_of, settled_of, AreOfFirst, IsCutOf, Does, CallsMake, handles_in, KeepsWhole}
 use Rattle.jb_book.specs.Shadow.{Shadow}
 use Rattle.jb_book.specs.MachineTie.{EveryRun}
 use Rattle.jb_plan.specs.Costs.{cost_in, HasCut}
@@ -43,7 +43,7 @@ use Rattle.jb_core.specs.declared.event.Event.TheVariants as event
 
 -- ---- batches and a failure
 
-module _ (shape : Shape) (calls : List Call) (a : Account) (s : Stands shape calls a) where
+module _ (shape : Shape) (calls : List BookCall) (a : Account) (s : Stands shape calls a) where
   call-took : Vec Entry → (cut : List ℕ) → CanTake a → IsCutOf (gathered a.shadow.taken a.shadow.queue a.shape) cut → Stands shape (Took (gathered a.shadow.taken a.shadow.queue a.shape) cut ∷ calls) (taken_all a)
   call-took any cut can least =
       let few = cut-few (length a.shadow.queue) cut least.fitting.cut in
@@ -97,7 +97,7 @@ module _ (shape : Shape) (calls : List Call) (a : Account) (s : Stands shape cal
 
 -- ---- any list of calls
 
-step : Vec Entry → (shape : Shape) → (last : Call) (calls : List Call) (old new : Account) → Stands shape calls old → Does last calls old new → Stands shape (last ∷ calls) new
+step : Vec Entry → (shape : Shape) → (last : BookCall) (calls : List BookCall) (old new : Account) → Stands shape calls old → Does last calls old new → Stands shape (last ∷ calls) new
 step any shape (Opened seat credits (Ok unit)) calls old new s does = subst (Stands shape _) (sym does.1) (call-opened shape calls old s seat credits does.0)
 step any shape (Enqueued seat ws (Ok ticket)) calls old new s does = subst (Stands shape _) (sym does.2) (call-stopped shape calls old s seat ws ticket does.0 does.1)
 step any shape (Dropped seat) calls old new s does = subst (Stands shape _) (sym does) (call-dropped shape calls old s seat)
@@ -126,7 +126,7 @@ begun shape usable a small start =
       trail = ap (map (handles_in [])) (sym start.trail);
     }
 
-stands : Vec Entry → (shape : Shape) (usable : ℕ) (calls : List Call) (a : Account) → usable ≤ 2147483646 → CallsMake shape usable calls a → Stands shape calls a
+stands : Vec Entry → (shape : Shape) (usable : ℕ) (calls : List BookCall) (a : Account) → usable ≤ 2147483646 → CallsMake shape usable calls a → Stands shape calls a
 stands any shape usable [] a small called = begun shape usable a small called
 stands any shape usable (last ∷ earlier) a small (before, called, does) = step any shape last earlier before a (stands any shape usable earlier before small called) does
 

@@ -18,10 +18,10 @@ use Rattle.jb_core.specs.declared.event.Event.{Event}
 use Rattle.jb_core.specs.declared.event.Reply.{Reply}
 use Rattle.jb_core.specs.declared.event.Event.TheVariants.{Touch, Open, Stop, Abandon}
 use Rattle.jb_core.specs.declared.event.Reply.TheVariants.{Plain, Ticket}
-use Rattle.jb_core.specs.Lives.{Log}
+use Rattle.jb_core.specs.Lives.{EventLog}
 use Rattle.jb_core.specs.Machine.{Machine, handle_at, held_at, event_refusal, after_event, reply_of, reserved, is_full}
 use Rattle.jb_core.specs.Steps.{IsLeast}
-use Rattle.jb_core.specs.MachineRuns.{Ran}
+use Rattle.jb_core.specs.MachineRuns.{RanFromStart}
 use Rattle.jb_core.proofs.AcceptedEvents.{there-at, still-up}
 use Rattle.jb_core.specs.SeatLaw.{changed}
 use Rattle.jb_core.proofs.Seats.{change-same}
@@ -34,7 +34,7 @@ use Rattle.jb_cost.specs.Credits.{IsMost}
 use Rattle.jb_plan.specs.Costs.{geometry_of}
 use Rattle.jb_core.proofs.SoundEvents.{granted-at}
 use Rattle.jb_book.specs.Account.{Account, IsAccountSound, IsNewBook, granted_to, dropped_of, queued, CanStop}
-use Rattle.jb_book.specs.Shadow.{Shadow, credits_at, begun, dropped, stopped}
+use Rattle.jb_book.specs.Shadow.{Shadow, credits_at, begun_at, dropped, stopped}
 use Rattle.jb_book.proofs.Shadows.{shadowed, lookup-map}
 use Rattle.jb_book.proofs.Accounts.{passed}
 use Rattle.jb_book.proofs.MachineLimits.{limits, same-reserved, no-handle, some-handle, gone-none}
@@ -84,15 +84,15 @@ few-words [] = rw (words.len-empty nat_cmp Word) (le_refl 0)
 few-words (e ∷ es) = let rest = few-words es in grind (arith, rest, words.len-insert nat_cmp_total (words_in es) e.0 e.1)
 
 -- a machine after changes of a seat's open handle, which these entries made
-pub record IsTouched (shape : Shape) (log : Log) (m : Machine) (seat credits : ℕ) (es : List (ℕ × Word)) (n : Machine) : Type 0 where
-  pub ran : Ran shape (map (λ e. (Touch seat (op_for e), Ok Plain)) es ++ log) n
+pub record IsTouched (shape : Shape) (log : EventLog) (m : Machine) (seat credits : ℕ) (es : List (ℕ × Word)) (n : Machine) : Type 0 where
+  pub ran : RanFromStart shape (map (λ e. (Touch seat (op_for e), Ok Plain)) es ++ log) n
   pub accepted : AreAccepted (map (λ e. (Touch seat (op_for e), Ok Plain)) es ++ log)
   pub same : n ≡ record m { handles = n.handles }
   pub shadow : shadow_of n ≡ shadow_of m
   pub there : handle_at n seat ≡ Some (held credits shape (words_in es))
   pub rest : remove_entry (is_at (nat_cmp seat)) n.handles ≡ remove_entry (is_at (nat_cmp seat)) m.handles
 
-module _ (shape : Shape) (log : Log) (m : Machine) (seat credits : ℕ) (ran : Ran shape log m) (accepted : AreAccepted log) (up : m.up ≡ true) (there : handle_at m seat ≡ Some (held credits shape words.empty)) where
+module _ (shape : Shape) (log : EventLog) (m : Machine) (seat credits : ℕ) (ran : RanFromStart shape log m) (accepted : AreAccepted log) (up : m.up ≡ true) (there : handle_at m seat ≡ Some (held credits shape words.empty)) where
   pub touched : (es : List (ℕ × Word)) → length es ≤ credits → All (λ e. FitsWord shape e.0 e.1) es → (n : Machine) × IsTouched shape log m seat credits es n
   touched [] few fits = (m, record { ran = ran; accepted = accepted; same = refl; shadow = refl; there = there; rest = refl })
   touched (e ∷ es) few fits =
@@ -159,7 +159,7 @@ tied-starts shape usable a start =
 
 -- ---- the calls
 
-module _ (a : Account) (log : Log) (m : Machine) (t : Tied a log m) where
+module _ (a : Account) (log : EventLog) (m : Machine) (t : Tied a log m) where
   module _ (running : a.aborted ≡ false) where
     pub tied-up : m.up ≡ true
     tied-up = (t.running running).up
@@ -188,7 +188,7 @@ module _ (a : Account) (log : Log) (m : Machine) (t : Tied a log m) where
         → (after_event m e).up ≡ true → (after_event m e).earlier ≡ 0 → All IsUntouched (values_of (after_event m e).handles) → All HasHandle (after_event m e).taken
         → after_shadow m e a.shadow ≡ b.shadow → Tied b ((e, Ok reply) ∷ log) (after_event m e)
     tied-by b shape runs e reply none least is up earlier untouched filled moved = record {
-      ran = subst (λ s. Ran s ((e, Ok reply) ∷ log) (after_event m e)) (sym shape) (m, t.ran, (none, least, refl, is));
+      ran = subst (λ s. RanFromStart s ((e, Ok reply) ∷ log) (after_event m e)) (sym shape) (m, t.ran, (none, least, refl, is));
       accepted = t.accepted;
       one_life = earlier;
       untouched = untouched;

@@ -24,7 +24,7 @@ use Rattle.jb_board.specs.HistoryRule.{StandsIn}
 use Rattle.jb_deck.specs.Deck.{OpenDeck}
 use Rattle.jb_book.specs.Marks.{IsMarked}
 use Rattle.jb_book.specs.Origin.{Begun}
-use Rattle.jb_book.specs.SinceMark.{HasSettledOf, IsShown, Lasts, ShownIsGiven, ShownStays, Within}
+use Rattle.jb_book.specs.SinceMark.{HasSettledOf, IsShown, Lasts, ShownIsGiven, ShownStays, HaveTickets}
 use Rattle.jb_book.proofs.MarksLast.{first-lower}
 
 -- ---- handles of one history, cuts of nothing, and what is left of a trail
@@ -137,7 +137,7 @@ record ShownAt {D : Type 0} (marks : List (OpenDeck D)) (ticket : ℕ) : Type 0 
   at : ℕ
   mark : OpenDeck D
   stands : StandsIn marks (at, mark)
-  late : Within mark.trail → ticket < past_after 0 mark.trail
+  late : HaveTickets mark.trail → ticket < past_after 0 mark.trail
 
 -- by an entry that ends after the ticket
 shown-in : {D : Type 0} (marks : List (OpenDeck D)) (ticket : ℕ) (e : Entry) → IsMarked marks e → (e.first < e.past → ticket < e.past) → ShownAt marks ticket

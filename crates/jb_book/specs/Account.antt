@@ -1,5 +1,6 @@
 -- What a book is as a value: what it has of the machine, what it was made with, its totals and its trail.
-use Rattle.std.specs.Prelude.{◌≡◌, ℕ, ◌+◌, ◌-◌, ◌^◌, ◌<◌, ◌≤◌, ◌⊎◌, ◌||◌, if◌then◌else◌, Bool, true, false, nat_lt, nat_le, List, [], ◌∷◌, ◌++◌, length, drop, sum, All, Option, Some, None, is_some}
+use Rattle.std.specs.Prelude.{◌≡◌, ℕ, ◌+◌, ◌-◌, ◌^◌, ◌<◌, ◌≤◌, ◌⊎◌, ◌||◌, if◌then◌else◌, Bool, true, false, nat_lt}
+use Rattle.std.specs.Prelude.{nat_le, List, [], ◌∷◌, ◌++◌, length, drop, sum, All, Option, Some, None, is_some}
 use Rattle.std.specs.List.{sum_by}
 use Rattle.std.specs.Map.{values_of}
 use Rattle.std.specs.FinMap as map
@@ -16,7 +17,8 @@ use Rattle.jb_book.specs.declared.fault.BeginFault.{BeginFault}
 use Rattle.jb_book.specs.declared.fault.BeginFault.TheVariants.{Aborted, Closed, Busy, TooManyCredits, Full, Memory}
 use Rattle.jb_book.specs.declared.fault.EnqueueFault.{EnqueueFault}
 use Rattle.jb_book.specs.declared.fault.EnqueueFault.TheVariants as stop
-use Rattle.jb_book.specs.Shadow.{Shadow, credits_at, reserved_in, fresh, begun, dropped, stopped, took, settled_by, lost}
+use Rattle.jb_book.specs.Shadow.{Shadow, credits_at, reserved_in, fresh, begun_at, dropped, stopped, took, settled_by}
+use Rattle.jb_book.specs.Shadow.{lost}
 
 -- what a book keeps, as a value: its seats and tickets, what it may grant, the trail, and whether it has failed
 pub record Account : Type 0 where
@@ -41,8 +43,8 @@ touched_in hs = sum_by (λ h. map.len h.words) hs
 
 -- ---- what always holds
 
--- while a book is not aborted: the queue has the tickets after the taken ones, up to the next one, and each handle that waits has
--- its credits, which cover its words
+-- while a book is not aborted: the queue has the tickets after the taken ones, up to the next one, and each handle that
+-- waits has its credits, which cover its words
 pub record InLine (s : Shadow) : Type 0 where
   pub tickets : TicketsFrom s.taken s.queue
   pub queued : s.taken + length s.queue ≡ s.next
@@ -55,7 +57,8 @@ pub record IsLost (s : Shadow) : Type 0 where
   pub credits : s.credits ≡ []
   pub taken : s.taken ≡ s.settled
 
--- what holds of an account between calls: the counts are in order, what waits is in line while it runs, and nothing waits once it has failed
+-- what holds of an account between calls: the counts are in order, what waits is in line while it runs, and nothing
+-- waits once it has failed
 pub record IsAccountSound (a : Account) : Type 0 where
   pub most : IsMost (geometry_of a.shape) a.shape.limit a.most
   pub order : a.shadow.settled ≤ a.shadow.taken
@@ -90,7 +93,7 @@ pub record IsNewBook (shape : Shape) (usable : ℕ) (a : Account) : Type 0 where
 
 -- the account once this many credits were granted to a seat
 abbrev pub granted_to : ℕ → ℕ → Account → Account
-granted_to seat credits a = record a { shadow = begun seat credits a.shadow; granted = a.granted + credits }
+granted_to seat credits a = record a { shadow = begun_at seat credits a.shadow; granted = a.granted + credits }
 
 -- the account once the open handle of a seat was given up
 abbrev pub dropped_of : ℕ → Account → Account
@@ -106,13 +109,15 @@ taken_all a = record a { shadow = took a.shadow }
 
 -- the account once its tickets are settled up to this one, by these groups
 abbrev pub settled_to : ℕ → List Entry → Account → Account
-settled_to past entries a = record a { shadow = settled_by (past - a.shadow.settled) a.shadow; trail = a.trail ++ entries }
+settled_to past entries a =
+    record a { shadow = settled_by (past - a.shadow.settled) a.shadow; trail = a.trail ++ entries }
 
 -- the account once the journal has failed: all that was not settled is lost
 abbrev pub failed_of : Account → Account
 failed_of a = record a { shadow = lost a.shadow; aborted = true }
 
--- what is left of a trail once the entries at its front that end at this ticket or before it were taken; the last entry always stays
+-- what is left of a trail once the entries at its front that end at this ticket or before it were taken; the last entry
+-- always stays
 abbrev pub trail_from : ℕ → List Entry → List Entry
 trail_from past [] = []
 trail_from past (e ∷ []) = e ∷ []
@@ -132,11 +137,15 @@ last_start (e ∷ f ∷ es) = last_start (f ∷ es)
 
 -- no room for this many credits more, no ticket left, or too many credits granted in all
 abbrev pub has_no_room : Account → ℕ → Bool
-has_no_room a credits = nat_lt a.usable (reserved_in a.shadow + credits) || nat_le (2 ^ 61) (a.shadow.next + length a.shadow.seats) || nat_lt (2 ^ 61) (a.granted + credits)
+has_no_room a credits =
+    nat_lt a.usable (reserved_in a.shadow + credits) || nat_le (2 ^ 61) (a.shadow.next + length a.shadow.seats)
+    || nat_lt (2 ^ 61) (a.granted + credits)
 
 -- the first reason against a new handle
 abbrev pub begin_refusal : Account → ℕ → ℕ → Option BeginFault
-begin_refusal a seat credits = first_of ((a.aborted, Aborted) ∷ (a.shut, Closed) ∷ (is_some (credits_at a.shadow seat), Busy) ∷ (nat_lt a.most credits, TooManyCredits a.most) ∷ (has_no_room a credits, Full (reserved_in a.shadow)) ∷ [])
+begin_refusal a seat credits =
+    first_of ((a.aborted, Aborted) ∷ (a.shut, Closed) ∷ (is_some (credits_at a.shadow seat), Busy)
+    ∷ (nat_lt a.most credits, TooManyCredits a.most) ∷ (has_no_room a credits, Full (reserved_in a.shadow)) ∷ [])
 
 -- the fault is the first whose fact holds; memory may be refused where nothing else is
 abbrev pub RefusesBegin : Account → ℕ → ℕ → BeginFault → Type 0
@@ -177,7 +186,8 @@ pub record Settles (a : Account) (past : ℕ) (entries : List Entry) : Type 0 wh
 -- some group of the trail has the ticket, and this is its number
 abbrev pub IsSettledBy : List Entry → ℕ → ℕ → Type 0
 IsSettledBy [] ticket number = ⊥
-IsSettledBy (e ∷ es) ticket number = ((e.first ≤ ticket) × (ticket < e.past) × (number ≡ e.number)) ⊎ IsSettledBy es ticket number
+IsSettledBy (e ∷ es) ticket number =
+    ((e.first ≤ ticket) × (ticket < e.past) × (number ≡ e.number)) ⊎ IsSettledBy es ticket number
 
 -- the number of the group that settled a ticket; or none, where the group's entry was taken
 abbrev pub AnswersNumber : Account → ℕ → Option ℕ → Type 0

@@ -12,7 +12,15 @@ use Rattle.jb_book.specs.declared.book.Book.TheInside.{Inside}
 -- the account that a book keeps
 abbrev pub account_of : {H : Type 0} → Inside H → Account
 account_of b = record {
-  shadow = record { seats = b.seats.entries; queue = b.queue.items; credits = b.credits.items; settled = b.settled; taken = b.taken; next = b.next };
+  shadow =
+      record {
+        seats = b.seats.entries;
+        queue = b.queue.items;
+        credits = b.credits.items;
+        settled = b.settled;
+        taken = b.taken;
+        next = b.next;
+      };
   shape = b.shape;
   usable = b.usable;
   most = b.most;
@@ -23,8 +31,8 @@ account_of b = record {
   aborted = b.aborted;
 }
 
--- the account is sound, its sums are counted, the trail has room for a group of each handle that may be settled, and the handles in
--- the queue stopped with words that a handle may stop with
+-- the account is sound, its sums are counted, the trail has room for a group of each handle that may be settled, and
+-- the handles in the queue stopped with words that a handle may stop with
 pub record IsBookKept {H : Type 0} (begun : Begun) (b : Inside H) : Type 0 where
   pub sound : IsAccountSound (account_of b)
   pub open_sum : b.open_sum ≡ sum (values_of b.seats.entries)

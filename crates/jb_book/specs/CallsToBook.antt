@@ -10,11 +10,11 @@ use Rattle.jb_plan.specs.Prepare.{Planned, IsPlanned}
 use Rattle.jb_deck.specs.Done.{first_ticket, entries_of}
 use Rattle.jb_deck.specs.declared.done.Done.{Done}
 use Rattle.jb_handle.specs.declared.shape.Shape.{Shape}
-use Rattle.jb_core.specs.Lives.{Log, handles_of_order, stop_order}
+use Rattle.jb_core.specs.Lives.{EventLog, handles_of_order, stop_order}
 use Rattle.jb_core.specs.Machine.{Machine}
-use Rattle.jb_core.specs.MachineRuns.{Ran}
+use Rattle.jb_core.specs.MachineRuns.{RanFromStart}
 use Rattle.jb_book.specs.Account.{Account, CanStop, Settles, failed_of, queued, settled_to}
-use Rattle.jb_book.specs.Calls.{Call, CallsMake, AreOfFirst, IsCutOf, handles_in, out_of, stops_of}
+use Rattle.jb_book.specs.Calls.{BookCall, CallsMake, AreOfFirst, IsCutOf, handles_in, out_of, stops_of}
 use Rattle.jb_book.specs.MachineTie.{AreAccepted}
 use Rattle.jb_book.specs.declared.fault.WrongBatch.{WrongBatch}
 use Rattle.jb_board.specs.HistoryRule.{StandsIn}
@@ -43,9 +43,10 @@ with_trail full a = record a { trail = full }
 abbrev pub words_stopped : List Stopped → List WordMap
 words_stopped hs = map (λ (h : Stopped). h.words) hs
 
--- Calls of a new book led to this account. What stopped by them is the history, and these handles are out, in the groups of this cut
+-- Calls of a new book led to this account. What stopped by them is the history, and these handles are out, in the
+-- groups of this cut
 pub record Led (log : List WordMap) (a : Account) (hs : List Stopped) (cut : List ℕ) : Type 0 where
-  pub calls : List Call
+  pub calls : List BookCall
   pub full : List Entry
   pub left : IsRestOf a.trail full
   pub called : CallsMake a.shape a.usable calls (with_trail full a)
@@ -62,7 +63,8 @@ pub record HasOut (log : List WordMap) (a : Account) : Type 0 where
   pub cut : List ℕ
   pub are : AreCut log a handles cut
 
--- by whichever least cut the batch that is out will be committed, there are calls that led to this account; and there is such a cut
+-- by whichever least cut the batch that is out will be committed, there are calls that led to this account; and there
+-- is such a cut
 pub record IsLed (log : List WordMap) (a : Account) : Type 0 where
   pub some : a.aborted ≡ false → HasOut log a
   pub led : (hs : List Stopped) (cut : List ℕ) → (a.aborted ≡ false → AreCut log a hs cut) → Led log a hs cut
@@ -78,9 +80,10 @@ pub record Registered : Type 0 where
 abbrev pub registered : Account → List WordMap → Registered
 registered a log = record { book = a; log = log }
 
--- The open handle of the seat, which had this holder, joins the queue under the next ticket, and its words the history. One more is made for the token then, which
--- had these entries
-pub record Queues {T : Type 0} (seat : ℕ) (holder : T) (words : WordMap) (old : Registered) (made : List (ℕ × WordMap)) (given : T × ℕ) (new : Registered) (more : List (ℕ × WordMap)) : Type 0 where
+-- The open handle of the seat, which had this holder, joins the queue under the next ticket, and its words the history.
+-- One more is made for the token then, which had these entries
+pub record Queues {T : Type 0} (seat : ℕ) (holder : T) (words : WordMap) (old : Registered) (made : List (ℕ × WordMap))
+    (given : T × ℕ) (new : Registered) (more : List (ℕ × WordMap)) : Type 0 where
   pub could : CanStop old.book seat words
   pub queued_as : new.book ≡ queued seat words old.book
   pub same_holder : given.0 ≡ holder
@@ -95,7 +98,8 @@ pub record IsRegistered (a : Account) (log : List WordMap) : Type 0 where
   pub queued : All (IsInHistory log) a.shadow.queue
   pub led : IsLed log a
 
--- the entries are those of the first groups of a batch that is in the history that was seen, and that ends at this ticket
+-- the entries are those of the first groups of a batch that is in the history that was seen, and that ends at this
+-- ticket
 pub record IsSettling (prefix : List WordMap) (end : ℕ) (shape : Shape) (done : Done) : Type 0 where
   pub planned : Planned
   pub is : IsPlanned planned
@@ -114,22 +118,30 @@ pub record IsOutAs (a : Account) (first end : ℕ) (shape : Shape) : Type 0 wher
 
 -- the batch that is out is settled whole; where these groups are not all of it, the book has failed
 abbrev pub SettlesOrFails : ℕ → Shape → Done → Account → Result (Unit {0}) WrongBatch → Account → Type 0
-SettlesOrFails end shape done old (Ok unit) new = IsOutAs old (first_ticket done) end shape × Settles old end (entries_of done) × (new ≡ settled_to end (entries_of done) old)
-SettlesOrFails end shape done old (Err wrong) new = (IsOutAs old (first_ticket done) end shape → Settles old end (entries_of done) → ⊥) × (new ≡ failed_of old)
+SettlesOrFails end shape done old (Ok unit) new =
+    IsOutAs old (first_ticket done) end shape × Settles old end (entries_of done)
+    × (new ≡ settled_to end (entries_of done) old)
+SettlesOrFails end shape done old (Err wrong) new =
+    (IsOutAs old (first_ticket done) end shape → Settles old end (entries_of done) → ⊥) × (new ≡ failed_of old)
 
 -- these groups of the batch that is out are settled, where they are its first ones, and then the book has failed
 abbrev pub FailsAfter : ℕ → Shape → Done → Account → Result (Unit {0}) WrongBatch → Account → Type 0
-FailsAfter end shape done old (Ok unit) new = IsOutAs old (first_ticket done) end shape × ((past : ℕ) × Settles old past (entries_of done) × (new ≡ failed_of (settled_to past (entries_of done) old)))
-FailsAfter end shape done old (Err wrong) new = (IsOutAs old (first_ticket done) end shape → (past : ℕ) → Settles old past (entries_of done) → ⊥) × (new ≡ failed_of old)
+FailsAfter end shape done old (Ok unit) new =
+    IsOutAs old (first_ticket done) end shape
+    × ((past : ℕ) × Settles old past (entries_of done) × (new ≡ failed_of (settled_to past (entries_of done) old)))
+FailsAfter end shape done old (Err wrong) new =
+    (IsOutAs old (first_ticket done) end shape → (past : ℕ) → Settles old past (entries_of done) → ⊥)
+    × (new ≡ failed_of old)
 
 -- ---- what is known of a book once it ends
 
--- There is a list of events, each of which the machine of handles has accepted, in a journal of this shape. The handles that stopped in it are the history, in this order; and
--- the groups that are settled in it are those of the whole trail, of which these entries are left: each has the handles whose tickets its entry has
+-- There is a list of events, each of which the machine of handles has accepted, in a journal of this shape. The handles
+-- that stopped in it are the history, in this order; and the groups that are settled in it are those of the whole
+-- trail, of which these entries are left: each has the handles whose tickets its entry has
 pub record IsMachineRun (shape : Shape) (log : List WordMap) (trail : List Entry) : Type 0 where
-  pub events : Log
+  pub events : EventLog
   pub machine : Machine
-  pub ran : Ran shape events machine
+  pub ran : RanFromStart shape events machine
   pub accepted : AreAccepted events
   pub one_life : machine.earlier ≡ 0
   pub stops : words_stopped (handles_of_order (stop_order events)) ≡ log

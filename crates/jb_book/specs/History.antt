@@ -23,9 +23,10 @@ pub record AreAllStops (log : List WordMap) (stops : List (ℕ × WordMap)) : Ty
   pub stand : All (StandsIn log) stops
   pub once : (weight : ℕ × WordMap → ℕ) → sum_by weight stops ≡ sum_by weight (with_places 0 log)
 
--- How a desk ends whose seats have stopped these handles: there is one history of this many stops, which has them all and no others, and the
--- journal on the disk was given the first handles of this history
-pub record EndsWith {D : Type 0} (G : Ghosts D) (b : Begun) (stops : List (List (ℕ × WordMap))) (handles : ℕ) (shape : Shape) (disk : D) (trail : List Entry) : Type 0 where
+-- How a desk ends whose seats have stopped these handles: there is one history of this many stops, which has them all
+-- and no others, and the journal on the disk was given the first handles of this history
+pub record EndsWith {D : Type 0} (G : Ghosts D) (b : Begun) (stops : List (List (ℕ × WordMap))) (handles : ℕ)
+    (shape : Shape) (disk : D) (trail : List Entry) : Type 0 where
   pub log : List WordMap
   pub number : length log ≡ handles
   pub stopped : AreAllStops log (joined stops)
@@ -37,10 +38,12 @@ pub record EndsWith {D : Type 0} (G : Ghosts D) (b : Begun) (stops : List (List 
   -- where the disk is honest now, the shape is that of the journal of the start
   pub journal : b.is_known → G.honest disk → IsShapeOf b.own b.count shape
 
--- How it came about that seats have stopped these handles: there is one history, which has them all and no others, and there is a list of events
--- that the machine of handles accepts, in which these handles stopped in this order, and whose settled groups are those of the trail. Where the
--- disk is honest now, the machine's groups have cost what they do in a journal of this shape
-pub record CameAbout {D : Type 0} (G : Ghosts D) (b : Begun) (stops : List (List (ℕ × WordMap))) (shape : Shape) (disk : D) (trail : List Entry) : Type 0 where
+-- How it came about that seats have stopped these handles: there is one history, which has them all and no others, and
+-- there is a list of events that the machine of handles accepts, in which these handles stopped in this order, and
+-- whose settled groups are those of the trail. Where the disk is honest now, the machine's groups have cost what they
+-- do in a journal of this shape
+pub record CameAbout {D : Type 0} (G : Ghosts D) (b : Begun) (stops : List (List (ℕ × WordMap))) (shape : Shape)
+    (disk : D) (trail : List Entry) : Type 0 where
   pub log : List WordMap
   pub stopped : AreAllStops log (joined stops)
   pub run_shape : Shape

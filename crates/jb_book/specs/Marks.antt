@@ -1,4 +1,5 @@
--- The marks of a desk, which are its journal as it was when the desk was started, after each round of a committer and after each read, and what they show of a ticket.
+-- The marks of a desk, which are its journal as it was when the desk was started, after each round of a committer and
+-- after each read, and what they show of a ticket.
 use Rattle.std.specs.Prelude.{◌≡◌, ℕ, ◌<◌, ◌≤◌, true, List, All, length, Option, Some, None, slice_get}
 use Rattle.jb_deck.specs.Deck.{OpenDeck}
 use Rattle.jb_deck.specs.declared.done.Entry.{Entry}
@@ -18,7 +19,8 @@ SeesMore old new = IsFirstPart old.stops new.stops × IsFirstPart old.marks new.
 abbrev pub SeesSame : {D H : Type 0} → Sights D H → Sights D H → Type 0
 SeesSame old new = (new.stops ≡ old.stops) × (new.marks ≡ old.marks)
 
--- a handle stopped with these words, under this ticket, which is higher than those of the handles that had been seen; now it is seen, too
+-- a handle stopped with these words, under this ticket, which is higher than those of the handles that had been seen;
+-- now it is seen, too
 pub record SeesStop (old new : List WordMap) (ticket : ℕ) (words : WordMap) : Type 0 where
   pub higher : length old ≤ ticket
   pub begins : IsFirstPart old new

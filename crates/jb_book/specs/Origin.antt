@@ -39,7 +39,19 @@ own_on size count c = revoking_in (super_on size count c)
 
 -- nothing is known of the start, and handles stop with any words
 abbrev pub unknown : Begun
-unknown = record { is_known = ⊥; none_failed = ⊥; size = 0; count = 0; faults = 0; own = new_super 0 0 0 []; homes = λ home. []; since = 0; left = λ c. ⊥; stops = λ words. Unit {0} }
+unknown =
+    record {
+      is_known = ⊥;
+      none_failed = ⊥;
+      size = 0;
+      count = 0;
+      faults = 0;
+      own = new_super 0 0 0 [];
+      homes = λ home. [];
+      since = 0;
+      left = λ c. ⊥;
+      stops = λ words. Unit {0};
+    }
 
 -- each of the handles stopped with words that a handle may stop with
 abbrev pub AreStops : Begun → List Stopped → Type 0

@@ -11,7 +11,8 @@ use Rattle.jb_deck.specs.declared.done.Done.{Done}
 abbrev pub end_of : Gathered → ℕ
 end_of b = b.first + length b.handles
 
--- all of the batch is settled, or after a fault of the disk a prefix of it and not all; otherwise it is handed back as it was
+-- all of the batch is settled, or after a fault of the disk a prefix of it and not all; otherwise it is handed back as
+-- it was
 abbrev pub CommitsAs : Planned → Result Done BatchFault → Type 0
 CommitsAs p (Ok done) = (first_ticket done ≡ p.batch.first) × Follow p.batch.first 0 (end_of p.batch) (entries_of done)
 CommitsAs p (Err (batch.Aborted back)) = back ≡ p
@@ -19,4 +20,6 @@ CommitsAs p (Err (batch.WrongTicket back expected)) = back ≡ p
 CommitsAs p (Err (batch.OtherShape back)) = back ≡ p
 CommitsAs p (Err (batch.NumbersSpent back)) = back ≡ p
 CommitsAs p (Err (batch.Memory back)) = back ≡ p
-CommitsAs p (Err (batch.DeviceFault settled)) = (first_ticket settled ≡ p.batch.first) × (p.batch.first ≤ past_after p.batch.first (entries_of settled)) × (past_after p.batch.first (entries_of settled) < end_of p.batch)
+CommitsAs p (Err (batch.DeviceFault settled)) =
+    (first_ticket settled ≡ p.batch.first) × (p.batch.first ≤ past_after p.batch.first (entries_of settled))
+    × (past_after p.batch.first (entries_of settled) < end_of p.batch)

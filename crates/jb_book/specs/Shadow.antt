@@ -33,8 +33,8 @@ abbrev pub fresh : Shadow
 fresh = record { seats = []; queue = []; credits = []; settled = 0; taken = 0; next = 0 }
 
 -- a seat has begun a handle of this many credits
-abbrev pub begun : ℕ → ℕ → Shadow → Shadow
-begun seat credits s = record s { seats = seats.set s.seats seat credits }
+abbrev pub begun_at : ℕ → ℕ → Shadow → Shadow
+begun_at seat credits s = record s { seats = seats.set s.seats seat credits }
 
 -- a seat's open handle is dropped
 abbrev pub dropped : ℕ → Shadow → Shadow

@@ -1,4 +1,5 @@
--- The state of a journal since its desk was started: which handles it was given, what its homes hold, and what a crash leaves.
+-- The state of a journal since its desk was started: which handles it was given, what its homes hold, and what a crash
+-- leaves.
 use Rattle.std.specs.Prelude.{◌≡◌, ◌⊎◌, ℕ, ◌+◌, ◌-◌, ◌<◌, ◌≤◌, ◌^◌, false, List, [], ◌∷◌, All, length, take}
 use Rattle.jb_disk.specs.Image.{Image}
 use Rattle.jb_disk.specs.Faults.{most_faults}
@@ -19,8 +20,9 @@ use Rattle.jb_deck.specs.Since.{LiveOf, deck_homes}
 use Rattle.jb_deck.specs.declared.done.Entry.{Entry}
 use Rattle.jb_book.specs.Origin.{Begun, own_on}
 
--- an image of the journal of the start that recovery accepts, and that is recovered to the homes of the start with the first of these
--- handles, at least `least`; of the numbers after that of the start no more are used than there are handles
+-- an image of the journal of the start that recovery accepts, and that is recovered to the homes of the start with the
+-- first of these handles, at least `least`; of the numbers after that of the start no more are used than there are
+-- handles
 pub record HasFirst (b : Begun) (given : List Stopped) (least : ℕ) (c : Image) : Type 0 where
   pub many : ℕ
   pub from : least ≤ many
@@ -33,7 +35,8 @@ pub record HasFirst (b : Begun) (given : List Stopped) (least : ℕ) (c : Image)
 abbrev pub may_stop : Begun → Stopped → Type 0
 may_stop b h = b.stops h.words
 
--- the entry is of handles of this list, one at least, and its blocks are what these cost as one group of a journal of this shape
+-- the entry is of handles of this list, one at least, and its blocks are what these cost as one group of a journal of
+-- this shape
 pub record IsCosted (shape : Shape) (given : List Stopped) (e : Entry) : Type 0 where
   pub some : e.first < e.past
   pub within : e.past ≤ length given
@@ -44,8 +47,9 @@ abbrev pub NumberedFrom : ℕ → List Entry → Type 0
 NumberedFrom number [] = Unit {0}
 NumberedFrom number (e ∷ es) = (e.number ≡ number) × NumberedFrom (number + 1) es
 
--- The handles that a journal was given, by ticket, each as `is` says: those settled in its trail, each group with its cost, and on a journal that has
--- failed the batch in hand after them. The numbers of the trail rise by one, up to the journal's next one
+-- The handles that a journal was given, by ticket, each as `is` says: those settled in its trail, each group with its
+-- cost, and on a journal that has failed the batch in hand after them. The numbers of the trail rise by one, up to the
+-- journal's next one
 pub record WasGiven {D : Type 0} (is : Stopped → Type 0) (given : List Stopped) (d : OpenDeck D) : Type 0 where
   pub stopped : All is given
   pub tickets : TicketsFrom 0 given
@@ -56,8 +60,8 @@ pub record WasGiven {D : Type 0} (is : Stopped → Type 0) (given : List Stopped
   pub numbers : NumberedFrom first d.trail
   pub next : first + length d.trail ≡ d.log.next
 
--- The journal of the start, on its disk, after it was given these handles. While it has not failed its homes are as they say, those
--- that are free aside.
+-- The journal of the start, on its disk, after it was given these handles. While it has not failed its homes are as
+-- they say, those that are free aside.
 pub record Since {D : Type 0} (G : Ghosts D) (b : Begun) (given : List Stopped) (d : OpenDeck D) : Type 0 where
   pub same_size : G.size d.disk ≡ b.size
   pub same_count : G.count d.disk ≡ b.count
@@ -77,8 +81,9 @@ pub record Since {D : Type 0} (G : Ghosts D) (b : Begun) (given : List Stopped) 
   pub later : b.since ≤ G.moment d.disk
   pub ever : (c : Image) → G.left_since d.disk b.since c → b.left c ⊎ HasFirst b given 0 c
 
--- The journal was given handles, each as `is` says (`WasGiven`), and where the start is known and the disk is honest now, `Since` holds of it. Where no write and no sync of
--- the disk had failed at the start, no call came after one that has: the count of faults says so while it is not at its top
+-- The journal was given handles, each as `is` says (`WasGiven`), and where the start is known and the disk is honest
+-- now, `Since` holds of it. Where no write and no sync of the disk had failed at the start, no call came after one that
+-- has: the count of faults says so while it is not at its top
 pub record IsSinceOf {D : Type 0} (G : Ghosts D) (b : Begun) (is : Stopped → Type 0) (d : OpenDeck D) : Type 0 where
   pub given : List Stopped
   pub has : WasGiven is given d
@@ -96,13 +101,17 @@ pub record EndsSince {D : Type 0} (G : Ghosts D) (b : Begun) (disk : D) (trail :
   pub same_trail : deck.trail ≡ trail
   pub since : IsSince G b deck
 
--- Of the disk that a desk, or a run, gives back: where no write and no sync of it had failed at the start, no call came after one that has failed since (reads of homes that failed
--- aside, after which calls may follow). Its count of faults says so while it is not at its top
+-- Of the disk that a desk, or a run, gives back: where no write and no sync of it had failed at the start, no call came
+-- after one that has failed since (reads of homes that failed aside, after which calls may follow). Its count of faults
+-- says so while it is not at its top
 abbrev pub NoneAfterAtDesk : {D : Type 0} → Ghosts D → Begun → Type 0
-NoneAfterAtDesk {D} G b = (disk : D) (trail : List Entry) → EndsSince G b disk trail → b.none_failed → G.faults disk < most_faults → G.well_asked disk
+NoneAfterAtDesk {D} G b =
+    (disk : D) (trail : List Entry) → EndsSince G b disk trail → b.none_failed → G.faults disk < most_faults
+    → G.well_asked disk
 
--- The start is that of the journal on this disk, once it is opened: its homes were as recovery leaves them, and what a crash might
--- have left has what it might leave before the journal is opened and meanwhile. Where it says that no write and no sync had failed, none has.
+-- The start is that of the journal on this disk, once it is opened: its homes were as recovery leaves them, and what a
+-- crash might have left has what it might leave before the journal is opened and meanwhile. Where it says that no write
+-- and no sync had failed, none has.
 pub record IsBegunOn {D : Type 0} (G : Ghosts D) (b : Begun) (disk : D) : Type 0 where
   pub same_size : G.size disk ≡ b.size
   pub same_count : G.count disk ≡ b.count

@@ -72,8 +72,8 @@ impl<H: Origin> Book<H> {
     ghost use Rattle.jb_book.specs.Account.{IsNewBook, granted_to, dropped_of, queued, taken_all};
     ghost use Rattle.jb_book.specs.Account.{settled_to, has_no_room, begin_refusal, RefusesBegin};
     ghost use Rattle.jb_book.specs.Account.{IsOpenFor, CanStop, RefusesStop, CanTake, Settles};
-    ghost use Rattle.jb_book.specs.Calls.{Call, Does, Opened, Enqueued, Dropped, Took, TookNone, Settled};
-    ghost use Rattle.jb_book.specs.Calls.{AreOfFirst, IsCutOf, out_of, ticket_answered};
+    ghost use Rattle.jb_book.specs.Calls.{BookCall, Does, Opened, Enqueued, Dropped, Took, TookNone, Settled};
+    ghost use Rattle.jb_book.specs.Calls.{Settled, Failed, Shut, AreOfFirst, IsCutOf, out_of, ticket_answered};
 
     /// A book in which nothing has happened yet, for a journal of this shape with this many usable log blocks. It
     /// takes no memory.
@@ -116,7 +116,7 @@ impl<H: Origin> Book<H> {
         ensures err { OnErr result (self.new ≡ self.old) }
         ensures refused { IfErr result (RefusesBegin self.old seat credits) }
         /// A begin is a call of a book's list of calls, granted or refused.
-        ensures does { (earlier : List Call) → Does (Opened seat credits result) earlier self.old self.new }
+        ensures does { (earlier : List BookCall) → Does (Opened seat credits result) earlier self.old self.new }
     {
         if self.aborted {
             return Err(BeginFault::Aborted);
@@ -175,7 +175,7 @@ impl<H: Origin> Book<H> {
         ensures refused { IfErr result (λ back. RefusesStop self.old seat (changes_of handle).words back.1) }
         /// A stop is a call of a book's list of calls, with the ticket that it answers or its refusal. Edit:
         /// `enqueue_forgets_the_words`.
-        ensures does { (earlier : List Call) → Does (Enqueued seat (changes_of handle).words
+        ensures does { (earlier : List BookCall) → Does (Enqueued seat (changes_of handle).words
             (ticket_answered result)) earlier self.old self.new }
     {
         if self.aborted {
@@ -222,7 +222,7 @@ impl<H: Origin> Book<H> {
     pub fn drop_open(&mut self, seat: u64)
         ensures value { self.new ≡ dropped_of seat self.old }
         /// A handle that is dropped is a call of a book's list of calls.
-        ensures does { (earlier : List Call) → Does (Dropped seat) earlier self.old self.new }
+        ensures does { (earlier : List BookCall) → Does (Dropped seat) earlier self.old self.new }
     {
         if let Some(credits) = self.seats.remove(&seat) {
             self.open_sum -= u64::from(credits);
@@ -245,9 +245,9 @@ impl<H: Origin> Book<H> {
         ensures none { IfNone result ((CanTake self.old → ⊥) × (self.new ≡ self.old)) }
         /// With `idles`: A take is a call of a book's list of calls, with each least cut of its batch, and so is one
         /// that gives none.
-        ensures does { IfSome result (λ batch. (cut : List ℕ) → IsCutOf batch cut → (earlier : List Call)
+        ensures does { IfSome result (λ batch. (cut : List ℕ) → IsCutOf batch cut → (earlier : List BookCall)
             → Does (Took batch cut) earlier self.old self.new) }
-        ensures idles { IfNone result ((earlier : List Call) → Does TookNone earlier self.old self.new) }
+        ensures idles { IfNone result ((earlier : List BookCall) → Does TookNone earlier self.old self.new) }
     {
         if self.aborted {
             return None;
@@ -279,7 +279,7 @@ impl<H: Origin> Book<H> {
         ensures err { OnErr result (self.new ≡ self.old) }
         /// A settle of entries of the first groups that are being committed is a call of a book's list of calls, and so
         /// is one that is refused.
-        ensures does { (earlier : List Call) → AreOfFirst (out_of earlier) (entries_of done.now)
+        ensures does { (earlier : List BookCall) → AreOfFirst (out_of earlier) (entries_of done.now)
             → Does (Settled (entries_of done.now) result) earlier self.old self.new }
     {
         let entries = done.entries();

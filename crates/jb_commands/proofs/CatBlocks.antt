@@ -6,7 +6,7 @@ use Rattle.std.proofs.lemmas.List.{get_or_append_left}
 use Rattle.std.specs.Io.KnownBytes.{Appends}
 use Rattle.std.proofs.KnownBytes.{Appends-trans}
 use Rattle.jb_disk.specs.Faults.{CountsNone, MoreFaults}
-use Rattle.jb_disk.specs.Image.{Image, Same}
+use Rattle.jb_disk.specs.Image.{Image, ChangesNothing}
 use Rattle.jb_disk.specs.KeptOn.{KeptOn, ReadsOn}
 use Rattle.jb_disk.specs.Time.{Goes}
 use Rattle.jb_disk.proofs.KeptOverCalls.{kept_as, kept_on, kept_same, reads_none, reads_on}
@@ -65,7 +65,7 @@ module _ {D : Type 0} (G : Disks D) (sums : Checksums) (first : ℕ) (hex : Bool
     pub done : length blocks ≡ i
     pub kept : KeptOn G CountsNone old now
     pub same : G.honest now → G.newest now ≡ G.newest old
-    pub idle : G.honest now → Goes G.may_leave G.moment G.left_since Same old now
+    pub idle : G.honest now → Goes G.may_leave G.moment G.left_since ChangesNothing old now
     pub unsynced : ReadsOn G old now
     pub peeked : G.honest now → ArePeeked sums (G.size old) (G.count old) (G.newest old) first blocks
     pub offset : at ≡ offset_after 0 blocks
@@ -97,7 +97,7 @@ module _ {D : Type 0} (G : Disks D) (sums : Checksums) (first : ℕ) (hex : Bool
   }
 
   module _ {counts : ℕ → ℕ → Type 0} (old now next : D) (out_old out_now : Option (List ℕ)) (i at : ℕ) (state : Catting old now out_old out_now i at)
-      (kept : KeptOn G counts now next) (same : G.honest next → G.newest next ≡ G.newest now) (idle : G.honest next → Goes G.may_leave G.moment G.left_since Same now next)
+      (kept : KeptOn G counts now next) (same : G.honest next → G.newest next ≡ G.newest now) (idle : G.honest next → Goes G.may_leave G.moment G.left_since ChangesNothing now next)
       (reads : ReadsOn G now next) (counts_now : (t : ℕ) (c : Image) → G.honest old → t ≤ G.moment old → G.may_leave old c → G.left_since old t c) where
     kept-next : (both : ℕ → ℕ → Type 0) → both (G.faults old) (G.faults next) → KeptOn G both old next
     kept-next both counted = kept_on state.kept kept counted
@@ -105,10 +105,10 @@ module _ {D : Type 0} (G : Disks D) (sums : Checksums) (first : ℕ) (hex : Bool
     same-next : G.honest next → G.newest next ≡ G.newest old
     same-next held = same held ∙ state.same (kept.was_honest held)
 
-    idle-next : G.honest next → Goes G.may_leave G.moment G.left_since Same old next
+    idle-next : G.honest next → Goes G.may_leave G.moment G.left_since ChangesNothing old next
     idle-next held =
         let was = kept.was_honest held in
-        goes-on G.may_leave G.moment G.left_since Same old now next (λ t c earlier left. counts_now t c (state.kept.was_honest was) earlier left) (state.idle was) (idle held)
+        goes-on G.may_leave G.moment G.left_since ChangesNothing old now next (λ t c earlier left. counts_now t c (state.kept.was_honest was) earlier left) (state.idle was) (idle held)
 
     peeked-still : G.honest next → ArePeeked sums (G.size old) (G.count old) (G.newest old) first state.blocks
     peeked-still held = state.peeked (kept.was_honest held)
@@ -185,7 +185,7 @@ module _ {D : Type 0} (G : Disks D) (sums : Checksums) (first : ℕ) (hex : Bool
 -- ---- no block is asked for
 
 module _ {D : Type 0} (G : Disks D) (sums : Checksums) (homes : Option ℕ) (home : ℕ) (old new : D)
-    (same : G.honest new → G.newest new ≡ G.newest old) (idle : G.honest new → Goes G.may_leave G.moment G.left_since Same old new)
+    (same : G.honest new → G.newest new ≡ G.newest old) (idle : G.honest new → Goes G.may_leave G.moment G.left_since ChangesNothing old new)
     (reads : ReadsOn G old new) where
   -- the peek was not refused
   pub looks-well : KeptOn G CountsNone old new → (G.honest new → unpeeked_for sums (G.size old) (G.count old) (G.newest old) home ≡ None) → LooksOn sums G homes home old new (Ok 0)

@@ -2,7 +2,7 @@
 use Rattle.std.proofs.Common.{ℕ, List, Option, None, Result, Ok, Err, IfOk, IfErr, inl, inr}
 use Rattle.jb_commands.specs.AnswerSaid.{Said, said}
 use Rattle.jb_commands.specs.Limits.{cert_limit}
-use Rattle.jb_commands.specs.Runs.{Ends, EndsOfClaim, EndsOfTwo}
+use Rattle.jb_commands.specs.Runs.{EndsAsSaid, EndsOfClaim, EndsOfTwo}
 use Rattle.jb_commands.specs.Outputs.{Outputs, Tells, TellsNone}
 use Rattle.jb_commands.specs.Texts.{IsText, IsTextWithin, known_behind}
 use Rattle.jb_commands.specs.declared.command_output.CommandOutput.{CommandOutput}
@@ -13,7 +13,7 @@ use Rattle.jb_commands.specs.declared.fault.CommandFault.TheVariants.{Memory}
 -- a command over one text
 pub ends_of_answer : {F : Type 0} (Says : List ℕ → Said → Type 0) (name : List ℕ) (input : Option (List ℕ)) (text : List ℕ) (old new : Outputs) (answer : Result CommandOutput F) (end : Result ProgramEnd CommandFault)
     → IsText (known_behind name input) text → IfOk answer (λ a. Says text (said a)) → IfOk answer (λ a. Tells (said a) old new end) → IfErr answer (λ _. TellsNone old new end)
-    → Ends Says name input old new end
+    → EndsAsSaid Says name input old new end
 ends_of_answer Says name input text old new (Ok a) end read says tells none = inl (text, said a, read, says, tells)
 ends_of_answer Says name input text old new (Err e) end read says tells none = inr (Memory, none.0, tt, none.1)
 

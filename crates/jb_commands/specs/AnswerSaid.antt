@@ -3,7 +3,8 @@ use Rattle.std.specs.Prelude.{ℕ, List, Option, string_bytes}
 use Rattle.jb_args.specs.declared.hint.Hint.{Hint}
 use Rattle.jb_commands.specs.declared.command_output.CommandOutput.{CommandOutput}
 
--- an exit status, the bytes for standard output and for standard error, and what a second line is about where there is one
+-- an exit status, the bytes for standard output and for standard error, and what a second line is about where there is
+-- one
 pub record Said : Type 0 where
   pub status : ℕ
   pub out : List ℕ
@@ -12,4 +13,5 @@ pub record Said : Type 0 where
 
 -- what an answer says
 abbrev pub said : CommandOutput → Said
-said answer = record { status = answer.status; out = string_bytes answer.out; err = string_bytes answer.err; hint = answer.hint }
+said answer =
+    record { status = answer.status; out = string_bytes answer.out; err = string_bytes answer.err; hint = answer.hint }

@@ -1,10 +1,12 @@
 -- How `jb cat` ends on a disk.
-use Rattle.std.specs.Prelude.{◌≡◌, ◌+◌, ◌*◌, ◌-◌, ◌/◌, ◌%◌, ◌^◌, ◌<◌, ◌⊎◌, ◌&&◌, ℕ, ⊤, Bool, true, false, if◌then◌else◌, min, nat_lt, List, [], ◌∷◌, ◌++◌, length, map, take, drop, get_or, Option, Some, None, Result, Ok, Err, codes}
+use Rattle.std.specs.Prelude.{◌≡◌, ◌+◌, ◌*◌, ◌-◌, ◌/◌, ◌%◌, ◌^◌, ◌<◌, ◌⊎◌, ◌&&◌, ℕ, ⊤, Bool, true, false, if◌then◌else◌}
+use Rattle.std.specs.Prelude.{min, nat_lt, List, [], ◌∷◌, ◌++◌, length, map, take, drop, get_or, Option, Some, None}
+use Rattle.std.specs.Prelude.{Result, Ok, Err, codes}
 use Rattle.std.specs.Int.{w32, to_be_bytes}
 use Rattle.std.specs.Io.KnownBytes.{Appends}
 use Rattle.hex.specs.Hex.{encode_lower}
 use Rattle.jb_disk.specs.Faults.{MoreFaults}
-use Rattle.jb_disk.specs.Image.{Image, Same}
+use Rattle.jb_disk.specs.Image.{Image, ChangesNothing}
 use Rattle.jb_disk.specs.KeptOn.{KeptOn, ReadsOn}
 use Rattle.jb_disk.specs.Time.{Goes}
 use Rattle.jb_text.specs.Puts.{PutsPart}
@@ -29,7 +31,9 @@ shown_as b = if nat_lt 31 b && nat_lt b 127 then b else 46
 
 -- a row of sixteen bytes at an offset
 abbrev pub row_text : ℕ → List ℕ → List ℕ
-row_text at row = encode_lower (to_be_bytes w32 at) ++ codes ": " ++ upto (pair_text row) 8 ++ codes " " ++ map shown_as row ++ codes "\n"
+row_text at row =
+    encode_lower (to_be_bytes w32 at) ++ codes ": " ++ upto (pair_text row) 8 ++ codes " " ++ map shown_as row
+    ++ codes "\n"
 
 -- the rows of a block, the first of which has this offset
 abbrev pub rows_text : ℕ → List ℕ → ℕ → List ℕ
@@ -62,7 +66,10 @@ home_at first k = min (first + k) (2 ^ 64 - 1)
 
 -- the blocks are what peeks at the homes from the first one on give
 abbrev pub ArePeeked : Checksums → ℕ → ℕ → Image → ℕ → List (List ℕ) → Type 0
-ArePeeked sums size count c first blocks = (k : ℕ) → k < length blocks → (unpeeked_for sums size count c (home_at first k) ≡ None) × IsPeekedBy sums size count c (home_at first k) (get_or blocks k [])
+ArePeeked sums size count c first blocks =
+    (k : ℕ) → k < length blocks
+    → (unpeeked_for sums size count c (home_at first k) ≡ None)
+    × IsPeekedBy sums size count c (home_at first k) (get_or blocks k [])
 
 -- how writing one text ends: it is written, or its beginning, or nothing for want of memory
 abbrev pub PutsText : List ℕ → Option (List ℕ) → Option (List ℕ) → Result Unit CommandFault → Type 0
@@ -71,14 +78,17 @@ PutsText text old new (Err WriteFault) = PutsPart old new text
 PutsText text old new (Err Memory) = new ≡ old
 PutsText text old new (Err _) = ⊥
 
--- this many blocks were asked for, and all of them are written; or their beginning; or all before one that was not peeked at, or had no
--- memory for its rows
-abbrev pub TellsHomes : (CheckedPeekFault → Type 0) → Option ℕ → Bool → ℕ → ℕ → List ℕ → Option (List ℕ) → Option (List ℕ) → Result ℕ CommandFault → Type 0
-TellsHomes IsRefused homes hex n done text out_old out_new (Ok status) = (status ≡ 0) × (done ≡ n) × Appends out_old out_new text
+-- this many blocks were asked for, and all of them are written; or their beginning; or all before one that was not
+-- peeked at, or had no memory for its rows
+abbrev pub TellsHomes : (CheckedPeekFault → Type 0) → Option ℕ → Bool → ℕ → ℕ → List ℕ → Option (List ℕ)
+    → Option (List ℕ) → Result ℕ CommandFault → Type 0
+TellsHomes IsRefused homes hex n done text out_old out_new (Ok status) =
+    (status ≡ 0) × (done ≡ n) × Appends out_old out_new text
 TellsHomes IsRefused homes hex n done text out_old out_new (Err fault) =
     ((fault ≡ WriteFault) × PutsPart out_old out_new text)
     ⊎ (((fault ≡ Memory) × (hex ≡ true) × (done < n) × Appends out_old out_new text)
-    ⊎ ((stop : CheckedPeekFault) × (fault ≡ peek_fault homes stop) × (done < n) × IsRefused stop × Appends out_old out_new text))
+    ⊎ ((stop : CheckedPeekFault) × (fault ≡ peek_fault homes stop) × (done < n) × IsRefused stop
+    × Appends out_old out_new text))
 
 -- how the count of failed calls changes: it rises where one is why the command ended, and else stays
 abbrev pub CatFaults : Result ℕ CommandFault → ℕ → ℕ → Type 0
@@ -86,17 +96,20 @@ CatFaults (Ok status) old new = new ≡ old
 CatFaults (Err DeviceFault) old new = MoreFaults old new
 CatFaults (Err _) old new = new ≡ old
 
--- the homes of a disk from the first one on were peeked at and written, as many as were asked for, or up to a fault; the disk's content
--- stays, and a crash leaves what it could leave before, no less and no more
-pub record CatsOn {D : Type 0} (sums : Checksums) (G : Disks D) (homes : Option ℕ) (first n : ℕ) (hex : Bool) (old new : D)
+-- the homes of a disk from the first one on were peeked at and written, as many as were asked for, or up to a fault;
+-- the disk's content stays, and a crash leaves what it could leave before, no less and no more
+pub record CatsOn {D : Type 0} (sums : Checksums) (G : Disks D) (homes : Option ℕ) (first n : ℕ) (hex : Bool)
+    (old new : D)
     (out_old out_new : Option (List ℕ)) (end : Result ℕ CommandFault) : Type 0 where
   pub blocks : List (List ℕ)
   pub kept : KeptOn G (CatFaults end) old new
   pub same : G.honest new → G.newest new ≡ G.newest old
-  pub idle : G.honest new → Goes G.may_leave G.moment G.left_since Same old new
+  pub idle : G.honest new → Goes G.may_leave G.moment G.left_since ChangesNothing old new
   pub unsynced : ReadsOn G old new
   pub peeked : G.honest new → ArePeeked sums (G.size old) (G.count old) (G.newest old) first blocks
-  pub told : TellsHomes (λ stop. G.honest new → IsUnpeeked sums (G.size old) (G.count old) (G.newest old) (home_at first (length blocks)) stop) homes hex n (length blocks)
+  pub told : TellsHomes (λ stop. G.honest new
+      → IsUnpeeked sums (G.size old) (G.count old) (G.newest old) (home_at first (length blocks)) stop) homes hex n
+      (length blocks)
       (blocks_text hex 0 blocks) out_old out_new end
 
 -- ---- no block is asked for
@@ -104,21 +117,24 @@ pub record CatsOn {D : Type 0} (sums : Checksums) (G : Disks D) (homes : Option 
 -- a home was peeked at, and that is not refused, or is refused for this
 abbrev pub LooksAs : (CheckedPeekFault → Type 0) → Type 0 → Option ℕ → Result ℕ CommandFault → Type 0
 LooksAs IsRefused IsPassed homes (Ok status) = (status ≡ 0) × IsPassed
-LooksAs IsRefused IsPassed homes (Err fault) = (stop : CheckedPeekFault) × (fault ≡ peek_fault homes stop) × IsRefused stop
+LooksAs IsRefused IsPassed homes (Err fault) =
+    (stop : CheckedPeekFault) × (fault ≡ peek_fault homes stop) × IsRefused stop
 
--- a home of a disk was peeked at, and nothing more: it ends well where that is not refused; the disk's content stays, and a crash leaves
--- what it could leave before, no less and no more
-pub record LooksOn {D : Type 0} (sums : Checksums) (G : Disks D) (homes : Option ℕ) (home : ℕ) (old new : D) (end : Result ℕ CommandFault) : Type 0 where
+-- a home of a disk was peeked at, and nothing more: it ends well where that is not refused; the disk's content stays,
+-- and a crash leaves what it could leave before, no less and no more
+pub record LooksOn {D : Type 0} (sums : Checksums) (G : Disks D) (homes : Option ℕ) (home : ℕ) (old new : D)
+    (end : Result ℕ CommandFault) : Type 0 where
   pub kept : KeptOn G (CatFaults end) old new
   pub same : G.honest new → G.newest new ≡ G.newest old
-  pub idle : G.honest new → Goes G.may_leave G.moment G.left_since Same old new
+  pub idle : G.honest new → Goes G.may_leave G.moment G.left_since ChangesNothing old new
   pub unsynced : ReadsOn G old new
   pub looked : LooksAs (λ stop. G.honest new → IsUnpeeked sums (G.size old) (G.count old) (G.newest old) home stop)
       (G.honest new → unpeeked_for sums (G.size old) (G.count old) (G.newest old) home ≡ None) homes end
 
--- the homes of a disk from the first one on were shown, as many as were asked for; where none was, the first was peeked at, and nothing
--- written
-pub record ShowsOn {D : Type 0} (sums : Checksums) (G : Disks D) (homes : Option ℕ) (first n : ℕ) (hex : Bool) (old new : D)
+-- the homes of a disk from the first one on were shown, as many as were asked for; where none was, the first was peeked
+-- at, and nothing written
+pub record ShowsOn {D : Type 0} (sums : Checksums) (G : Disks D) (homes : Option ℕ) (first n : ℕ) (hex : Bool)
+    (old new : D)
     (out_old out_new : Option (List ℕ)) (end : Result ℕ CommandFault) : Type 0 where
   pub cats : 0 < n → CatsOn sums G homes first n hex old new out_old out_new end
   pub looks : n ≡ 0 → LooksOn sums G homes first old new end

@@ -21,22 +21,27 @@ renumbered_line r =
 -- the line of a widening: another one where the journal was wide before
 abbrev pub widened_line : Widened → List ℕ
 widened_line w =
-    spelled ((if w.changed then codes "widened limit " else codes "already wide limit ") ∷ decimal w.limit ∷ codes "\n" ∷ [])
+    spelled ((if w.changed then codes "widened limit " else codes "already wide limit ") ∷ decimal w.limit ∷ codes "\n"
+    ∷ [])
 
 -- what a change answered, as the command's end: what it reports, or its fault
 abbrev pub change_end : {T : Type 0} → (T → Report) → Result T ChangeFault → Result Report CommandFault
 change_end report (Ok done) = Ok (report done)
 change_end report (Err fault) = Err (change_fault fault)
 
--- a clean journal on the disk was changed, as the clauses of the change say of its answer, and that answer is reported: what the
--- change does, which images a crash in its midst may leave, and which end in the same image where it is called again
+-- a clean journal on the disk was changed, as the clauses of the change say of its answer, and that answer is reported:
+-- what the change does, which images a crash in its midst may leave, and which end in the same image where it is called
+-- again
 pub record ChangesOn {D T : Type 0} (G : Disks D)
-    (Does : ℕ → ℕ → Image → Image → Result T ChangeFault → Type 0) (IsMidst EndsAlike : ℕ → ℕ → Image → Image → Type 0) (report : T → Report)
+    (Does : ℕ → ℕ → Image → Image → Result T ChangeFault → Type 0) (IsMidst EndsAlike : ℕ → ℕ → Image → Image → Type 0)
+    (report : T → Report)
     (old new : D) (end : Result Report CommandFault) : Type 0 where
   pub answer : Result T ChangeFault
   pub kept : KeptOn G (ChangeFaults answer) old new
   pub done : G.honest new → Does (G.size old) (G.count old) (G.newest old) (G.newest new) answer
-  pub crash : G.honest new → LeavesOnly G.moment G.left_since old new (λ c. G.may_leave old c ⊎ IsMidst (G.size old) (G.count old) (G.newest old) c)
+  pub crash : G.honest new
+      → LeavesOnly G.moment G.left_since old new
+      (λ c. G.may_leave old c ⊎ IsMidst (G.size old) (G.count old) (G.newest old) c)
   pub again : G.honest new → EndsAlike (G.size old) (G.count old) (G.newest old) (G.newest new)
   pub durable : G.honest new → OnOk answer (Only (G.newest new) (G.may_leave new))
   pub told : end ≡ change_end report answer

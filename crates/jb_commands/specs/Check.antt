@@ -12,7 +12,8 @@ use Rattle.jb_price.specs.declared.certificate.Cert.{Cert}
 use Rattle.jb_price.specs.declared.fault.CertFault.{CertFault}
 use Rattle.jb_price.specs.declared.fault.CertFault.TheVariants.{Syntax, Length, Memory}
 use Rattle.jb_price.specs.declared.verdict.Reason.{Reason}
-use Rattle.jb_price.specs.declared.verdict.Reason.TheVariants.{OpeningPrice, Undercut, NotACut, OverLimit, TotalDiffers, EndPrice}
+use Rattle.jb_price.specs.declared.verdict.Reason.TheVariants.{OpeningPrice, Undercut, NotACut, OverLimit, TotalDiffers}
+use Rattle.jb_price.specs.declared.verdict.Reason.TheVariants.{EndPrice}
 use Rattle.jb_price.specs.declared.verdict.Verdict.{Verdict}
 use Rattle.jb_price.specs.declared.verdict.Verdict.TheVariants.{Accepted, Refused}
 use Rattle.jb_commands.specs.QueueFaults.{queue_fault}
@@ -31,7 +32,8 @@ reason_text EndPrice = codes "EndPrice\n"
 -- the line of a verdict, with the exit status
 abbrev pub verdict_text : Verdict → Said
 verdict_text Accepted = record { status = 0; out = codes "accepted\n"; err = []; hint = None }
-verdict_text (Refused reason) = record { status = 1; out = codes "refused " ++ reason_text reason; err = []; hint = None }
+verdict_text (Refused reason) =
+    record { status = 1; out = codes "refused " ++ reason_text reason; err = []; hint = None }
 
 -- the line for a text that is no certificate of the queue, with the exit status and the hint
 abbrev pub no_cert : List ℕ → Hint → Said
@@ -52,7 +54,8 @@ pub record IsVerdictOn (q : Queue) (cert : Cert) (verdict : Verdict) : Type 0 wh
 
 -- what `jb check` says of what the second text claims of the queue, or of that text's first fault
 abbrev pub SaysOfClaim : Queue → Result Claim CertFault → Said → Type 0
-SaysOfClaim q (Ok claim) words = (cert : Cert) × (verdict : Verdict) × (claim_of cert ≡ claim) × IsVerdictOn q cert verdict
+SaysOfClaim q (Ok claim) words =
+    (cert : Cert) × (verdict : Verdict) × (claim_of cert ≡ claim) × IsVerdictOn q cert verdict
     × (words ≡ verdict_text verdict)
 SaysOfClaim q (Err fault) words = cert_fault fault ≡ Some words
 

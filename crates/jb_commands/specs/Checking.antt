@@ -1,4 +1,5 @@
--- The calls of a recovery, of a journal that has checksums only where these are allowed; what is not judged where it is looked for is judged here.
+-- The calls of a recovery, of a journal that has checksums only where these are allowed; what is not judged where it is
+-- looked for is judged here.
 use Rattle.std.specs.Prelude.{◌≡◌, ◌⊎◌, ℕ, ⊤, List, Option, Some, None, Result, Ok, Err, OnOk}
 use Rattle.std.specs.Option.{option_map}
 use Rattle.jb_disk.specs.Image.{Image, Only}
@@ -19,7 +20,8 @@ use Rattle.jb_recover.specs.Peeks.{IsPeeked, peek_refusal}
 use Rattle.jb_recover.specs.Recovers.{Recovers}
 use Rattle.jb_recover.specs.declared.checked_fault.CheckedFault.{CheckedFault}
 use Rattle.jb_recover.specs.declared.checked_fault.CheckedPeekFault.{CheckedPeekFault}
-use Rattle.jb_recover.specs.declared.checked_fault.CheckedPeekFault.TheVariants.{DeviceFault, Super, BadChecksum, BadRevoke, HomeOutOfRange}
+use Rattle.jb_recover.specs.declared.checked_fault.CheckedPeekFault.TheVariants.{DeviceFault, Super, BadChecksum}
+use Rattle.jb_recover.specs.declared.checked_fault.CheckedPeekFault.TheVariants.{BadRevoke, HomeOutOfRange}
 use Rattle.jb_recover.specs.declared.fault.RecoverFault.{RecoverFault}
 use Rattle.jb_recover.specs.declared.recovered.Foreseen.{Foreseen}
 use Rattle.jb_recover.specs.declared.recovered.Recovered.{Recovered}
@@ -31,56 +33,67 @@ as_checked (Err fault) = Err (checked_of fault)
 
 -- ---- a recovery
 
--- the disk was recovered, as the clauses of `recover` say of its answer. A crash in its midst, or what it leaves after a fault, recovers to the
--- image that the disk's content recovers to
-pub record RecoversPlain {D : Type 0} (G : Disks D) (old new : D) (answer : Result Recovered RecoverFault) : Type 0 where
+-- the disk was recovered, as the clauses of `recover` say of its answer. A crash in its midst, or what it leaves after
+-- a fault, recovers to the image that the disk's content recovers to
+pub record RecoversPlain {D : Type 0} (G : Disks D) (old new : D) (answer : Result Recovered RecoverFault)
+    : Type 0 where
   pub kept : KeptOn G (PassFaults answer) old new
   pub recovers : G.honest new → Recovers (G.size old) (G.count old) (G.newest old) (G.newest new) answer
-  pub crash : G.honest new → LeavesOnly G.moment G.left_since old new (λ c. G.may_leave old c ⊎ RecoversAs (G.size old) (G.count old) (G.newest old) c)
+  pub crash : G.honest new
+      → LeavesOnly G.moment G.left_since old new
+      (λ c. G.may_leave old c ⊎ RecoversAs (G.size old) (G.count old) (G.newest old) c)
   pub again : G.honest new → RecoversAs (G.size old) (G.count old) (G.newest old) (G.newest new)
   pub durable : G.honest new → OnOk answer (Only (G.newest new) (G.may_leave new))
 
 -- the same, as those of `recover_checked` say
-pub record RecoversWithSums {D : Type 0} (G : Disks D) (old new : D) (answer : Result Recovered CheckedFault) : Type 0 where
+pub record RecoversWithSums {D : Type 0} (G : Disks D) (old new : D) (answer : Result Recovered CheckedFault)
+    : Type 0 where
   pub kept : KeptOn G (CheckedPassFaults answer) old new
   pub recovers : G.honest new → CheckedRecovers (G.size old) (G.count old) (G.newest old) (G.newest new) answer
-  pub crash : G.honest new → LeavesOnly G.moment G.left_since old new (λ c. G.may_leave old c ⊎ CheckedRecoversAs (G.size old) (G.count old) (G.newest old) c)
+  pub crash : G.honest new
+      → LeavesOnly G.moment G.left_since old new
+      (λ c. G.may_leave old c ⊎ CheckedRecoversAs (G.size old) (G.count old) (G.newest old) c)
   pub again : G.honest new → CheckedRecoversAs (G.size old) (G.count old) (G.newest old) (G.newest new)
   pub durable : G.honest new → OnOk answer (Only (G.newest new) (G.may_leave new))
 
 -- the disk was recovered, where checksums are allowed or not
 abbrev pub RecoversBy : {D : Type 0} → Checksums → Disks D → D → D → Result Recovered CheckedFault → Type 0
-RecoversBy Refused G old new answer = (plain : Result Recovered RecoverFault) × RecoversPlain G old new plain × (answer ≡ as_checked plain)
+RecoversBy Refused G old new answer =
+    (plain : Result Recovered RecoverFault) × RecoversPlain G old new plain × (answer ≡ as_checked plain)
 RecoversBy Allowed G old new answer = RecoversWithSums G old new answer
 RecoversBy Unjudged G old new answer = RecoversWithSums G old new answer
 
 -- ---- what a recovery would do
 
--- it was foreseen what a recovery of the disk answers, with the clauses of `foresee`; the disk's content stays, and a crash leaves what it
--- could leave before, no less and no more (`unsynced` of `passed`)
+-- it was foreseen what a recovery of the disk answers, with the clauses of `foresee`; the disk's content stays, and a
+-- crash leaves what it could leave before, no less and no more (`unsynced` of `passed`)
 pub record Foretells {D : Type 0} (G : Disks D) (old new : D) (answer : Result Foreseen RecoverFault) : Type 0 where
   pub passed : Passed G answer old new
   pub foresees : G.honest new → Foresees (G.size old) (G.count old) (G.newest old) answer
 
 -- the same, with those of `foresee_checked`
-pub record ForetellsWithSums {D : Type 0} (G : Disks D) (old new : D) (answer : Result Foreseen CheckedFault) : Type 0 where
+pub record ForetellsWithSums {D : Type 0} (G : Disks D) (old new : D) (answer : Result Foreseen CheckedFault)
+    : Type 0 where
   pub passed : PassedBy G (λ r. CheckedPassFaults r) answer old new
   pub foresees : G.honest new → CheckedForesees (G.size old) (G.count old) (G.newest old) answer
 
 -- it was foreseen, where checksums are allowed or not
 abbrev pub ForetellsBy : {D : Type 0} → Checksums → Disks D → D → D → Result Foreseen CheckedFault → Type 0
-ForetellsBy Refused G old new answer = (plain : Result Foreseen RecoverFault) × Foretells G old new plain × (answer ≡ as_checked plain)
+ForetellsBy Refused G old new answer =
+    (plain : Result Foreseen RecoverFault) × Foretells G old new plain × (answer ≡ as_checked plain)
 ForetellsBy Allowed G old new answer = ForetellsWithSums G old new answer
 ForetellsBy Unjudged G old new answer = ForetellsWithSums G old new answer
 
 -- the same but for the data of copies, with the clauses of `foresee_unread`
-pub record ForetellsUnread {D : Type 0} (G : Disks D) (old new : D) (answer : Result Foreseen CheckedFault) : Type 0 where
+pub record ForetellsUnread {D : Type 0} (G : Disks D) (old new : D) (answer : Result Foreseen CheckedFault)
+    : Type 0 where
   pub passed : PassedBy G (λ r. CheckedPassFaults r) answer old new
   pub foresees : G.honest new → ForeseesUnread (G.size old) (G.count old) (G.newest old) answer
 
 -- it was foreseen but for the data of copies, where checksums are allowed or not
 abbrev pub ForetellsUnreadBy : {D : Type 0} → Checksums → Disks D → D → D → Result Foreseen CheckedFault → Type 0
-ForetellsUnreadBy Refused G old new answer = (plain : Result Foreseen RecoverFault) × Foretells G old new plain × (answer ≡ as_checked plain)
+ForetellsUnreadBy Refused G old new answer =
+    (plain : Result Foreseen RecoverFault) × Foretells G old new plain × (answer ≡ as_checked plain)
 ForetellsUnreadBy Allowed G old new answer = ForetellsUnread G old new answer
 ForetellsUnreadBy Unjudged G old new answer = ForetellsUnread G old new answer
 
@@ -102,11 +115,14 @@ IsPeekedBy Unjudged size count c home bytes = IsCheckedPeek size count c home by
 abbrev pub IsUnpeeked : Checksums → ℕ → ℕ → Image → ℕ → CheckedPeekFault → Type 0
 IsUnpeeked sums size count c home DeviceFault = ⊤
 IsUnpeeked sums size count c home (Super fault) = unpeeked_for sums size count c home ≡ Some (Super fault)
-IsUnpeeked sums size count c home (BadChecksum what at) = unpeeked_for sums size count c home ≡ Some (BadChecksum what at)
+IsUnpeeked sums size count c home (BadChecksum what at) =
+    unpeeked_for sums size count c home ≡ Some (BadChecksum what at)
 IsUnpeeked sums size count c home (BadRevoke at) = unpeeked_for sums size count c home ≡ Some (BadRevoke at)
-IsUnpeeked sums size count c home (HomeOutOfRange other) = unpeeked_for sums size count c home ≡ Some (HomeOutOfRange other)
+IsUnpeeked sums size count c home (HomeOutOfRange other) =
+    unpeeked_for sums size count c home ≡ Some (HomeOutOfRange other)
 
 -- the home was peeked at, and these are its bytes; or it is refused for this
 abbrev pub PeeksBy : Checksums → ℕ → ℕ → Image → ℕ → List ℕ → {T : Type 0} → Result T CheckedPeekFault → Type 0
-PeeksBy sums size count c home bytes (Ok done) = (unpeeked_for sums size count c home ≡ None) × IsPeekedBy sums size count c home bytes
+PeeksBy sums size count c home bytes (Ok done) =
+    (unpeeked_for sums size count c home ≡ None) × IsPeekedBy sums size count c home bytes
 PeeksBy sums size count c home bytes (Err fault) = IsUnpeeked sums size count c home fault

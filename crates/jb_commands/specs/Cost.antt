@@ -1,5 +1,6 @@
 -- What `jb cost` says of a queue text.
-use Rattle.std.specs.Prelude.{ℕ, ◌+◌, List, [], ◌++◌, Option, Some, None, Result, Ok, Err, codes, decimal, nat_lt, if◌then◌else◌}
+use Rattle.std.specs.Prelude.{ℕ, ◌+◌, List, [], ◌++◌, Option, Some, None, Result, Ok, Err, codes, decimal, nat_lt}
+use Rattle.std.specs.Prelude.{if◌then◌else◌}
 use Rattle.std.specs.Int.{div_ceil}
 use Rattle.std.specs.FinSet as set
 use Rattle.jb_block.specs.Capacity.{entries_in, tags_in}

@@ -1,5 +1,6 @@
 -- How `jb dump` ends over any reader, and what it reads.
-use Rattle.std.specs.Prelude.{◌≡◌, ℕ, List, Option, None, Some, Result, Ok, Err, codes, Bool, true, false, not, ◌&&◌, ◌||◌, if◌then◌else◌}
+use Rattle.std.specs.Prelude.{◌≡◌, ℕ, List, Option, None, Some, Result, Ok, Err, codes, Bool, true, false, not, ◌&&◌}
+use Rattle.std.specs.Prelude.{◌||◌, if◌then◌else◌}
 use Rattle.std.specs.Str.{bytes_eq}
 use Rattle.jb_dump.specs.Dumps.{Dumps}
 use Rattle.jb_dump.specs.declared.dump_filter.DumpFilter.{DumpFilter}
@@ -13,15 +14,18 @@ use Rattle.jb_commands.specs.declared.fault.CommandFault.TheVariants.{CannotRead
 
 -- the lines that the words ask for
 abbrev pub choice_of : DumpWords → DumpFilter
-choice_of w = record { home = w.home; last = w.last; superblock = w.superblock; summary = w.summary; checksums = w.checksums }
+choice_of w =
+    record { home = w.home; last = w.last; superblock = w.superblock; summary = w.summary; checksums = w.checksums }
 
 -- how a command ends by what a dump answers: a text that was written has status 0
 abbrev pub end_by : Result Unit DumpFault → Result ℕ CommandFault
 end_by (Ok done) = Ok 0
 end_by (Err fault) = Err (dump_fault fault)
 
--- the lines that a filter takes of a reader's journal were written to standard output, and the command ends by the answer
-abbrev pub DumpsOn : DumpFilter → Option (List ℕ) → Option (List ℕ) → Option (List ℕ) → Option (List ℕ) → Result ℕ CommandFault → Type 0
+-- the lines that a filter takes of a reader's journal were written to standard output, and the command ends by the
+-- answer
+abbrev pub DumpsOn : DumpFilter → Option (List ℕ) → Option (List ℕ) → Option (List ℕ) → Option (List ℕ)
+    → Result ℕ CommandFault → Type 0
 DumpsOn filter before after out_old out_new end =
     (dumped : Result Unit DumpFault) × (end ≡ end_by dumped) × Dumps filter before after out_old out_new dumped
 
@@ -45,8 +49,8 @@ is_placed words = words.ring || is_given words.journal words.extents
 abbrev pub is_searched : DumpWords → Bool
 is_searched words = words.ring && not (words.superblock && not words.summary)
 
--- whether standard input is read for a dump: for the list of extents where that is given so, and where no word says where the journal is,
--- as the journal after `-`
+-- whether standard input is read for a dump: for the list of extents where that is given so, and where no word says
+-- where the journal is, as the journal after `-`
 abbrev pub reads_dump : List ℕ → DumpWords → Bool
 reads_dump name words = if is_placed words then reads_list words.extents else bytes_eq name (codes "-")
 

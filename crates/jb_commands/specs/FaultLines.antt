@@ -1,8 +1,13 @@
 -- The parts of a fault's line: its words, its numbers, and the name of a file.
 use Rattle.std.specs.Prelude.{ℕ, List, [], ◌∷◌, Option, None, Some, codes, decimal}
-use Rattle.jb_commands.specs.Lines.{Names, image_named, journal_named}
+use Rattle.jb_commands.specs.Lines.{PairNames, image_named, journal_named}
 use Rattle.jb_commands.specs.declared.fault.CommandFault.{CommandFault}
-use Rattle.jb_commands.specs.declared.fault.CommandFault.TheVariants.{CannotRead, InUse, MountsUnknown, NoLinks, SameFile, CannotMake, TooLong, Super, ChecksumType, SuperChecksum, BadChecksum, JournalLength, FileSystem, Lost, BadRevoke, HomeOutOfRange, NoHome, NeedsRecovery, NumbersSpent}
+use Rattle.jb_commands.specs.declared.fault.CommandFault.TheVariants.{CannotRead, InUse, MountsUnknown, NoLinks}
+use Rattle.jb_commands.specs.declared.fault.CommandFault.TheVariants.{SameFile, CannotMake, TooLong, Super}
+use Rattle.jb_commands.specs.declared.fault.CommandFault.TheVariants.{ChecksumType, SuperChecksum, BadChecksum}
+use Rattle.jb_commands.specs.declared.fault.CommandFault.TheVariants.{JournalLength, FileSystem, Lost, BadRevoke}
+use Rattle.jb_commands.specs.declared.fault.CommandFault.TheVariants.{HomeOutOfRange, NoHome, NeedsRecovery}
+use Rattle.jb_commands.specs.declared.fault.CommandFault.TheVariants.{NumbersSpent}
 use Rattle.jb_commands.specs.declared.streams.fault_line.Numbers.{Numbers}
 use Rattle.jb_commands.specs.declared.streams.fault_line.Numbers.TheVariants as numbers
 
@@ -13,7 +18,7 @@ parts_of words (numbers.One number) = words ∷ decimal number ∷ []
 parts_of words (numbers.Two one two) = words ∷ decimal one ∷ codes " " ∷ decimal two ∷ []
 
 -- the name at the end of a fault's line: of the file that it is about, where that is known
-abbrev pub named : Option Names → CommandFault → Option (List ℕ)
+abbrev pub named : Option PairNames → CommandFault → Option (List ℕ)
 named names (CannotRead name code) = Some name.now
 named names (InUse name) = Some name.now
 named names (MountsUnknown name) = Some name.now

@@ -24,10 +24,16 @@ use Rattle.jb_super.specs.declared.checked.CheckedSuperFault.{CheckedSuperFault}
 use Rattle.jb_super.specs.declared.checked.CheckedSuperFault.TheVariants as checked
 use Rattle.jb_super.specs.declared.fault.SuperFault.{SuperFault}
 use Rattle.jb_super.specs.declared.fault.SuperFault.TheVariants as super
-use Rattle.jb_commands.specs.Lines.{Names, image_named, journal_named, line_naming}
+use Rattle.jb_commands.specs.Lines.{PairNames, image_named, journal_named, line_naming}
 use Rattle.jb_commands.specs.OwnLines.{own_fault_line}
 use Rattle.jb_commands.specs.declared.fault.CommandFault.{CommandFault}
-use Rattle.jb_commands.specs.declared.fault.CommandFault.TheVariants.{CannotRead, InUse, MountsUnknown, NoLinks, SameFile, CannotMake, BadOption, TooLong, ReadFault, Super, JournalLength, FileSystem, Extents, BadRevoke, HomeOutOfRange, NoHome, NeedsRecovery, NumbersSpent, BlockSize, Accounts, Geometry, DeviceFault, Memory, WriteFault, Own, ChecksumType, SuperChecksum, BadChecksum, Lost}
+use Rattle.jb_commands.specs.declared.fault.CommandFault.TheVariants.{CannotRead, InUse, MountsUnknown, NoLinks}
+use Rattle.jb_commands.specs.declared.fault.CommandFault.TheVariants.{SameFile, CannotMake, BadOption, TooLong}
+use Rattle.jb_commands.specs.declared.fault.CommandFault.TheVariants.{ReadFault, Super, JournalLength, FileSystem}
+use Rattle.jb_commands.specs.declared.fault.CommandFault.TheVariants.{Extents, BadRevoke, HomeOutOfRange, NoHome}
+use Rattle.jb_commands.specs.declared.fault.CommandFault.TheVariants.{NeedsRecovery, NumbersSpent, BlockSize, Accounts}
+use Rattle.jb_commands.specs.declared.fault.CommandFault.TheVariants.{Geometry, DeviceFault, Memory, WriteFault, Own}
+use Rattle.jb_commands.specs.declared.fault.CommandFault.TheVariants.{ChecksumType, SuperChecksum, BadChecksum, Lost}
 
 -- the exit status
 abbrev pub status_of : CommandFault → ℕ
@@ -68,17 +74,19 @@ sum_words summed.Revoke = codes "jb: BadChecksum revoke "
 sum_words summed.Commit = codes "jb: BadChecksum commit "
 sum_words summed.Data = codes "jb: BadChecksum data "
 
--- the line of a superblock that is refused, after the name of a file: the fault's name and its numbers; of a feature word, 1, 2 or 3,
--- those of its bits that are not taken
+-- the line of a superblock that is refused, after the name of a file: the fault's name and its numbers; of a feature
+-- word, 1, 2 or 3, those of its bits that are not taken
 abbrev pub super_line : Option (List ℕ) → SuperFault → List ℕ
 super_line name super.ShortBlock = line_naming (codes "jb: Super ShortBlock" ∷ []) name
 super_line name super.NoMagic = line_naming (codes "jb: Super NoMagic" ∷ []) name
 super_line name (super.NotVersion2 kind) = line_naming (codes "jb: Super NotVersion2 " ∷ decimal kind ∷ []) name
 super_line name (super.BlockSize size) = line_naming (codes "jb: Super BlockSize " ∷ decimal size ∷ []) name
 super_line name super.Geometry = line_naming (codes "jb: Super Geometry" ∷ []) name
-super_line name (super.Feature word bits) = line_naming (codes "jb: Super Feature " ∷ decimal word ∷ codes " " ∷ decimal bits ∷ []) name
+super_line name (super.Feature word bits) =
+    line_naming (codes "jb: Super Feature " ∷ decimal word ∷ codes " " ∷ decimal bits ∷ []) name
 
--- the line of a journal that is not recovered into a file system: the fault's name, and the bytes of the file system's blocks
+-- the line of a journal that is not recovered into a file system: the fault's name, and the bytes of the file system's
+-- blocks
 abbrev pub system_line : Option (List ℕ) → FileSystemFault → List ℕ
 system_line name (system.BlockSize size) = line_naming (codes "jb: FileSystem BlockSize " ∷ decimal size ∷ []) name
 system_line name system.Uuid = line_naming (codes "jb: FileSystem Uuid" ∷ []) name
@@ -93,15 +101,17 @@ extents_line (extents.PastEnd block) = line_naming (codes "jb: Extents PastEnd "
 extents_line (extents.Short blocks) = line_naming (codes "jb: Extents Short " ∷ decimal blocks ∷ []) None
 extents_line (extents.Long blocks) = line_naming (codes "jb: Extents Long " ∷ decimal blocks ∷ []) None
 extents_line extents.NoJournal = line_naming (codes "jb: Extents NoJournal" ∷ []) None
-extents_line (extents.BlockSizes one other) = line_naming (codes "jb: Extents BlockSizes " ∷ decimal one ∷ codes " " ∷ decimal other ∷ []) None
+extents_line (extents.BlockSizes one other) =
+    line_naming (codes "jb: Extents BlockSizes " ∷ decimal one ∷ codes " " ∷ decimal other ∷ []) None
 extents_line (extents.Front block) = line_naming (codes "jb: Extents Front " ∷ decimal block ∷ []) None
 extents_line (extents.Home home) = line_naming (codes "jb: Extents Home " ∷ decimal home ∷ []) None
 extents_line extents.Nothing = line_naming (codes "jb: Extents Nothing" ∷ []) None
 extents_line (extents.Other place) = line_naming (codes "jb: Extents Other " ∷ decimal place ∷ []) None
 extents_line (extents.Broken place) = line_naming (codes "jb: Extents Broken " ∷ decimal place ∷ []) None
 
--- the line on standard error. Of a command over two files it ends with the name of the one that it is about, where that is known
-abbrev pub line_of : Option Names → CommandFault → List ℕ
+-- the line on standard error. Of a command over two files it ends with the name of the one that it is about, where that
+-- is known
+abbrev pub line_of : Option PairNames → CommandFault → List ℕ
 line_of names (CannotRead name code) = line_naming (codes "jb: cannot read" ∷ []) (Some name.now)
 line_of names (InUse name) = line_naming (codes "jb: in use" ∷ []) (Some name.now)
 line_of names (MountsUnknown name) = line_naming (codes "jb: mounts unknown" ∷ []) (Some name.now)
@@ -117,7 +127,8 @@ line_of names (JournalLength blocks maxlen) =
 line_of names (FileSystem fault) = system_line (image_named names) fault
 line_of names (Extents fault) = extents_line fault
 line_of names (Own fault) = own_fault_line fault
-line_of names (ChecksumType kind) = line_naming (codes "jb: Super ChecksumType " ∷ decimal kind ∷ []) (journal_named names)
+line_of names (ChecksumType kind) =
+    line_naming (codes "jb: Super ChecksumType " ∷ decimal kind ∷ []) (journal_named names)
 line_of names SuperChecksum = line_naming (codes "jb: Super Checksum" ∷ []) (journal_named names)
 line_of names (BadChecksum what place) = line_naming (sum_words what ∷ decimal place ∷ []) (journal_named names)
 line_of names (Lost place) = line_naming (codes "jb: Lost " ∷ decimal place ∷ []) (journal_named names)
@@ -141,7 +152,8 @@ super_hint super.NoMagic = hint.SuperNoMagic
 super_hint (super.NotVersion2 kind) = hint.SuperNotVersion2
 super_hint (super.BlockSize size) = hint.SuperBlockSize
 super_hint super.Geometry = hint.SuperGeometry
-super_hint (super.Feature word bits) = if word == 2 && (bits == 8 || bits == 16) then hint.SuperSummed else hint.SuperFeature
+super_hint (super.Feature word bits) =
+    if word == 2 && (bits == 8 || bits == 16) then hint.SuperSummed else hint.SuperFeature
 
 -- the same of a journal that is not recovered into a file system
 abbrev pub system_hint : FileSystemFault → Hint

@@ -14,17 +14,20 @@ use Rattle.jb_image.specs.declared.pair.PairDisk.{PairDisk}
 use Rattle.jb_super.specs.Faults.{super_in}
 use Rattle.jb_super.specs.Superblock.{Superblock}
 use Rattle.jb_super.specs.declared.fault.SuperFault.TheVariants.{Geometry as NoGeometry}
-use Rattle.jb_args.specs.PlainCommand.{Options}
+use Rattle.jb_args.specs.PlainCommand.{GivenOptions}
 use Rattle.jb_commands.specs.Format.{new_limit_of}
 use Rattle.jb_commands.specs.Options.{AreGood, IsAskedBy, IsFirstBad, IsJournalLength}
 use Rattle.jb_commands.specs.declared.fault.CommandFault.{CommandFault}
-use Rattle.jb_commands.specs.declared.fault.CommandFault.TheVariants.{BadOption, CannotMake, CannotRead, DeviceFault, Geometry as BadGeometry, InUse, JournalLength, Memory, MountsUnknown, NoLinks, SameFile, Super}
+use Rattle.jb_commands.specs.declared.fault.CommandFault.TheVariants.{BadOption, CannotMake, CannotRead, DeviceFault}
+use Rattle.jb_commands.specs.declared.fault.CommandFault.TheVariants.{Geometry as BadGeometry, InUse, JournalLength}
+use Rattle.jb_commands.specs.declared.fault.CommandFault.TheVariants.{Memory, MountsUnknown, NoLinks, SameFile, Super}
 use Rattle.jb_commands.specs.declared.report.Report.{Report}
 use Rattle.jb_commands.specs.declared.report.Report.TheVariants.{Formatted}
 
 -- ---- images that are opened
 
--- the file of this name was not read, or another program has locked it, or it is not known whether it is mounted, or it is that of the journal too, or its first bytes are refused as a superblock
+-- the file of this name was not read, or another program has locked it, or it is not known whether it is mounted, or it
+-- is that of the journal too, or its first bytes are refused as a superblock
 abbrev pub IsUnread : List ℕ → CommandFault → Type 0
 IsUnread name (CannotRead told code) = told.now ≡ name
 IsUnread name (InUse told) = told.now ≡ name
@@ -53,7 +56,8 @@ IsShut name None fault = IsUnread name fault
 IsShut name (Some journal) fault = IsUnread name fault ⊎ (IsUnread journal fault ⊎ (IsShort fault ⊎ IsLong fault))
 
 module _ {S T : Type 0} {start : Starts S} {other : Starts T} where
-  -- a journal of exactly its superblock's blocks, and a file of blocks of the same size; they were asked their lengths and nothing else
+  -- a journal of exactly its superblock's blocks, and a file of blocks of the same size; they were asked their lengths
+  -- and nothing else
   pub record AreTwoFiles (pair : PairDisk (FileDisk T other) (FileDisk S start)) (sb : Superblock) : Type 0 where
     pub count : count_of (front_disk pair) ≡ sb.maxlen
     pub size : size_of_blocks (back_disk pair) ≡ size_of_blocks (front_disk pair)
@@ -70,11 +74,12 @@ module _ {S T : Type 0} {start : Starts S} {other : Starts T} where
   IsHeldBy (Some journal) (Within disk) sb = ⊥
   IsHeldBy (Some journal) (Two pair) sb = AreTwoFiles pair sb
 
-  -- some first bytes are a superblock, which says the image's block size; this many home blocks are after the journal that it says, and
-  -- can be named in it
+  -- some first bytes are a superblock, which says the image's block size; this many home blocks are after the journal
+  -- that it says, and can be named in it
   abbrev pub IsImageOpened : Option (List ℕ) → ImageDisk (FileDisk S start) (FileDisk T other) → ℕ → Type 0
   IsImageOpened journal disk homes =
-      (front : List ℕ) × (sb : Superblock) × (super_in front ≡ Ok sb) × (as_files.size disk ≡ sb.block_size) × (homes ≡ homes_in sb (as_files.count disk)) × IsHeldBy journal disk sb
+      (front : List ℕ) × (sb : Superblock) × (super_in front ≡ Ok sb) × (as_files.size disk ≡ sb.block_size)
+      × (homes ≡ homes_in sb (as_files.count disk)) × IsHeldBy journal disk sb
 
 -- ---- images that are made
 
@@ -91,26 +96,30 @@ IsNotMade name DeviceFault = ⊤
 IsNotMade name fault = IsUnnamed name fault
 
 -- the file of this name was not made: an option is bad; or none is, and a journal may not have this many blocks
-abbrev pub IsBadFormat : Options → CommandFault → Type 0
+abbrev pub IsBadFormat : GivenOptions → CommandFault → Type 0
 IsBadFormat o (BadOption option) = IsFirstBad o option
 IsBadFormat o BadGeometry = AreGood o × (IsJournalLength o.journal → ⊥)
 IsBadFormat o _ = ⊥
 
 module _ {S T : Type 0} {start : Starts S} {other : Starts T} where
-  -- the new image is one file, in which a journal was made since it was opened, and its limit is the end. If the file is honest, the
-  -- journal is in it
-  abbrev pub IsMade : ImageGeometry → ImageDisk (FileDisk S start) (FileDisk T other) → Result Report CommandFault → Type 0
+  -- the new image is one file, in which a journal was made since it was opened, and its limit is the end. If the file
+  -- is honest, the journal is in it
+  abbrev pub IsMade : ImageGeometry → ImageDisk (FileDisk S start) (FileDisk T other) → Result Report CommandFault
+      → Type 0
   IsMade g (One new) end = WasMade g new × (end ≡ Ok (Formatted (new_limit_of g)))
   IsMade g (Two pair) end = ⊥
   IsMade g (Within disk) end = ⊥
 
   -- the image of this name was made, or it was not
-  abbrev pub EndsOfMaking : List ℕ → ImageGeometry → Option (ImageDisk (FileDisk S start) (FileDisk T other)) → Result Report CommandFault → Type 0
+  abbrev pub EndsOfMaking : List ℕ → ImageGeometry → Option (ImageDisk (FileDisk S start) (FileDisk T other))
+      → Result Report CommandFault → Type 0
   EndsOfMaking name g None end = (fault : CommandFault) × (end ≡ Err fault) × IsNotMade name fault
   EndsOfMaking name g (Some new) end = IsMade g new end
 
-  -- an option or the length is bad, and no file was looked at; or they are good, and the image that they ask for was made, or not
-  abbrev pub EndsOfFormat : List ℕ → Options → Option (ImageDisk (FileDisk S start) (FileDisk T other)) → Result Report CommandFault → Type 0
+  -- an option or the length is bad, and no file was looked at; or they are good, and the image that they ask for was
+  -- made, or not
+  abbrev pub EndsOfFormat : List ℕ → GivenOptions → Option (ImageDisk (FileDisk S start) (FileDisk T other))
+      → Result Report CommandFault → Type 0
   EndsOfFormat name o image end =
       ((fault : CommandFault) × (end ≡ Err fault) × IsBadFormat o fault × (image ≡ None))
       ⊎ (AreGood o × IsJournalLength o.journal × ((g : ImageGeometry) × IsAskedBy o g × EndsOfMaking name g image end))

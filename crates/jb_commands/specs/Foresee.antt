@@ -1,5 +1,6 @@
 -- How `jb recover --dry-run` ends on a disk.
-use Rattle.std.specs.Prelude.{ℕ, Bool, if◌then◌else◌, List, [], ◌∷◌, ◌++◌, map, Option, Some, None, Result, Ok, Err, codes, decimal}
+use Rattle.std.specs.Prelude.{ℕ, Bool, if◌then◌else◌, List, [], ◌∷◌, ◌++◌, map, Option, Some, None, Result, Ok, Err}
+use Rattle.std.specs.Prelude.{codes, decimal}
 use Rattle.jb_ext.specs.declared.choosing.MapSource.{MapSource}
 use Rattle.jb_image.specs.declared.extents_fault.ExtentsFault.TheVariants.{Home}
 use Rattle.jb_text.specs.TextParts.{spelled}
@@ -26,14 +27,16 @@ homes_lines homes = spelled (map home_line homes)
 abbrev pub foreseen_text : Bool → Option MapSource → Foreseen → List ℕ
 foreseen_text list found told = recovered_line found told.counts ++ (if list then homes_lines told.homes.items else [])
 
--- what was foreseen of an image, by the first home block that would be written and is the journal's own, if there is one
+-- what was foreseen of an image, by the first home block that would be written and is the journal's own, if there is
+-- one
 abbrev pub apart_end : Option ℕ → Option MapSource → Bool → Foreseen → Result Report CommandFault
 apart_end None found list told = Ok (ReportsForeseen told list found)
 apart_end (Some home) found list told = Err (InExtents (Home home))
 
--- what was foreseen of an image, as the command's end: its text, with what said where the journal is; or its fault with the number of home blocks; or that a home block
--- that would be written is one of the journal's own
-abbrev pub foreseen_end : {D E : Type 0} → ImageDisk D E → ℕ → Option MapSource → Bool → Result Foreseen CheckedFault → Result Report CommandFault
+-- what was foreseen of an image, as the command's end: its text, with what said where the journal is; or its fault with
+-- the number of home blocks; or that a home block that would be written is one of the journal's own
+abbrev pub foreseen_end : {D E : Type 0} → ImageDisk D E → ℕ → Option MapSource → Bool → Result Foreseen CheckedFault
+    → Result Report CommandFault
 foreseen_end disk homes found list (Ok told) = apart_end (own_home disk told.homes.items) found list told
 foreseen_end disk homes found list (Err fault) = Err (recover_fault (Some homes) fault)
 

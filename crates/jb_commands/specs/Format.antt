@@ -14,4 +14,5 @@ formatted_line limit = spelled (codes "formatted limit " ∷ decimal limit ∷ c
 
 -- the most log blocks of a transaction of such a journal
 abbrev pub new_limit_of : ImageGeometry → ℕ
-new_limit_of g = limit_of (of_width (is_wide g.width) (new_super (bytes_of g.block_size) g.journal g.max_transaction g.uuid))
+new_limit_of g =
+    limit_of (of_width (is_wide g.width) (new_super (bytes_of g.block_size) g.journal g.max_transaction g.uuid))

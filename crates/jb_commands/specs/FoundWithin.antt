@@ -12,7 +12,8 @@ use Rattle.jb_ext.specs.declared.system.FileSystem.{FileSystem}
 use Rattle.jb_super.specs.Faults.{super_in}
 use Rattle.jb_super.specs.Superblock.{Superblock}
 use Rattle.jb_super.specs.declared.fault.SuperFault.{SuperFault}
-use Rattle.jb_super.specs.declared.fault.SuperFault.TheVariants.{BlockSize as BadSize, Feature, Geometry, NoMagic, NotVersion2, ShortBlock}
+use Rattle.jb_super.specs.declared.fault.SuperFault.TheVariants.{BlockSize as BadSize, Feature, Geometry, NoMagic}
+use Rattle.jb_super.specs.declared.fault.SuperFault.TheVariants.{NotVersion2, ShortBlock}
 use Rattle.jb_commands.specs.Files.{SaysSuper}
 use Rattle.jb_commands.specs.declared.files.shut.FileFault.{FileFault}
 use Rattle.jb_commands.specs.declared.files.shut.FileFault.TheVariants.{Super}
@@ -58,7 +59,8 @@ abbrev pub of_sizes : Superblock → Superblock → WithinFault
 of_sizes one other = Extents (BlockSizes one.block_size other.block_size)
 
 -- after the sizes before, of which one superblock was found, or none, or that is why there is none: one more size
-abbrev pub with_try : Result (Option Superblock) WithinFault → Result (Option Superblock) SuperFault → Result (Option Superblock) WithinFault
+abbrev pub with_try : Result (Option Superblock) WithinFault → Result (Option Superblock) SuperFault
+    → Result (Option Superblock) WithinFault
 with_try (Ok None) (Ok found) = Ok found
 with_try (Ok None) (Err fault) = Err (File (Super fault))
 with_try (Ok (Some one)) (Ok (Some other)) = Err (of_sizes one other)
@@ -101,7 +103,8 @@ IsReadOf read = (front : List ℕ) × (read ≡ system_in front)
 abbrev pub Chooses : Option FileSystem → Result Superblock WithinFault → Type 0
 Chooses (Some read) answer =
     (size : BlockSize) × (bytes_of size ≡ read.block_size)
-    × ((tried : Result (Option Superblock) SuperFault) × IsTry size tried × (answer ≡ super_chosen (with_try (Ok None) tried)))
+    × ((tried : Result (Option Superblock) SuperFault) × IsTry size tried
+    × (answer ≡ super_chosen (with_try (Ok None) tried)))
 Chooses None answer =
     (one two four : Result (Option Superblock) SuperFault) × IsTry OneKib one × IsTry TwoKib two × IsTry FourKib four
     × (answer ≡ super_chosen (with_try (with_try (with_try (Ok None) one) two) four))
@@ -115,12 +118,15 @@ pub record IsFoundWithin (sb : Superblock) : Type 0 where
   pub says : SaysSuper sb
   pub chosen : IsTried (Ok sb)
 
--- some bytes are the superblock of a file system, whose blocks have a size that a journal's cannot have, and this many bytes
+-- some bytes are the superblock of a file system, whose blocks have a size that a journal's cannot have, and this many
+-- bytes
 abbrev pub IsOtherSize : FileSystemFault → Type 0
-IsOtherSize (system.BlockSize size) = (read : FileSystem) × IsReadOf (Some read) × (size ≡ read.block_size) × (IsBlockSize size → ⊥)
+IsOtherSize (system.BlockSize size) =
+    (read : FileSystem) × IsReadOf (Some read) × (size ≡ read.block_size) × (IsBlockSize size → ⊥)
 IsOtherSize _ = ⊥
 
--- no superblock is taken: a file was not read, or one is refused; the file system's blocks have another size; there is none, or two
+-- no superblock is taken: a file was not read, or one is refused; the file system's blocks have another size; there is
+-- none, or two
 abbrev pub IsNotFound : WithinFault → Type 0
 IsNotFound NoList = ⊥
 IsNotFound (File (Super fault)) = IsRefusedAs fault × IsTried (Err (File (Super fault)))

@@ -13,8 +13,10 @@ cert_limit = 150994944
 
 -- what `jb plan` writes for a queue text within its limit has at most nine times the bytes of the text
 abbrev pub PlansAreWithin : Type 0
-PlansAreWithin = (text : List ℕ) (words : Said) → length text ≤ text_limit → PlanSays text words → length words.out ≤ 9 * length text
+PlansAreWithin =
+    (text : List ℕ) (words : Said) → length text ≤ text_limit → PlanSays text words → length words.out ≤ 9 * length text
 
 -- what `plan` prints for a queue text within its limit is within the limit of a certificate
 abbrev pub PlansAreReadable : Type 0
-PlansAreReadable = (text : List ℕ) (words : Said) → length text ≤ text_limit → PlanSays text words → length words.out ≤ cert_limit
+PlansAreReadable =
+    (text : List ℕ) (words : Said) → length text ≤ text_limit → PlanSays text words → length words.out ≤ cert_limit

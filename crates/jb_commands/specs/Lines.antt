@@ -1,5 +1,6 @@
 -- A line on standard error, and the name of a file at its end.
-use Rattle.std.specs.Prelude.{ℕ, zero, suc, ◌+◌, ◌-◌, ◌==◌, ◌&&◌, ◌||◌, not, Bool, if◌then◌else◌, List, [], ◌∷◌, ◌++◌, length, get_or, nat_lt, Option, None, Some, option_map, codes}
+use Rattle.std.specs.Prelude.{ℕ, zero, suc, ◌+◌, ◌-◌, ◌==◌, ◌&&◌, ◌||◌, not, Bool, if◌then◌else◌, List, [], ◌∷◌, ◌++◌}
+use Rattle.std.specs.Prelude.{length, get_or, nat_lt, Option, None, Some, option_map, codes}
 use Rattle.hex.specs.Hex.{encode_lower}
 use Rattle.jb_text.specs.TextParts.{spelled}
 use Rattle.jb_args.specs.PlainCommand.{Asked}
@@ -45,28 +46,28 @@ line_naming words name = spelled words ++ (after_words name ++ codes "\n")
 -- ---- the names of two files
 
 -- the names of the two files of a command whose journal is in a file of its own
-pub record Names : Type 0 where
+pub record PairNames : Type 0 where
   pub image : List ℕ
   pub journal : List ℕ
 
 -- the image's name and the journal's, where that is in a file of its own
-abbrev pub names_with : List ℕ → Option (List ℕ) → Option Names
+abbrev pub names_with : List ℕ → Option (List ℕ) → Option PairNames
 names_with image journal = option_map (λ name. record { image = image; journal = name }) journal
 
 -- the names as the program has them
-abbrev pub names_said : Option TwoFiles → Option Names
+abbrev pub names_said : Option TwoFiles → Option PairNames
 names_said files = option_map (λ (f : TwoFiles). record { image = f.image.now; journal = f.journal.now }) files
 
 -- the name of the image, where the command has two files
-abbrev pub image_named : Option Names → Option (List ℕ)
-image_named names = option_map (λ (n : Names). n.image) names
+abbrev pub image_named : Option PairNames → Option (List ℕ)
+image_named names = option_map (λ (n : PairNames). n.image) names
 
 -- the name of the journal's file, where the command has two files
-abbrev pub journal_named : Option Names → Option (List ℕ)
-journal_named names = option_map (λ (n : Names). n.journal) names
+abbrev pub journal_named : Option PairNames → Option (List ℕ)
+journal_named names = option_map (λ (n : PairNames). n.journal) names
 
 -- the two files of the command that the words ask for
-abbrev pub names_of : Asked → Option Names
+abbrev pub names_of : Asked → Option PairNames
 names_of (AsksCat image words) = names_with image words.journal
 names_of (AsksRecover image words) = names_with image words.journal
 names_of (AsksDump file words) = names_with file words.journal

@@ -1,4 +1,5 @@
--- Why an image is not opened, before it is said of which file; and what a file is that has a journal's superblock at its front.
+-- Why an image is not opened, before it is said of which file; and what a file is that has a journal's superblock at
+-- its front.
 use Rattle.std.specs.Prelude.{◌≡◌, ◌<◌, ℕ, ⊤, Bool, if◌then◌else◌, List, None, Some, Err}
 use Rattle.jb_block.specs.Size.{bytes_of}
 use Rattle.jb_disk.specs.File.{IsMeasured, count_of, size_of_blocks}
@@ -29,11 +30,13 @@ use Rattle.jb_commands.specs.declared.files.shut.OwnShut.TheVariants as own
 use Rattle.jb_commands.specs.declared.files.shut.WithinFault.{WithinFault}
 use Rattle.jb_commands.specs.declared.files.shut.WithinFault.TheVariants.{Extents, File, List as NoList, System}
 
--- how an image is opened that is to be recovered: to be read where nothing is written, else to be changed, which may be forced
+-- how an image is opened that is to be recovered: to be read where nothing is written, else to be changed, which may be
+-- forced
 abbrev pub opening_for : Bool → Bool → Opening
 opening_for dry_run force = if dry_run then Read else if force then Forced else Change
 
--- a file was not read, or another program has locked it, or it is not known whether it is mounted, or some bytes of it are refused as a superblock
+-- a file was not read, or another program has locked it, or it is not known whether it is mounted, or some bytes of it
+-- are refused as a superblock
 abbrev pub IsFileShut : FileFault → Type 0
 IsFileShut (Super fault) = (front : List ℕ) × (super_in front ≡ Err fault)
 IsFileShut _ = ⊤
@@ -43,7 +46,8 @@ abbrev pub IsOwnShut : {S : Type 0} → Checksums → Starts S → OwnShut → T
 IsOwnShut sums start (own.File fault) = IsFileShut fault
 IsOwnShut sums start (own.Find fault) = IsOwnUnfound sums start fault
 
--- the two files are one, or one of them was not opened, or the journal's has fewer blocks than its superblock says, or more
+-- the two files are one, or one of them was not opened, or the journal's has fewer blocks than its superblock says, or
+-- more
 abbrev pub IsPairShut : PairFault → Type 0
 IsPairShut SameFile = ⊤
 IsPairShut (Journal fault) = IsFileShut fault
@@ -90,11 +94,13 @@ module _ {S : Type 0} {start : Starts S} where
   -- a file, asked its length and nothing else, with a journal with this superblock in these extents
   abbrev pub JoinsFile : List Extent → Superblock → ExtentsDisk (FileDisk S start) → Type 0
   JoinsFile es sb disk =
-      (list_of (extents_of disk) ≡ es) × (journal_blocks disk ≡ sb.maxlen) × IsHeldWithin es sb (count_of (whole_disk disk)) × IsMeasured (whole_disk disk)
+      (list_of (extents_of disk) ≡ es) × (journal_blocks disk ≡ sb.maxlen)
+      × IsHeldWithin es sb (count_of (whole_disk disk)) × IsMeasured (whole_disk disk)
 
 module _ {S T : Type 0} {start : Starts S} {other : Starts T} where
-  -- some bytes are a superblock, which says the image's block size; this many home blocks can be named in it, and its journal is in
-  -- these extents
+  -- some bytes are a superblock, which says the image's block size; this many home blocks can be named in it, and its
+  -- journal is in these extents
   abbrev pub IsOpenedOver : List Extent → ImageDisk (FileDisk S start) (FileDisk T other) → ℕ → Type 0
   IsOpenedOver es disk homes =
-      (sb : Superblock) × IsFoundWithin sb × (as_files.size disk ≡ sb.block_size) × (homes ≡ homes_in sb (as_files.count disk)) × IsJournalWithin es sb disk
+      (sb : Superblock) × IsFoundWithin sb × (as_files.size disk ≡ sb.block_size)
+      × (homes ≡ homes_in sb (as_files.count disk)) × IsJournalWithin es sb disk

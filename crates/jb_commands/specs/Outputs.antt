@@ -13,11 +13,12 @@ pub record Outputs : Type 0 where
   pub out : Option (List ℕ)
   pub err : Option (List ℕ)
 
--- all of it is on standard output, and on standard error as much as that took, and the end has its status and its hint; or standard output, for which there was
--- something, failed part of the way
+-- all of it is on standard output, and on standard error as much as that took, and the end has its status and its hint;
+-- or standard output, for which there was something, failed part of the way
 abbrev pub Tells : Said → Outputs → Outputs → Result ProgramEnd CommandFault → Type 0
 Tells words old new (Ok ended) =
-    (ended ≡ record { status = words.status; hint = words.hint }) × Appends old.out new.out words.out × PutsPart old.err new.err words.err
+    (ended ≡ record { status = words.status; hint = words.hint }) × Appends old.out new.out words.out
+    × PutsPart old.err new.err words.err
 Tells words old new (Err WriteFault) = (words.out ≢ []) × PutsPart old.out new.out words.out × (new.err ≡ old.err)
 Tells words old new (Err _) = ⊥
 

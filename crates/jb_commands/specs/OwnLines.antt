@@ -33,16 +33,21 @@ inode_words inode.Inline = codes "jb: Own Inode Inline"
 inode_words inode.Small = codes "jb: Own Inode Small"
 inode_words inode.Large = codes "jb: Own Inode Large"
 
--- the line of a node of the map, for this place of the journal: the fault's name, the place, and the number that the node has
+-- the line of a node of the map, for this place of the journal: the fault's name, the place, and the number that the
+-- node has
 abbrev pub node_line : ℕ → NodeFault → List ℕ
-node_line place (node.Magic number) = line_naming (codes "jb: Own Map Node Magic " ∷ decimal place ∷ codes " " ∷ decimal number ∷ []) None
-node_line place (node.Depth number) = line_naming (codes "jb: Own Map Node Depth " ∷ decimal place ∷ codes " " ∷ decimal number ∷ []) None
-node_line place (node.Room number) = line_naming (codes "jb: Own Map Node Room " ∷ decimal place ∷ codes " " ∷ decimal number ∷ []) None
-node_line place (node.Count number) = line_naming (codes "jb: Own Map Node Count " ∷ decimal place ∷ codes " " ∷ decimal number ∷ []) None
+node_line place (node.Magic number) =
+    line_naming (codes "jb: Own Map Node Magic " ∷ decimal place ∷ codes " " ∷ decimal number ∷ []) None
+node_line place (node.Depth number) =
+    line_naming (codes "jb: Own Map Node Depth " ∷ decimal place ∷ codes " " ∷ decimal number ∷ []) None
+node_line place (node.Room number) =
+    line_naming (codes "jb: Own Map Node Room " ∷ decimal place ∷ codes " " ∷ decimal number ∷ []) None
+node_line place (node.Count number) =
+    line_naming (codes "jb: Own Map Node Count " ∷ decimal place ∷ codes " " ∷ decimal number ∷ []) None
 node_line place node.Empty = line_naming (codes "jb: Own Map Node Empty " ∷ decimal place ∷ []) None
 
--- the line of a map of the journal's blocks that is damaged: the fault's name, and a place of the journal; of `Twice` a block of the
--- image
+-- the line of a map of the journal's blocks that is damaged: the fault's name, and a place of the journal; of `Twice` a
+-- block of the image
 abbrev pub map_line : MapFault → List ℕ
 map_line (map.Node place fault) = node_line place fault
 map_line (map.Unwritten place) = line_naming (codes "jb: Own Map Unwritten " ∷ decimal place ∷ []) None

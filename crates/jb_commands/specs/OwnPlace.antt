@@ -1,5 +1,6 @@
 -- An image by its first bytes: a journal with home blocks, or a file system, whose own journal is looked for.
-use Rattle.std.specs.Prelude.{◌≡◌, ◌⊎◌, ◌<◌, ◌-◌, ◌^◌, ℕ, ◌==◌, Bool, true, false, if◌then◌else◌, ⊤, List, Option, Some, None, Result, Ok, Err, length, drop, nat_lt}
+use Rattle.std.specs.Prelude.{◌≡◌, ◌⊎◌, ◌<◌, ◌-◌, ◌^◌, ℕ, ◌==◌, Bool, true, false, if◌then◌else◌, ⊤, List, Option, Some}
+use Rattle.std.specs.Prelude.{None, Result, Ok, Err, length, drop, nat_lt}
 use Rattle.jb_block.specs.declared.size.BlockSize.{BlockSize}
 use Rattle.jb_block.specs.declared.size.BlockSize.TheVariants.{OneKib, TwoKib, FourKib}
 use Rattle.jb_disk.specs.File.{IsMeasured, count_of}
@@ -26,7 +27,8 @@ use Rattle.jb_map.specs.declared.extent.Extent.{Extent}
 use Rattle.jb_super.specs.Faults.{super_in}
 use Rattle.jb_super.specs.Superblock.{Superblock}
 use Rattle.jb_super.specs.declared.fault.SuperFault.{SuperFault}
-use Rattle.jb_super.specs.declared.fault.SuperFault.TheVariants.{ShortBlock, NoMagic, NotVersion2, BlockSize as OtherSize, Geometry, Feature}
+use Rattle.jb_super.specs.declared.fault.SuperFault.TheVariants.{ShortBlock, NoMagic, NotVersion2}
+use Rattle.jb_super.specs.declared.fault.SuperFault.TheVariants.{BlockSize as OtherSize, Geometry, Feature}
 use Rattle.jb_super.specs.Checked.{read_as}
 use Rattle.jb_super.specs.declared.checked.Checksums.{Checksums}
 use Rattle.jb_commands.specs.Files.{IsImageOpened, IsUnread, SaysSuper}
@@ -71,15 +73,16 @@ abbrev pub front_by : Option BlockSize → Result Superblock SuperFault → Resu
 front_by size (Ok sb) = Ok (Journal sb)
 front_by size (Err fault) = refused_front size fault
 
--- what an image is by its first bytes: a journal with home blocks, which has checksums only where these are allowed; or a file system, where no
--- journal begins there
+-- what an image is by its first bytes: a journal with home blocks, which has checksums only where these are allowed; or
+-- a file system, where no journal begins there
 abbrev pub front_of_image : Checksums → List ℕ → Result ImageFront FileFault
 front_of_image sums front = front_by (system_size front) (super_in (read_as sums front))
 
 -- some first bytes say so
 abbrev pub SaysFront : Checksums → ImageFront → Type 0
 SaysFront sums (Journal sb) = SaysSuper sb
-SaysFront sums (System size) = (front : List ℕ) × (super_in (read_as sums front) ≡ Err NoMagic) × (system_size front ≡ Some size)
+SaysFront sums (System size) =
+    (front : List ℕ) × (super_in (read_as sums front) ≡ Err NoMagic) × (system_size front ≡ Some size)
 
 -- ---- a file system's own journal
 
@@ -90,9 +93,12 @@ of_find (find.Super fault) = Super fault
 of_find find.DeviceFault = DeviceFault
 of_find find.Memory = Memory
 
--- the journal of the file system in a file was looked for since its length was asked, and nothing else was asked of it; that is the answer
-abbrev pub LooksFor : {S : Type 0} {start : Starts S} → Checksums → Result FoundJournal FindFault → FileDisk S start → Type 0
-LooksFor {S} {start} sums answer new = (old : FileDisk S start) × IsMeasured old × FindsJournal as_file sums answer old new
+-- the journal of the file system in a file was looked for since its length was asked, and nothing else was asked of it;
+-- that is the answer
+abbrev pub LooksFor : {S : Type 0} {start : Starts S} → Checksums → Result FoundJournal FindFault → FileDisk S start
+    → Type 0
+LooksFor {S} {start} sums answer new =
+    (old : FileDisk S start) × IsMeasured old × FindsJournal as_file sums answer old new
 
 -- it was not found, for this
 abbrev pub IsOwnUnfound : {S : Type 0} → Checksums → Starts S → FindFault → Type 0
@@ -100,21 +106,27 @@ IsOwnUnfound {S} sums start fault = (new : FileDisk S start) × LooksFor sums (E
 
 -- the image of this name was not opened: its file was not, or its file system's own journal was not found
 abbrev pub IsFrontShut : {S : Type 0} → Checksums → Starts S → List ℕ → CommandFault → Type 0
-IsFrontShut sums start name fault = IsUnread name fault ⊎ ((found : FindFault) × (fault ≡ of_find found) × IsOwnUnfound sums start found)
+IsFrontShut sums start name fault =
+    IsUnread name fault ⊎ ((found : FindFault) × (fault ≡ of_find found) × IsOwnUnfound sums start found)
 
 module _ {S T : Type 0} {start : Starts S} {other : Starts T} where
-  -- the journal of the file system in a file was found, by what this says, and the image is that file, with the journal in those blocks;
-  -- this many home blocks can be named in it
+  -- the journal of the file system in a file was found, by what this says, and the image is that file, with the journal
+  -- in those blocks; this many home blocks can be named in it
   abbrev pub IsOwnOpened : Checksums → ImageDisk (FileDisk S start) (FileDisk T other) → ℕ → Option MapSource → Type 0
   IsOwnOpened sums (One file) homes found = ⊥
   IsOwnOpened sums (Two pair) homes found = ⊥
   IsOwnOpened sums (Within disk) homes found =
-      (own : FoundJournal) × LooksFor sums (Ok own) (whole_disk disk) × (list_of (extents_of disk) ≡ own.0) × (journal_blocks disk ≡ own.2.maxlen)
-      × (homes ≡ homes_in own.2 (spread_count (journal_blocks disk) (count_of (whole_disk disk)))) × (found ≡ Some own.1)
+      (own : FoundJournal) × LooksFor sums (Ok own) (whole_disk disk) × (list_of (extents_of disk) ≡ own.0)
+      × (journal_blocks disk ≡ own.2.maxlen)
+      × (homes ≡ homes_in own.2 (spread_count (journal_blocks disk) (count_of (whole_disk disk))))
+      × (found ≡ Some own.1)
 
-  -- the image is open, by its first bytes: with the journal at its front, or with its file system's own, and what says where that is
-  abbrev pub IsOpenedByFront : Checksums → ImageDisk (FileDisk S start) (FileDisk T other) → ℕ → Option MapSource → Type 0
-  IsOpenedByFront sums disk homes found = (IsImageOpened None disk homes × (found ≡ None)) ⊎ IsOwnOpened sums disk homes found
+  -- the image is open, by its first bytes: with the journal at its front, or with its file system's own, and what says
+  -- where that is
+  abbrev pub IsOpenedByFront : Checksums → ImageDisk (FileDisk S start) (FileDisk T other) → ℕ → Option MapSource
+      → Type 0
+  IsOpenedByFront sums disk homes found =
+      (IsImageOpened None disk homes × (found ≡ None)) ⊎ IsOwnOpened sums disk homes found
 
 -- ---- a list of extents beside it
 
@@ -165,7 +177,8 @@ module _ {S T : Type 0} {start : Starts S} {other : Starts T} where
   AreFew (Within disk) = extents_count (list_of (extents_of disk)) < 2 ^ 64 - 1
 
   -- an image whose journal is within it was compared with its file system's own
-  abbrev pub IsComparedImage : Checksums → ImageDisk (FileDisk S start) (FileDisk T other) → ImageDisk (FileDisk S start) (FileDisk T other) → Type 0
+  abbrev pub IsComparedImage : Checksums → ImageDisk (FileDisk S start) (FileDisk T other)
+      → ImageDisk (FileDisk S start) (FileDisk T other) → Type 0
   IsComparedImage sums (Within old) (Within new) = IsComparedTo sums old new
   IsComparedImage sums old new = new ≡ old
 

@@ -24,8 +24,8 @@ abbrev pub IsEarliestCut : (ℕ → ℕ → ℕ) → ℕ → List (Option ℕ) �
 IsEarliestCut c limit ps (Cut bounds sum) = EachPiece (IsFirstToAttain c limit ps) bounds.items
 IsEarliestCut c limit ps NoCut = Unit {0}
 
--- the best certificate of n handles: price i is the least total over the cuts of the first i of them that fit, and no cut
--- that fits takes fewer blocks than its cut; or it says that none fits, and none does
+-- the best certificate of n handles: price i is the least total over the cuts of the first i of them that fit, and no
+-- cut that fits takes fewer blocks than its cut; or it says that none fits, and none does
 pub record IsBestCert (c : ℕ → ℕ → ℕ) (limit n : ℕ) (cert : Cert) : Type 0 where
   pub prices : ArePrices c limit n cert.prices.items
   pub right : IsRight c limit n cert.answer
@@ -43,7 +43,8 @@ status_of_plan NoCut = 1
 
 -- the best certificate of a queue
 abbrev pub IsBestCertOf : Queue → Cert → Type 0
-IsBestCertOf q cert = (g : Geometry) × IsGeometryOf q g × IsBestCert (piece_cost g q.handles) q.limit (length q.handles) cert
+IsBestCertOf q cert =
+    (g : Geometry) × IsGeometryOf q g × IsBestCert (piece_cost g q.handles) q.limit (length q.handles) cert
 
 -- what `jb plan` says of a certificate
 abbrev pub plan_text : Cert → Said

@@ -1,9 +1,11 @@
 -- What every command over a queue text says of a text with a fault.
 use Rattle.std.specs.Prelude.{ℕ, List, [], ◌++◌, Option, Some, None, codes, decimal, option_map}
 use Rattle.jb_args.specs.declared.hint.Hint.{Hint}
-use Rattle.jb_args.specs.declared.hint.Hint.TheVariants.{QueueBlockSizeLine, QueueDataWord, QueueHandleLine, QueueLimitLine, QueueOpWord}
+use Rattle.jb_args.specs.declared.hint.Hint.TheVariants.{QueueBlockSizeLine, QueueDataWord, QueueHandleLine}
+use Rattle.jb_args.specs.declared.hint.Hint.TheVariants.{QueueLimitLine, QueueOpWord}
 use Rattle.jb_queue.specs.declared.fault.Cause.{Cause}
-use Rattle.jb_queue.specs.declared.fault.Cause.TheVariants.{BlockSizeLine, LimitLine, HandleLine, OpWord, DataWord, Memory}
+use Rattle.jb_queue.specs.declared.fault.Cause.TheVariants.{BlockSizeLine, LimitLine, HandleLine, OpWord, DataWord}
+use Rattle.jb_queue.specs.declared.fault.Cause.TheVariants.{Memory}
 use Rattle.jb_queue.specs.declared.fault.QueueFault.{QueueFault}
 use Rattle.jb_commands.specs.AnswerSaid.{Said}
 

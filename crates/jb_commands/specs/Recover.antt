@@ -21,17 +21,19 @@ found_word _ = []
 -- the line of a recovery, of a journal of which this said where it is
 abbrev pub recovered_line : Option MapSource → Recovered → List ℕ
 recovered_line found r = spelled (
-    codes "transactions " ∷ decimal r.transactions ∷ codes " copies " ∷ decimal r.copies ∷ codes " revoked " ∷ decimal r.revoked
+    codes "transactions " ∷ decimal r.transactions ∷ codes " copies " ∷ decimal r.copies ∷ codes " revoked "
+    ∷ decimal r.revoked
     ∷ codes " next " ∷ decimal r.next ∷ found_word found ∷ codes "\n" ∷ [])
 
--- what a recovery answered, as the command's end: its counts, and what said where the journal is; or its fault with the number of
--- home blocks
+-- what a recovery answered, as the command's end: its counts, and what said where the journal is; or its fault with the
+-- number of home blocks
 abbrev pub recovery_end : Option ℕ → Option MapSource → Result Recovered CheckedFault → Result Report CommandFault
 recovery_end homes found (Ok done) = Ok (ReportsRecovered done found)
 recovery_end homes found (Err fault) = Err (recover_fault homes fault)
 
 -- the disk was recovered, where checksums are allowed or not, and that answer is reported
-pub record RecoversOn {D : Type 0} (sums : Checksums) (G : Disks D) (homes : Option ℕ) (found : Option MapSource) (old new : D) (end : Result Report CommandFault) : Type 0 where
+pub record RecoversOn {D : Type 0} (sums : Checksums) (G : Disks D) (homes : Option ℕ) (found : Option MapSource)
+    (old new : D) (end : Result Report CommandFault) : Type 0 where
   pub answer : Result Recovered CheckedFault
   pub recovers : RecoversBy sums G old new answer
   pub told : end ≡ recovery_end homes found answer

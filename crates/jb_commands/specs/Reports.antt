@@ -9,19 +9,23 @@ use Rattle.jb_commands.specs.Outputs.{TellsLine}
 use Rattle.jb_commands.specs.declared.program_end.ProgramEnd.{ProgramEnd}
 use Rattle.jb_commands.specs.declared.fault.CommandFault.{CommandFault}
 use Rattle.jb_commands.specs.declared.report.Report.{Report}
-use Rattle.jb_commands.specs.declared.report.Report.TheVariants.{Said, Formatted, Foreseen, Recovered, Renumbered, Widened}
+use Rattle.jb_commands.specs.declared.report.Report.TheVariants.{Said, Formatted, Foreseen, Recovered, Renumbered}
+use Rattle.jb_commands.specs.declared.report.Report.TheVariants.{Widened}
 
--- it is on standard output, with status 0, or standard output failed part of the way; of a command that has said all itself, its end
+-- it is on standard output, with status 0, or standard output failed part of the way; of a command that has said all
+-- itself, its end
 abbrev pub TellsReport : Report → Option (List ℕ) → Option (List ℕ) → Result ProgramEnd CommandFault → Type 0
 TellsReport (Said ended) out_old out_new end = (end ≡ Ok ended) × (out_new ≡ out_old)
 TellsReport (Formatted limit) out_old out_new end = TellsLine (formatted_line limit) out_old out_new end
 TellsReport (Recovered done found) out_old out_new end = TellsLine (recovered_line found done) out_old out_new end
-TellsReport (Foreseen told list found) out_old out_new end = TellsLine (foreseen_text list found told) out_old out_new end
+TellsReport (Foreseen told list found) out_old out_new end =
+    TellsLine (foreseen_text list found told) out_old out_new end
 TellsReport (Renumbered done) out_old out_new end = TellsLine (renumbered_line done) out_old out_new end
 TellsReport (Widened done) out_old out_new end = TellsLine (widened_line done) out_old out_new end
 
 -- what a command ended with is reported, or it ended with a fault, and then nothing is written
-abbrev pub TellsEnd : Result Report CommandFault → Option (List ℕ) → Option (List ℕ) → Result ProgramEnd CommandFault → Type 0
+abbrev pub TellsEnd : Result Report CommandFault → Option (List ℕ) → Option (List ℕ) → Result ProgramEnd CommandFault
+    → Type 0
 TellsEnd (Ok report) out_old out_new end = TellsReport report out_old out_new end
 TellsEnd (Err fault) out_old out_new end = (end ≡ Err fault) × (out_new ≡ out_old)
 

@@ -9,7 +9,8 @@ use Rattle.jb_text.specs.Puts.{PutsPart}
 use Rattle.jb_image.specs.Files.{FileImage}
 use Rattle.jb_image.specs.declared.image.ImageDisk.{ImageDisk}
 use Rattle.jb_args.specs.PlainCommand.{Asked}
-use Rattle.jb_args.specs.PlainCommand.Asked.{AsksCat, AsksCheck, AsksCost, AsksDump, AsksFormat, AsksPlan, AsksRecover, AsksRenumber, AsksWiden}
+use Rattle.jb_args.specs.PlainCommand.Asked.{AsksCat, AsksCheck, AsksCost, AsksDump, AsksFormat, AsksPlan, AsksRecover}
+use Rattle.jb_args.specs.PlainCommand.Asked.{AsksRenumber, AsksWiden}
 use Rattle.jb_commands.specs.Check.{CheckSays}
 use Rattle.jb_commands.specs.Cost.{cost_said}
 use Rattle.jb_commands.specs.Limits.{cert_limit}
@@ -25,34 +26,43 @@ use Rattle.jb_commands.specs.Ends.{of_fault}
 use Rattle.jb_commands.specs.Reports.{TellsEnd, said_end, status_end}
 use Rattle.jb_commands.specs.ListText.{reads_list}
 use Rattle.jb_commands.specs.Faults.{line_of}
-use Rattle.jb_commands.specs.Lines.{Names, names_of}
+use Rattle.jb_commands.specs.Lines.{PairNames, names_of}
 use Rattle.jb_commands.specs.Texts.{HasNoText, HasNoTextWithin, IsText, IsTextWithin, known_behind}
 use Rattle.jb_commands.specs.declared.program_end.ProgramEnd.{ProgramEnd}
 use Rattle.jb_commands.specs.declared.fault.CommandFault.{CommandFault}
 use Rattle.jb_commands.specs.declared.report.Report.{Report}
-use Rattle.jb_commands.specs.declared.report.Report.TheVariants.{Renumbered as ReportsRenumbered, Widened as ReportsWidened}
+use Rattle.jb_commands.specs.declared.report.Report.TheVariants.{Renumbered as ReportsRenumbered}
+use Rattle.jb_commands.specs.declared.report.Report.TheVariants.{Widened as ReportsWidened}
 
--- a command said what it has to say of the text after this name, or ended without a word where there was no text or no memory
-abbrev pub Ends : (List ℕ → Said → Type 0) → List ℕ → Option (List ℕ) → Outputs → Outputs → Result ProgramEnd CommandFault → Type 0
-Ends Says name input old new end =
-    ((text : List ℕ) × (words : Said) × IsText (known_behind name input) text × Says text words × Tells words old new end)
+-- a command said what it has to say of the text after this name, or ended without a word where there was no text or no
+-- memory
+abbrev pub EndsAsSaid : (List ℕ → Said → Type 0) → List ℕ → Option (List ℕ) → Outputs → Outputs
+    → Result ProgramEnd CommandFault → Type 0
+EndsAsSaid Says name input old new end =
+    ((text : List ℕ) × (words : Said) × IsText (known_behind name input) text × Says text words
+    × Tells words old new end)
     ⊎ ((fault : CommandFault) × (end ≡ Err fault) × HasNoText name (known_behind name input) fault × (new ≡ old))
 
--- a command over a queue text and a certificate, of two files, told what it has to say of them, or ended without a word for
--- want of one of them or of memory
-abbrev pub EndsOfTwo : (List ℕ → List ℕ → Said → Type 0) → List ℕ → List ℕ → Outputs → Outputs → Result ProgramEnd CommandFault → Type 0
+-- a command over a queue text and a certificate, of two files, told what it has to say of them, or ended without a word
+-- for want of one of them or of memory
+abbrev pub EndsOfTwo : (List ℕ → List ℕ → Said → Type 0) → List ℕ → List ℕ → Outputs → Outputs
+    → Result ProgramEnd CommandFault → Type 0
 EndsOfTwo Says name other old new end =
-    ((text text' : List ℕ) × (words : Said) × IsText None text × IsTextWithin cert_limit None text' × Says text text' words × Tells words old new end)
-    ⊎ ((fault : CommandFault) × (end ≡ Err fault) × (HasNoText name None fault ⊎ HasNoTextWithin cert_limit other None fault) × (new ≡ old))
+    ((text text' : List ℕ) × (words : Said) × IsText None text × IsTextWithin cert_limit None text'
+    × Says text text' words × Tells words old new end)
+    ⊎ ((fault : CommandFault) × (end ≡ Err fault)
+    × (HasNoText name None fault ⊎ HasNoTextWithin cert_limit other None fault) × (new ≡ old))
 
 -- the part of that which comes after the queue text: what is said is said of the certificate
 abbrev pub EndsOfClaim : (List ℕ → Said → Type 0) → List ℕ → Outputs → Outputs → Result ProgramEnd CommandFault → Type 0
 EndsOfClaim Says other old new end =
-    ((claim : List ℕ) × (words : Said) × IsTextWithin cert_limit None claim × Says claim words × Tells words old new end)
+    ((claim : List ℕ) × (words : Said) × IsTextWithin cert_limit None claim × Says claim words
+    × Tells words old new end)
     ⊎ ((fault : CommandFault) × (end ≡ Err fault) × HasNoTextWithin cert_limit other None fault × (new ≡ old))
 
--- the program's end, and the line of a command that ended without an answer, over the files of these names where they are two
-abbrev pub Closes : Option Names → Result ProgramEnd CommandFault → Outputs → Outputs → ProgramEnd → Type 0
+-- the program's end, and the line of a command that ended without an answer, over the files of these names where they
+-- are two
+abbrev pub Closes : Option PairNames → Result ProgramEnd CommandFault → Outputs → Outputs → ProgramEnd → Type 0
 Closes names (Ok told) old new ended = (ended ≡ told) × (new ≡ old)
 Closes names (Err fault) old new ended =
     (ended ≡ of_fault fault) × (new.out ≡ old.out) × PutsPart old.err new.err (line_of names fault)
@@ -70,25 +80,33 @@ reads_input _ = false
 
 module _ {S T : Type 0} {start : Starts S} {other : Starts T} where
   -- a command over texts has said all itself, and ends so
-  abbrev pub SaidAll : (Result ProgramEnd CommandFault → Type 0) → Option (ImageDisk (FileDisk S start) (FileDisk T other)) → Result Report CommandFault → Type 0
+  abbrev pub SaidAll : (Result ProgramEnd CommandFault → Type 0)
+      → Option (ImageDisk (FileDisk S start) (FileDisk T other)) → Result Report CommandFault → Type 0
   SaidAll Told image end = (told : Result ProgramEnd CommandFault) × Told told × (image ≡ None) × (end ≡ said_end told)
 
   -- the same of a command that ends with a status
-  abbrev pub DumpedAll : (Result ℕ CommandFault → Type 0) → Option (ImageDisk (FileDisk S start) (FileDisk T other)) → Result Report CommandFault → Type 0
+  abbrev pub DumpedAll : (Result ℕ CommandFault → Type 0) → Option (ImageDisk (FileDisk S start) (FileDisk T other))
+      → Result Report CommandFault → Type 0
   DumpedAll Told image end = (told : Result ℕ CommandFault) × Told told × (image ≡ None) × (end ≡ status_end told)
 
-  -- how the command that the words ask for ends: what it has written by then, the image that it was over, as it has left it, and what it
-  -- has to say
-  abbrev pub EndsAsked : Asked → Option (List ℕ) → Outputs → Outputs → Option (ImageDisk (FileDisk S start) (FileDisk T other)) → Result Report CommandFault → Type 0
-  EndsAsked (AsksCost file) input old new image end = SaidAll (Ends (λ text words. cost_said text ≡ Some words) file input old new) image end
-  EndsAsked (AsksPlan file) input old new image end = SaidAll (Ends PlanSays file input old new) image end
+  -- how the command that the words ask for ends: what it has written by then, the image that it was over, as it has
+  -- left it, and what it has to say
+  abbrev pub EndsAsked : Asked → Option (List ℕ) → Outputs → Outputs
+      → Option (ImageDisk (FileDisk S start) (FileDisk T other)) → Result Report CommandFault → Type 0
+  EndsAsked (AsksCost file) input old new image end =
+      SaidAll (EndsAsSaid (λ text words. cost_said text ≡ Some words) file input old new) image end
+  EndsAsked (AsksPlan file) input old new image end = SaidAll (EndsAsSaid PlanSays file input old new) image end
   EndsAsked (AsksCheck file cert) input old new image end = SaidAll (EndsOfTwo CheckSays file cert old new) image end
-  EndsAsked (AsksDump file words) input old new image end = DumpedAll (EndsOfDump start other words file input old.out new.out) image end × (new.err ≡ old.err)
+  EndsAsked (AsksDump file words) input old new image end =
+      DumpedAll (EndsOfDump start other words file input old.out new.out) image end × (new.err ≡ old.err)
   EndsAsked (AsksFormat name options) input old new image end = EndsOfFormat name options image end × (new ≡ old)
-  EndsAsked (AsksCat name words) input old new image end = EndsOfCat name words input old.out new.out image end × (new.err ≡ old.err)
+  EndsAsked (AsksCat name words) input old new image end =
+      EndsOfCat name words input old.out new.out image end × (new.err ≡ old.err)
   EndsAsked (AsksRecover name words) input old new image end = EndsOfRecover name words input image end × (new ≡ old)
-  EndsAsked (AsksRenumber name extents) input old new image end = EndsOfChange Renumbers IsRenumbering RenumbersAs ReportsRenumbered name extents input image end × (new ≡ old)
-  EndsAsked (AsksWiden name extents) input old new image end = EndsOfChange Widens IsWidened WidensAs ReportsWidened name extents input image end × (new ≡ old)
+  EndsAsked (AsksRenumber name extents) input old new image end =
+      EndsOfChange Renumbers IsRenumbering RenumbersAs ReportsRenumbered name extents input image end × (new ≡ old)
+  EndsAsked (AsksWiden name extents) input old new image end =
+      EndsOfChange Widens IsWidened WidensAs ReportsWidened name extents input image end × (new ≡ old)
 
 -- what a command has to say, once its image is closed
 abbrev pub TellsDone : Result Report CommandFault → Outputs → Outputs → Result ProgramEnd CommandFault → Type 0
@@ -97,5 +115,7 @@ TellsDone end old new told = TellsEnd end old.out new.out told × (new.err ≡ o
 -- the whole run of the command that the words ask for
 abbrev pub Runs : Asked → Option (List ℕ) → Outputs → Outputs → ProgramEnd → Type 0
 Runs asked input old new ended =
-    (image : Option FileImage) × (end : Result Report CommandFault) × (done : Outputs) × EndsAsked asked input old done image end
-    × ((told : Result ProgramEnd CommandFault) × (mid : Outputs) × TellsDone end done mid told × Closes (names_of asked) told mid new ended)
+    (image : Option FileImage) × (end : Result Report CommandFault) × (done : Outputs)
+    × EndsAsked asked input old done image end
+    × ((told : Result ProgramEnd CommandFault) × (mid : Outputs) × TellsDone end done mid told
+    × Closes (names_of asked) told mid new ended)

@@ -32,13 +32,18 @@ module _ {D : Type 0} (G : Disks D) where
     pub tells : G.honest new → TellsLost (G.size old) (G.count old) (G.newest old) told
 
   -- what follows: it is refused, and nothing is written; or its lines are written, and what is lost is reported
-  abbrev pub DumpsBehind : DumpFilter → Result (Option Lost) CheckedPeekFault → Option (List ℕ) → Option (List ℕ) → Result ℕ CommandFault → Type 0
-  DumpsBehind filter (Ok found) out_old out_new end = (dumped : Result ℕ CommandFault) × DumpsOn filter None None out_old out_new dumped × (end ≡ end_unless_lost found dumped)
+  abbrev pub DumpsBehind : DumpFilter → Result (Option Lost) CheckedPeekFault → Option (List ℕ) → Option (List ℕ)
+      → Result ℕ CommandFault → Type 0
+  DumpsBehind filter (Ok found) out_old out_new end =
+      (dumped : Result ℕ CommandFault) × DumpsOn filter None None out_old out_new dumped
+      × (end ≡ end_unless_lost found dumped)
   DumpsBehind filter (Err stop) out_old out_new end = (end ≡ Err (peek_fault None stop)) × (out_new ≡ out_old)
 
   -- a disk's journal was searched so, and dumped
   abbrev pub DumpsSearched : DumpFilter → D → Option (List ℕ) → Option (List ℕ) → Result ℕ CommandFault → Type 0
-  DumpsSearched filter old out_old out_new end = (new : D) × (told : Result (Option Lost) CheckedPeekFault) × IsSearched old new told × DumpsBehind filter told out_old out_new end
+  DumpsSearched filter old out_old out_new end =
+      (new : D) × (told : Result (Option Lost) CheckedPeekFault) × IsSearched old new told
+      × DumpsBehind filter told out_old out_new end
 
   -- a disk's journal was dumped, and searched before or not
   abbrev pub DumpsEither : Bool → DumpFilter → D → Option (List ℕ) → Option (List ℕ) → Result ℕ CommandFault → Type 0

@@ -7,7 +7,7 @@ ghost use Rattle.jb_commands.specs.Check.{CheckSays, SaysCheck};
 ghost use Rattle.jb_commands.specs.Cost.{cost_said};
 ghost use Rattle.jb_commands.specs.Plan.{PlanSays};
 ghost use Rattle.jb_commands.specs.Lines.{names_said};
-ghost use Rattle.jb_commands.specs.Runs.{Closes, Ends, EndsAsked, EndsOfClaim, EndsOfTwo, Runs, reads_input};
+ghost use Rattle.jb_commands.specs.Runs.{Closes, EndsAsSaid, EndsAsked, EndsOfClaim, EndsOfTwo, Runs, reads_input};
 
 use crate::command_end::CommandEnd;
 use crate::fault::CommandFault;
@@ -69,7 +69,7 @@ fn perform_cost<'a, R: Files + AllocGlobal, I: Read, O: Write, E: Write>(
     out: &mut O,
     err: &mut E,
 ) -> Result<ProgramEnd, CommandFault<'a>>
-    ensures ends { Ends (λ text words. cost_said text ≡ Some words) file.entry.now (I.remaining input.old)
+    ensures ends { EndsAsSaid (λ text words. cost_said text ≡ Some words) file.entry.now (I.remaining input.old)
         (record { out = O.contents out.old; err = E.contents err.old })
         (record { out = O.contents out.new; err = E.contents err.new }) result }
     ensures unread { bytes_eq file.entry.now (codes "-") ≡ false → input.new ≡ input.old }
@@ -88,7 +88,7 @@ fn perform_plan<'a, R: Files + AllocGlobal, I: Read, O: Write, E: Write>(
     out: &mut O,
     err: &mut E,
 ) -> Result<ProgramEnd, CommandFault<'a>>
-    ensures ends { Ends PlanSays file.entry.now (I.remaining input.old)
+    ensures ends { EndsAsSaid PlanSays file.entry.now (I.remaining input.old)
         (record { out = O.contents out.old; err = E.contents err.old })
         (record { out = O.contents out.new; err = E.contents err.new }) result }
     ensures unread { bytes_eq file.entry.now (codes "-") ≡ false → input.new ≡ input.old }

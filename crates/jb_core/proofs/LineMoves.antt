@@ -8,7 +8,7 @@ use Rattle.jb_handle.specs.declared.stopped.Stopped.{Stopped}
 use Rattle.jb_cost.specs.Cut.{RisesTo, IsCut}
 use Rattle.jb_cost.proofs.Cuts.{rises-le}
 use Rattle.jb_cost.specs.Pieces.{joined, pieces_from, pieces}
-use Rattle.jb_core.specs.Line.{Line, count, IsSettled, IsTaken, IsPushed}
+use Rattle.jb_core.specs.Line.{MachineLine, count, IsSettled, IsTaken, IsPushed}
 use Rattle.jb_core.specs.Stops.{line_of_stops, IsInLine}
 use Rattle.jb_core.specs.declared.stops.Stops.TheInside.{Inside}
 use Rattle.jb_core.specs.SplitEnds.{IsParted}
@@ -27,8 +27,8 @@ abbrev pub taken_ends : Inside → List ℕ
 taken_ends s = drop s.settled s.ends.items
 
 -- as many groups are taken as there are ends of taken groups
-pub groups-there : (s : Inside) (l : Line) (n : ℕ) → line_of_stops s ≡ l → n ≤ length l.taken → n ≤ length (taken_ends s)
-groups-there s l n is there = omega (arith, there, ap (λ (k : Line). length k.taken) is, length-pieces s.settled_end (taken_ends s) s.handles.items)
+pub groups-there : (s : Inside) (l : MachineLine) (n : ℕ) → line_of_stops s ≡ l → n ≤ length l.taken → n ≤ length (taken_ends s)
+groups-there s l n is there = omega (arith, there, ap (λ (k : MachineLine). length k.taken) is, length-pieces s.settled_end (taken_ends s) s.handles.items)
 
 -- the ends of the taken groups, parted where the search for an end parts them
 pub parts-of : (s : Inside) → IsInLine s → (n end : ℕ) (es : List ℕ) → es ≡ s.ends.items

@@ -11,7 +11,7 @@ use Rattle.std.specs.FinMap.Entries.{find-put}
 use Rattle.jb_handle.specs.HeldChanges.{Held}
 use Rattle.jb_handle.specs.LastOp.{words_by}
 use Rattle.jb_handle.proofs.Trees.{insert-puts, find-looks}
-use Rattle.jb_core.specs.Lives.{Log, is_seat, ops_of}
+use Rattle.jb_core.specs.Lives.{EventLog, is_seat, ops_of}
 use Rattle.jb_core.specs.SeatLaw.{changed}
 use Rattle.jb_core.specs.Seats.{get, set, change, drop, Once}
 use Rattle.jb_core.proofs.MapEntries.{missed}
@@ -90,11 +90,11 @@ module _ {V : Type 0} (k : ℕ) where
 
 -- ---- each handle has the words of its changes
 
-abbrev pub AreBy : Log → List (ℕ × Held) → Type 0
+abbrev pub AreBy : EventLog → List (ℕ × Held) → Type 0
 AreBy log es = (s : ℕ) (h : Held) → get es s ≡ Some h → h.words ≡ words_by (ops_of s log)
 
 -- where the log and the handles of one seat have changed
-by-now : (log next : Log) (k : ℕ) (es fs : List (ℕ × Held)) → ((s : ℕ) → is_seat k s ≡ false → ops_of s next ≡ ops_of s log) → ((s : ℕ) → is_seat s k ≡ false → get fs s ≡ get es s)
+by-now : (log next : EventLog) (k : ℕ) (es fs : List (ℕ × Held)) → ((s : ℕ) → is_seat k s ≡ false → ops_of s next ≡ ops_of s log) → ((s : ℕ) → is_seat s k ≡ false → get fs s ≡ get es s)
     → ((h : Held) → get fs k ≡ Some h → h.words ≡ words_by (ops_of k next)) → AreBy log es → AreBy next fs
 by-now log next k es fs others away here by s h is =
     ⊎_elim
@@ -103,10 +103,10 @@ by-now log next k es fs others away here by s h is =
     (cases_Bool (is_seat s k))
 
 -- where the log grows by an event of one seat, which holds another handle then
-pub by-changed : (log next : Log) (k : ℕ) (es fs : List (ℕ × Held)) (v : Held) → ((s : ℕ) → is_seat k s ≡ false → ops_of s next ≡ ops_of s log) → ((s : ℕ) → is_seat s k ≡ false → get fs s ≡ get es s)
+pub by-changed : (log next : EventLog) (k : ℕ) (es fs : List (ℕ × Held)) (v : Held) → ((s : ℕ) → is_seat k s ≡ false → ops_of s next ≡ ops_of s log) → ((s : ℕ) → is_seat s k ≡ false → get fs s ≡ get es s)
     → get fs k ≡ Some v → v.words ≡ words_by (ops_of k next) → AreBy log es → AreBy next fs
 by-changed log next k es fs v others away there new by = by-now log next k es fs others away (λ h is. let held : h ≡ v = cc in ap (λ (g : Held). g.words) held ∙ new) by
 
 -- where a seat holds no handle any more
-pub by-dropped : (log : Log) (k : ℕ) (es : List (ℕ × Held)) → Once es → AreBy log es → AreBy log (drop es k)
+pub by-dropped : (log : EventLog) (k : ℕ) (es : List (ℕ × Held)) → Once es → AreBy log es → AreBy log (drop es k)
 by-dropped log k es once by = by-now log log k es (drop es k) (λ s apart. refl) (λ s apart. drop-other k s es apart) (λ h is. let none = drop-same k es once in absurd (let h : ⊥ = cc in h)) by

@@ -14,9 +14,9 @@ use Rattle.jb_cost.proofs.WithinCredits.{covers-weight}
 use Rattle.jb_core.specs.declared.event.Event.{Event}
 use Rattle.jb_core.specs.declared.event.Event.TheVariants.{Open, Touch, Stop, Abandon, Take, Settle, Checkpoint, Crash, Restart}
 use Rattle.jb_core.specs.declared.state.State.TheInside.{Inside}
-use Rattle.jb_core.specs.Lives.{Log, settled_now}
+use Rattle.jb_core.specs.Lives.{EventLog, settled_now}
 use Rattle.jb_core.specs.Machine.{Machine, reserved, event_refusal, refusal_by, refusal_up, after_event}
-use Rattle.jb_core.specs.MachineRuns.{IsNewMachine, Ran}
+use Rattle.jb_core.specs.MachineRuns.{IsNewMachine, RanFromStart}
 use Rattle.jb_core.specs.Sound.{waiting, IsGranted, IsMachineSound}
 use Rattle.jb_core.specs.State.{machine_of, IsMachineKept}
 use Rattle.jb_core.specs.Steps.{IsLeast}
@@ -65,7 +65,7 @@ started shape m start =
     })
 
 -- so is each machine of a run
-pub sounds : (shape : Shape) (log : Log) (m : Machine) → Ran shape log m → IsMachineSound m
+pub sounds : (shape : Shape) (log : EventLog) (m : Machine) → RanFromStart shape log m → IsMachineSound m
 sounds shape [] m start = started shape m start
 sounds shape ((e, Ok reply) ∷ earlier) m (before, ran, step) = subst IsMachineSound (sym step.2) (after-sound before (sounds shape earlier before ran) e step.0 step.1)
 sounds shape ((e, Err fault) ∷ earlier) m (before, ran, step) = subst IsMachineSound (sym step.1) (sounds shape earlier before ran)

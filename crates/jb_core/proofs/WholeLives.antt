@@ -18,8 +18,8 @@ use Rattle.jb_cost.proofs.ListPieces.{cut-joined}
 use Rattle.jb_core.specs.Machine.{Machine, handle_at, held_at, reserved, is_full, event_refusal, refusal_up, stopped_at, after_event, reply_of}
 use Rattle.jb_core.specs.Sound.{HasOnlySettled}
 use Rattle.jb_core.specs.Steps.{MachineSteps, IsLeast}
-use Rattle.jb_core.specs.Lives.{Log, Answer, ops_of, ticket_in, stop_order, past_orders, stopped_by, handles_of_order, settled_now, PastKept, IsWhole, log_from}
-use Rattle.jb_core.specs.MachineRuns.{IsNewMachine, Ran}
+use Rattle.jb_core.specs.Lives.{EventLog, MachineAnswer, ops_of, ticket_in, stop_order, past_orders, stopped_by, handles_of_order, settled_now, PastKept, IsWhole, log_from}
+use Rattle.jb_core.specs.MachineRuns.{IsNewMachine, RanFromStart}
 use Rattle.jb_core.proofs.AcceptedEvents.{new-is, found-none, found-some, first-false, none-taken, accepted, restarted, still-up, there-at}
 use Rattle.jb_core.proofs.SettledGroups.{more-settled, parts-joined}
 use Rattle.jb_core.specs.Seats.{set, change, Once}
@@ -27,7 +27,7 @@ use Rattle.jb_core.specs.SeatLaw.{changed}
 use Rattle.jb_core.proofs.Seats.{seat-self, set-same, set-other, change-same, change-other, once-set, once-change, once-drop, AreBy, by-changed, by-dropped}
 
 -- how a machine agrees with its log between two events
-record Stands (log : Log) (m : Machine) : Type 0 where
+record Stands (log : EventLog) (m : Machine) : Type 0 where
   handles : AreBy log m.handles
   once : Once m.handles
   lives : m.earlier ≤ length m.settled
@@ -35,12 +35,12 @@ record Stands (log : Log) (m : Machine) : Type 0 where
   whole : IsWhole log m
 
 -- the words of a seat's handle are those of its changes
-held-by : (log : Log) (m : Machine) (seat : ℕ) (h : Held) → handle_at m seat ≡ Some h → AreBy log m.handles → (held_at m seat).words ≡ words_by (ops_of seat log)
+held-by : (log : EventLog) (m : Machine) (seat : ℕ) (h : Held) → handle_at m seat ≡ Some h → AreBy log m.handles → (held_at m seat).words ≡ words_by (ops_of seat log)
 held-by log m seat h there by = ap (λ (g : Held). g.words) (there-at m seat h there) ∙ by seat h there
 
 -- ---- each event
 
-module _ (log : Log) (m : Machine) (s : Stands log m) where
+module _ (log : EventLog) (m : Machine) (s : Stands log m) where
   refused : (e : Event) (fault : CoreFault) → Stands ((e, Err fault) ∷ log) m
   refused e fault = assumption
 
@@ -54,7 +54,7 @@ module _ (log : Log) (m : Machine) (s : Stands log m) where
   same-past n = subst (PastKept (past_orders log)) (sym (take-append-le m.earlier m.settled (take n m.taken) s.lives)) s.whole.past
 
   -- one after which the machine is up
-  still : {next : Log} {n : Machine} → n.up ≡ true → AreBy next n.handles → Once n.handles → n.earlier ≤ length n.settled
+  still : {next : EventLog} {n : Machine} → n.up ≡ true → AreBy next n.handles → Once n.handles → n.earlier ≤ length n.settled
       → settled_now n ++ (joined n.taken ++ n.queue) ≡ handles_of_order (stop_order next) → PastKept (past_orders next) (take n.earlier n.settled) → Stands next n
   still {next} {n} up by once lives all past = record { handles = by; once = once; lives = lives; bare = still-up n.up up; whole = record { up = λ _. all; crashed = still-up n.up up; past = past } }
 
@@ -121,7 +121,7 @@ module _ (log : Log) (m : Machine) (s : Stands log m) where
       (rw (drop-length m.settled, bare.taken, bare.queue) refl) (subst (PastKept (stop_order log ∷ past_orders log)) (sym (take-length m.settled)) (m.earlier, prefix.0, prefix.1, s.whole.past))
   happens e reply none least is = let granted = accepted m e refl none in accepts granted.0 e reply granted.1 least is
 
-  stepped : (e : Event) (answer : Answer) (n : Machine) → MachineSteps e m answer n → Stands ((e, answer) ∷ log) n
+  stepped : (e : Event) (answer : MachineAnswer) (n : Machine) → MachineSteps e m answer n → Stands ((e, answer) ∷ log) n
   stepped e (Ok reply) n step = subst (Stands ((e, Ok reply) ∷ log)) (sym step.2) (happens e reply step.0 step.1 step.3)
   stepped e (Err fault) n step = subst (Stands ((e, Err fault) ∷ log)) (sym step.1) (refused e fault)
 
@@ -136,18 +136,18 @@ begun shape m start = subst (Stands []) (new-is shape m start) (record {
   whole = record { up = λ up. refl; crashed = still-up true refl; past = refl };
 })
 
-stands : (shape : Shape) (log : Log) (m : Machine) → Ran shape log m → Stands log m
+stands : (shape : Shape) (log : EventLog) (m : Machine) → RanFromStart shape log m → Stands log m
 stands shape [] m start = begun shape m start
 stands shape (last ∷ earlier) m (before, ran, step) = stepped earlier before (stands shape earlier before ran) last.0 last.1 m step
 
-pub once-ran : (shape : Shape) (log : Log) (m : Machine) → Ran shape log m → Once m.handles
+pub once-ran : (shape : Shape) (log : EventLog) (m : Machine) → RanFromStart shape log m → Once m.handles
 once-ran shape log m ran = (stands shape log m ran).once
 
-pub whole : (shape : Shape) (log : Log) (m : Machine) → Ran shape log m → IsWhole log m
+pub whole : (shape : Shape) (log : EventLog) (m : Machine) → RanFromStart shape log m → IsWhole log m
 whole shape log m ran = (stands shape log m ran).whole
 
 -- one event more
-pub log-more : (log : Log) (events : List Event) (answers : List Answer) (e : Event) (a : Answer) → length events ≡ length answers → log_from log (events ++ e ∷ []) (answers ++ a ∷ []) ≡ (e, a) ∷ log_from log events answers
+pub log-more : (log : EventLog) (events : List Event) (answers : List MachineAnswer) (e : Event) (a : MachineAnswer) → length events ≡ length answers → log_from log (events ++ e ∷ []) (answers ++ a ∷ []) ≡ (e, a) ∷ log_from log events answers
 log-more log [] [] e a same = refl
 log-more log [] (b ∷ answers) e a same = absurd (omega (arith, same))
 log-more log (d ∷ events) [] e a same = absurd (omega (arith, same))

@@ -1,5 +1,6 @@
 -- The machine: what it is made of, which events it refuses, and what the others make of it.
-use Rattle.std.specs.Prelude.{ℕ, ◌+◌, ◌^◌, Bool, true, false, not, nat_lt, nat_le, ◌==◌, ◌||◌, List, [], ◌∷◌, ◌++◌, length, take, drop, sum, Option, Some, None, is_some, is_none}
+use Rattle.std.specs.Prelude.{ℕ, ◌+◌, ◌^◌, Bool, true, false, not, nat_lt, nat_le, ◌==◌, ◌||◌, List, [], ◌∷◌, ◌++◌}
+use Rattle.std.specs.Prelude.{length, take, drop, sum, Option, Some, None, is_some, is_none}
 use Rattle.std.specs.List.{sum_by}
 use Rattle.std.specs.Option.{unwrap_or, option_map}
 use Rattle.std.specs.Map.{values_of}
@@ -13,11 +14,14 @@ use Rattle.jb_handle.specs.HeldChanges as handle
 use Rattle.jb_cost.specs.declared.geometry.Geometry.{Geometry}
 use Rattle.jb_cost.specs.Pieces.{pieces}
 use Rattle.jb_core.specs.declared.event.Event.{Event}
-use Rattle.jb_core.specs.declared.event.Event.TheVariants.{Open, Touch, Stop, Abandon, Take, Settle, Checkpoint, Crash, Restart}
+use Rattle.jb_core.specs.declared.event.Event.TheVariants.{Open, Touch, Stop, Abandon, Take, Settle, Checkpoint, Crash}
+use Rattle.jb_core.specs.declared.event.Event.TheVariants.{Restart}
 use Rattle.jb_core.specs.declared.event.Reply.{Reply}
 use Rattle.jb_core.specs.declared.event.Reply.TheVariants.{Plain, Ticket}
 use Rattle.jb_core.specs.declared.event.CoreFault.{CoreFault}
-use Rattle.jb_core.specs.declared.event.CoreFault.TheVariants.{Down, Up, Busy, NoHandle, TooManyCredits, Full, NoCredit, OutOfRange, Length, Empty, BatchOut, Amount, Nothing, Memory}
+use Rattle.jb_core.specs.declared.event.CoreFault.TheVariants.{Down, Up, Busy, NoHandle, TooManyCredits, Full, NoCredit}
+use Rattle.jb_core.specs.declared.event.CoreFault.TheVariants.{OutOfRange, Length, Empty, BatchOut, Amount, Nothing}
+use Rattle.jb_core.specs.declared.event.CoreFault.TheVariants.{Memory}
 use Rattle.jb_core.specs.Line.{count}
 use Rattle.jb_core.specs.Seats as seats
 
@@ -70,8 +74,15 @@ refusal_take m = first_of ((length m.queue == 0, Empty) ∷ (not (length m.taken
 
 -- the first refusal of an event that is not of the cut, while the machine is up
 abbrev pub refusal_up : Machine → Event → Option CoreFault
-refusal_up m (Open seat credits) = first_of ((is_some (handle_at m seat), Busy) ∷ (nat_lt m.most credits, TooManyCredits m.most) ∷ (is_full m credits, Full (reserved m)) ∷ [])
-refusal_up m (Touch seat op) = first_of ((is_none (handle_at m seat), NoHandle) ∷ (is_some (handle.refusal (held_at m seat) op), unwrap_or (option_map fault_of (handle.refusal (held_at m seat) op)) NoHandle) ∷ [])
+refusal_up m (Open seat credits) =
+    first_of ((is_some (handle_at m seat), Busy) ∷ (nat_lt m.most credits, TooManyCredits m.most)
+    ∷ (is_full m credits, Full (reserved m)) ∷ [])
+refusal_up m (Touch seat op) =
+    first_of ((is_none (handle_at m seat), NoHandle)
+    ∷ (
+      is_some (handle.refusal (held_at m seat) op),
+      unwrap_or (option_map fault_of (handle.refusal (held_at m seat) op)) NoHandle,
+    ) ∷ [])
 refusal_up m (Stop seat) = first_of ((is_none (handle_at m seat), NoHandle) ∷ [])
 refusal_up m (Abandon seat) = first_of ((is_none (handle_at m seat), NoHandle) ∷ [])
 refusal_up m (Take bounds) = refusal_take m
@@ -114,9 +125,15 @@ after_event m (Stop seat) = record m {
 }
 after_event m (Abandon seat) = record m { handles = seats.drop m.handles seat }
 after_event m (Take bounds) = after_take m bounds.items
-after_event m (Settle n) = record m { taken = drop n m.taken; settled = m.settled ++ take n m.taken; credits = drop (count (take n m.taken)) m.credits }
+after_event m (Settle n) =
+    record m {
+      taken = drop n m.taken;
+      settled = m.settled ++ take n m.taken;
+      credits = drop (count (take n m.taken)) m.credits;
+    }
 after_event m Checkpoint = record m { checkpointed = m.checkpointed + 1 }
-after_event m (Crash n) = record m { up = false; handles = []; queue = []; taken = []; settled = m.settled ++ take n m.taken; credits = [] }
+after_event m (Crash n) =
+    record m { up = false; handles = []; queue = []; taken = []; settled = m.settled ++ take n m.taken; credits = [] }
 after_event m Restart = record m { up = true; next = 0; earlier = length m.settled; checkpointed = length m.settled }
 
 -- what it answers

@@ -7,7 +7,7 @@ use Rattle.jb_handle.specs.declared.shape.Shape.{Shape}
 use Rattle.jb_core.specs.Machine.{Machine}
 use Rattle.jb_cost.specs.Credits.{IsMost}
 use Rattle.jb_core.specs.Steps.{MachineSteps}
-use Rattle.jb_core.specs.Lives.{Log}
+use Rattle.jb_core.specs.Lives.{EventLog}
 
 -- a machine that is up and has done nothing, in the journal of a shape
 pub record IsNewMachine (shape : Shape) (m : Machine) : Type 0 where
@@ -26,6 +26,7 @@ pub record IsNewMachine (shape : Shape) (m : Machine) : Type 0 where
   pub credits : m.credits ≡ []
 
 -- these events, with these answers, lead from the machine's start to it; the newest is first
-abbrev pub Ran : Shape → Log → Machine → Type 0
-Ran shape [] m = IsNewMachine shape m
-Ran shape (last ∷ earlier) m = (before : Machine) × Ran shape earlier before × MachineSteps last.0 before last.1 m
+abbrev pub RanFromStart : Shape → EventLog → Machine → Type 0
+RanFromStart shape [] m = IsNewMachine shape m
+RanFromStart shape (last ∷ earlier) m =
+    (before : Machine) × RanFromStart shape earlier before × MachineSteps last.0 before last.1 m

@@ -31,7 +31,8 @@ pub record HasOnlySettled (m : Machine) : Type 0 where
   pub queue : m.queue ≡ []
   pub credits : m.credits ≡ []
 
--- what holds of a machine between events: credits within its most and its shape, tickets that count up, and nothing that waits while it is down
+-- what holds of a machine between events: credits within its most and its shape, tickets that count up, and nothing
+-- that waits while it is down
 pub record IsMachineSound (m : Machine) : Type 0 where
   pub most : IsMost m.geometry m.shape.limit m.most
   pub granted : All (IsGranted m.shape m.most) (values_of m.handles)

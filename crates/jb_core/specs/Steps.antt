@@ -20,7 +20,8 @@ abbrev pub IsLeast : Machine → Event → Type 0
 IsLeast m (Take bounds) = IsLeastOf m bounds.items
 IsLeast m other = Unit {0}
 
--- an event that may take memory: a handle begins, changes a home block that is new to it, or joins the queue, or the queue is taken
+-- an event that may take memory: a handle begins, changes a home block that is new to it, or joins the queue, or the
+-- queue is taken
 abbrev pub Grows : Machine → Event → Type 0
 Grows m (Open seat credits) = Unit {0}
 Grows m (Touch seat op) = map.contains_key (held_at m seat).words (home_of op) ≡ false
@@ -37,12 +38,14 @@ RefusesEvent m event fault = event_refusal m event ≡ Some fault
 
 -- an event that nothing refuses changes the machine as it does, and one that is refused leaves it
 abbrev pub MachineSteps : Event → Machine → Result Reply CoreFault → Machine → Type 0
-MachineSteps event old (Ok reply) new = (event_refusal old event ≡ None) × IsLeast old event × (new ≡ after_event old event) × (reply ≡ reply_of old event)
+MachineSteps event old (Ok reply) new =
+    (event_refusal old event ≡ None) × IsLeast old event × (new ≡ after_event old event) × (reply ≡ reply_of old event)
 MachineSteps event old (Err fault) new = RefusesEvent old event fault × (new ≡ old)
 
 -- the same of a Take, by its bounds
 abbrev pub StepsTake : List ℕ → Machine → Result Reply CoreFault → Machine → Type 0
-StepsTake bounds old (Ok reply) new = (refusal_take old ≡ None) × IsLeastOf old bounds × (new ≡ after_take old bounds) × (reply ≡ Plain)
+StepsTake bounds old (Ok reply) new =
+    (refusal_take old ≡ None) × IsLeastOf old bounds × (new ≡ after_take old bounds) × (reply ≡ Plain)
 StepsTake bounds old (Err Memory) new = (refusal_take old ≡ None) × (new ≡ old)
 StepsTake bounds old (Err NotLeast) new = ((refusal_take old ≡ None) × (IsLeastOf old bounds → ⊥)) × (new ≡ old)
 StepsTake bounds old (Err fault) new = (refusal_take old ≡ Some fault) × (new ≡ old)

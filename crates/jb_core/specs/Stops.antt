@@ -2,11 +2,11 @@
 use Rattle.std.specs.Prelude.{◌≡◌, ◌≤◌, nat_lt, ◌&&◌, length, take, drop, vec_len, vec_capacity}
 use Rattle.jb_cost.specs.Cut.{RisesTo}
 use Rattle.jb_cost.specs.Pieces.{pieces_from}
-use Rattle.jb_core.specs.Line.{Line}
+use Rattle.jb_core.specs.Line.{MachineLine}
 use Rattle.jb_core.specs.declared.stops.Stops.TheInside.{Inside}
 
 -- the line of handles that the stops keep: settled, taken and queued ones, with the credits of those that wait
-abbrev pub line_of_stops : Inside → Line
+abbrev pub line_of_stops : Inside → MachineLine
 line_of_stops s = record {
   settled = pieces_from 0 (take s.settled s.ends.items) s.handles.items;
   taken = pieces_from s.settled_end (drop s.settled s.ends.items) s.handles.items;

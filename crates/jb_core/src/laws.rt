@@ -1,8 +1,8 @@
 //! Laws over the definitions alone. Their functions do nothing: the law is the contract.
 ghost use Rattle.jb_handle.specs.declared.shape.Shape.{Shape};
 ghost use Rattle.jb_core.specs.Machine.{Machine};
-ghost use Rattle.jb_core.specs.Lives.{Log};
-ghost use Rattle.jb_core.specs.MachineRuns.{Ran};
+ghost use Rattle.jb_core.specs.Lives.{EventLog};
+ghost use Rattle.jb_core.specs.MachineRuns.{RanFromStart};
 ghost use Rattle.jb_core.specs.SeatLaw.{SeatsAreMap};
 ghost use Rattle.jb_core.specs.Sound.{IsMachineSound};
 
@@ -11,7 +11,7 @@ ghost use Rattle.jb_core.specs.Sound.{IsMachineSound};
 #[tactic(auto, using(crate::proofs::SoundRuns::sounds))]
 pub fn sound()
     /// Every machine that a run reaches is sound.
-    ensures { (shape : Shape) (log : Log) (m : Machine) → Ran shape log m → IsMachineSound m }
+    ensures { (shape : Shape) (log : EventLog) (m : Machine) → RanFromStart shape log m → IsMachineSound m }
 {}
 
 /// The words on seats are those of a finite map: after a seat was set, changed or dropped it holds that, and every

@@ -1,7 +1,7 @@
 ghost use Rattle.std.specs.Prelude.{◌≡◌, ◌<◌, [], length, All, IfOk, OnErr};
 ghost use Rattle.jb_core.specs.Steps.{MachineSteps};
 ghost use Rattle.jb_core.specs.Lives.{log_from, IsKnown, IsWhole};
-ghost use Rattle.jb_core.specs.MachineRuns.{Ran};
+ghost use Rattle.jb_core.specs.MachineRuns.{RanFromStart};
 
 use crate::event::{CoreFault, Event, Reply};
 use crate::state::State;
@@ -53,7 +53,7 @@ pub fn run(
 ) -> Result<(State, Vec<Result<Reply, CoreFault>>), Memory>
     ensures each { IfOk result (λ end. length end.1.items ≡ length events.items) }
     ensures known { IfOk result (λ end. All IsKnown end.1.items) }
-    ensures ran { IfOk result (λ end. Ran shape (log_from [] events.items end.1.items) end.0) }
+    ensures ran { IfOk result (λ end. RanFromStart shape (log_from [] events.items end.1.items) end.0) }
     ensures grows { OnErr result (0 < length events.items) }
     /// With `ran`: Over every list of events the settled, taken and queued handles are those of the life's stops, each
     /// whole and once; once it has crashed, the settled ones are a prefix of them. Edit:

@@ -28,10 +28,10 @@ pub struct Stops {
 impl Model for Stops {
     ghost use Rattle.std.specs.Coded.{codes};
     ghost use Rattle.jb_handle.specs.Word.{words_code};
-    ghost use Rattle.jb_core.specs.Line.{Line};
+    ghost use Rattle.jb_core.specs.Line.{MachineLine};
     ghost use Rattle.jb_core.specs.Stops.{line_of_stops, IsInLine};
 
-    ghost Value = { Line };
+    ghost Value = { MachineLine };
 
     ghost coded = { Prim.hlevel (codes, words_code) };
 

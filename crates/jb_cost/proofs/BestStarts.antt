@@ -2,7 +2,7 @@
 use Rattle.std.proofs.Common.{◌≡◌, ℕ, ◌+◌, ◌-◌, ◌<◌, ◌≤◌, Bool, true, false, List, Option, Some, None, nat_lt, if◌then◌else◌, inl, inr, sym, ap, subst, ◌∙◌, refl, arith}
 use Rattle.std.proofs.lemmas.Bool.{ltb-true, ltb-false, cases_lt}
 use Rattle.std.proofs.lemmas.Option.{none-some, same_Some}
-use Rattle.jb_cost.specs.declared.stretch.Priced.{Priced}
+use Rattle.jb_cost.specs.declared.stretch.PricedStart.{PricedStart}
 use Rattle.jb_cost.specs.declared.group_start.GroupStart.{GroupStart}
 use Rattle.jb_cost.specs.Cut.{price}
 use Rattle.jb_cost.specs.Starts.{priced_of, found_start, dearer_by, better_of, LeastPrice, IsBestStart, BestStart}
@@ -63,7 +63,7 @@ module _ (c : ℕ → ℕ) (limit : ℕ) (ps : List (Option ℕ)) where
             becomes s one (λ i p more below fit is. let lowest = tried.least i p (omega (arith, more)) below fit is in omega arith)
 
   -- the starts of a stretch, which cost the same
-  best-alike : (from low cost : ℕ) → cost ≤ limit → ((i : ℕ) → from ≤ i → i < low → c i ≡ cost) → (earlier : Option Priced) → LeastPrice ps from low earlier → BestStart c limit ps from low (found_start earlier cost)
+  best-alike : (from low cost : ℕ) → cost ≤ limit → ((i : ℕ) → from ≤ i → i < low → c i ≡ cost) → (earlier : Option PricedStart) → LeastPrice ps from low earlier → BestStart c limit ps from low (found_start earlier cost)
   best-alike from low cost fits same None none = λ i p above below fit is. none i p above below is
   best-alike from low cost fits same (Some s) least =
       let here = same s.from least.above least.below in
@@ -78,7 +78,7 @@ module _ (c : ℕ → ℕ) (limit : ℕ) (ps : List (Option ℕ)) where
       }
 
   -- a stretch that ends with the handle before low, and the starts from low on
-  pub best-stretch : (from low cost end : ℕ) → from < low → low ≤ end → cost ≤ limit → ((i : ℕ) → from ≤ i → i < low → c i ≡ cost) → (best : Option GroupStart) (least : Option Priced) → LeastPrice ps from (low - 1 + 1) least
+  pub best-stretch : (from low cost end : ℕ) → from < low → low ≤ end → cost ≤ limit → ((i : ℕ) → from ≤ i → i < low → c i ≡ cost) → (best : Option GroupStart) (least : Option PricedStart) → LeastPrice ps from (low - 1 + 1) least
       → BestStart c limit ps low end best → BestStart c limit ps from end (better_of best (found_start least cost))
   best-stretch from low cost end before inside fits same best least lowest tried =
       let back : low - 1 + 1 ≡ low = omega arith in
@@ -129,7 +129,7 @@ best-as c d limit ps qs low end same alike s tried =
     (λ i above below fit. omega (arith, same i above below)) (λ i above below fit. (above, omega (arith, fit, same i above below))) s tried)
 
 -- least prices look only at the prices below their end
-pub least-as : (ps qs : List (Option ℕ)) (low high : ℕ) → ((i : ℕ) → i < high → price qs i ≡ price ps i) → (s : Option Priced) → LeastPrice ps low high s → LeastPrice qs low high s
+pub least-as : (ps qs : List (Option ℕ)) (low high : ℕ) → ((i : ℕ) → i < high → price qs i ≡ price ps i) → (s : Option PricedStart) → LeastPrice ps low high s → LeastPrice qs low high s
 least-as ps qs low high same None none = λ i p above below is. none i p above below (sym (same i below) ∙ is)
 least-as ps qs low high same (Some s) least = record {
   above = least.above;

@@ -11,8 +11,8 @@ use Rattle.std.proofs.lemmas.List.Sums.{sum_by-set, sum_by-drop_more, sum_by-tak
 use Rattle.std.proofs.lemmas.Map.Entries.{sum_by-insert_entry}
 use Rattle.jb_cost.specs.declared.owned.Touch.{Touch}
 use Rattle.jb_cost.specs.declared.owned.Owned.{Owned}
-use Rattle.jb_cost.specs.LastTouch.{owned_at, owned_from, counts_since, Counts, AreOwners, Owns, OwnsNoMore, Lose, copies_of, frees_of, left_copy, IsIdle}
-use Rattle.jb_cost.specs.declared.stretch.Priced.{Priced}
+use Rattle.jb_cost.specs.LastTouch.{owned_at, owned_from, counts_since, CountsLastTouches, AreOwners, Owns, OwnsNoMore, Lose, copies_of, frees_of, left_copy, IsIdle}
+use Rattle.jb_cost.specs.declared.stretch.PricedStart.{PricedStart}
 use Rattle.jb_cost.specs.declared.stretch.Stretch.{Stretch}
 use Rattle.jb_cost.specs.declared.span.Span.{Span}
 use Rattle.jb_cost.specs.declared.shortcuts.Shortcuts.{Shortcuts}
@@ -49,7 +49,7 @@ module _ (count : Owned → ℕ) (kind : Bool → Bool) (os : List Owned) where
       → (i : ℕ) → owned_from count (set os t.handle now) i ≡ owned_from count os i + counts_since kind i t
   gained t now inside more i = grind (arith, nat_tests, owned-set count os t.handle now inside i)
 
-  module _ (last : BTreeMap ℕ Touch) (ordered : IsOrdered nat_cmp last) (so_far : Counts count kind os last) (home : ℕ) where
+  module _ (last : BTreeMap ℕ Touch) (ordered : IsOrdered nat_cmp last) (so_far : CountsLastTouches count kind os last) (home : ℕ) where
     -- the handle that touched a home last owns it
     owns : (t : Touch) → get nat_cmp last home ≡ Some t → t.handle < length os → cond (kind t.copy) 1 0 ≤ count (owned_at os t.handle)
     owns t was inside =
@@ -63,7 +63,7 @@ module _ (count : Owned → ℕ) (kind : Bool → Bool) (os : List Owned) where
 
     -- a touch more, of a home that the handle before has lost
     counts-more : (mid now : List Owned) (next : BTreeMap ℕ Touch) (before : Option Touch) (t : Touch) → before ≡ get nat_cmp last home → next.entries ≡ insert_entry nat_cmp last.entries home t
-        → Lose count kind before os mid → ((i : ℕ) → owned_from count now i ≡ owned_from count mid i + counts_since kind i t) → Counts count kind now next
+        → Lose count kind before os mid → ((i : ℕ) → owned_from count now i ≡ owned_from count mid i + counts_since kind i t) → CountsLastTouches count kind now next
     counts-more mid now next before t was entries lose gain i =
         let sums : sum_by (counts_since kind i) (values next) + unwrap_or (option_map (counts_since kind i) before) 0 ≡ sum_by (counts_since kind i) (values last) + counts_since kind i t =
         rw (entries, was) (sum_by-insert_entry (counts_since kind i) nat_cmp_total last.entries home t ordered) in
@@ -163,7 +163,7 @@ module _ (os now : List Owned) (xs ys : List (Option Span)) (kept : KeepSpans os
       bests-kept ps bests k s is = let was = kept.known k s is in span-best-as os now (8 * k + 8) s (spans k s was.0) long was.1 ps (bests k s was.0)
 
 -- the shortcuts of one handle more, which has taken over homes of others
-pub fit-more : (os now : List Owned) (least : Option Priced) (was next : Shortcuts) (xs : List (Option Span)) → FitOwned os was → length now ≡ length os + 1
+pub fit-more : (os now : List Owned) (least : Option PricedStart) (was next : Shortcuts) (xs : List (Option Span)) → FitOwned os was → length now ≡ length os + 1
     → ((k : ℕ) → k < length os → OwnsNoMore (owned_at os k) (owned_at now k)) → KeepSpans os now was.spans.items xs
     → next.stretches.items ≡ was.stretches.items ++ record { from = length os; least = least } ∷ []
     → (length xs ≡ length was.stretches.items / 8 → length next.spans.items ≡ length next.stretches.items / 8)

@@ -3,7 +3,7 @@ use Rattle.std.proofs.Common.{◌≡◌, ℕ, ◌+◌, ◌-◌, ◌^◌, ◌<◌
 use Rattle.std.specs.Int.{div_ceil}
 use Rattle.jb_cost.specs.declared.geometry.Geometry.{Geometry}
 use Rattle.jb_cost.specs.declared.owned.Owned.{Owned}
-use Rattle.jb_cost.specs.declared.stretch.Priced.{Priced}
+use Rattle.jb_cost.specs.declared.stretch.PricedStart.{PricedStart}
 use Rattle.jb_cost.specs.declared.group_start.GroupStart.{GroupStart}
 use Rattle.jb_cost.specs.declared.span.Span.{Span}
 use Rattle.jb_cost.specs.LastTouch.{owned_at, owned_from, copies_of, frees_of, owned_cost, IsIdle}
@@ -25,7 +25,7 @@ within-better most (Some b) (Some s) one other = elim (nat_lt (b.price + b.cost)
 within-more : (low high : ℕ) (found : Option GroupStart) → low ≤ high → CostsWithin low found → CostsWithin high found
 within-more low high found more within f is = omega (arith, more, within f is)
 
-within-from : (most : ℕ) (least : Option Priced) → CostsWithin most (found_start least most)
+within-from : (most : ℕ) (least : Option PricedStart) → CostsWithin most (found_start least most)
 within-from most None f is = cc
 within-from most (Some s) f is = let same : Some (record { from = s.from; price = s.price; cost = most }) ≡ Some f = is in let cost : most ≡ f.cost = cc in omega (arith, cost)
 
@@ -41,7 +41,7 @@ pub record Counted (os : List Owned) (end low : ℕ) (sum : Owned) (least : Opti
 module _ {os : List Owned} {end low : ℕ} {sum : Owned} {best : Option GroupStart} (counted : Counted os end low sum best) (inside : (8 ≤ end) × (end ≤ length os)) (later : end - 8 < low)
     (now : Owned) (plus : record { copies : now.copies ≡ sum.copies + (owned_at os (low - 1)).copies; frees : now.frees ≡ sum.frees + (owned_at os (low - 1)).frees })
     (from : ℕ) (before : from ≤ low - 1) (idle : AreIdle os from (low - 1)) where
-  pub counted-more : (least : Option Priced) → Counted os end from now (better_of best (found_start least now.copies))
+  pub counted-more : (least : Option PricedStart) → Counted os end from now (better_of best (found_start least now.copies))
   counted-more least =
       let one = owned-one os low (omega arith) (omega (arith, counted.within)) in
       let same = idle-sums os from (low - 1) before (omega (arith, counted.within)) idle in
@@ -53,7 +53,7 @@ module _ {os : List Owned} {end low : ℕ} {sum : Owned} {best : Option GroupSta
         small = within-better now.copies best (found_start least now.copies) (within-more sum.copies now.copies best (omega (arith, plus)) counted.small) (within-from now.copies least);
       }
 
-  pub counted-best : owned_from copies_of os 0 ≤ 2 ^ 62 → (ps : List (Option ℕ)) (least : Option Priced) → LeastPrice ps from (low - 1 + 1) least → BestStart (copies_until os end) (2 ^ 62) ps low end best
+  pub counted-best : owned_from copies_of os 0 ≤ 2 ^ 62 → (ps : List (Option ℕ)) (least : Option PricedStart) → LeastPrice ps from (low - 1 + 1) least → BestStart (copies_until os end) (2 ^ 62) ps low end best
       → BestStart (copies_until os end) (2 ^ 62) ps from end (better_of best (found_start least now.copies))
   counted-best few ps least lowest tried =
       let short : low - 1 ≤ length os = omega (arith, counted.within) in

@@ -11,7 +11,7 @@ use Rattle.jb_cost.specs.Search.{IsWalk, GoesEarlier, BestSoFar, AreBeyondLimit}
 use Rattle.jb_cost.specs.Spans.{OwnTheSame, StillFit}
 use Rattle.jb_cost.specs.declared.best_start.StartSearch.{StartSearch}
 use Rattle.jb_cost.specs.declared.group_size.GroupSize.{GroupSize}
-use Rattle.jb_cost.specs.declared.stretch.Priced.{Priced}
+use Rattle.jb_cost.specs.declared.stretch.PricedStart.{PricedStart}
 use Rattle.jb_cost.specs.Cost.{blocks_of}
 use Rattle.jb_cost.proofs.Costs.{blocks-mono}
 use Rattle.jb_cost.proofs.BestStarts.{best-stretch}
@@ -117,7 +117,7 @@ module _ {os : List Owned} {w : StartSearch} (walk : IsWalk os w × (0 < w.low))
     stretch-sums = let same = idle-sums os from (w.low - 1) before (omega (arith, walk.0.within)) idle in (sums-here.0 ∙ sym same.0, sums-here.1 ∙ sym same.1)
 
     -- the best start with those of the stretch
-    pub stretch-best : (limit cost : ℕ) → cost ≡ blocks_of sum.geometry sum.copies.entries sum.frees.entries → cost ≤ limit → (ps : List (Option ℕ)) (least : Option Priced)
+    pub stretch-best : (limit cost : ℕ) → cost ≡ blocks_of sum.geometry sum.copies.entries sum.frees.entries → cost ≤ limit → (ps : List (Option ℕ)) (least : Option PricedStart)
         → LeastPrice ps from (w.low - 1 + 1) least → BestSoFar w.tally.geometry os limit ps w
         → BestStart (owned_cost w.tally.geometry os) limit ps from (length os) (better_of w.best (found_start least cost))
     stretch-best limit cost is fits ps least lowest tried =

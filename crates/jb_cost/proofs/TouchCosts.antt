@@ -19,7 +19,7 @@ use Rattle.jb_cost.specs.declared.last_touches.LastTouches.{LastTouches}
 use Rattle.jb_cost.specs.Cost.{blocks_of}
 use Rattle.jb_cost.specs.Cut.{price, piece_cost}
 use Rattle.jb_cost.specs.declared.owned.Owned.{Owned}
-use Rattle.jb_cost.specs.LastTouch.{Counts, later_touch, left_since, is_since, left_copy, copies_of, frees_of, owned_from, owned_cost}
+use Rattle.jb_cost.specs.LastTouch.{CountsLastTouches, later_touch, left_since, is_since, left_copy, copies_of, frees_of, owned_from, owned_cost}
 use Rattle.jb_cost.specs.Starts.{LeastPrice, stretch_at, AreLeast, priced_of}
 use Rattle.jb_cost.specs.Spans.{copies_until}
 use Rattle.jb_cost.specs.LastTouches.{PartsFit, TellsQueue, homes_owned}
@@ -78,7 +78,7 @@ of-kind kind (Some w) = refl
 
 module _ (g : Geometry) (hs : List Stopped) (n : ℕ) (ps : List (Option ℕ)) (t : LastTouches) (sound : PartsFit t) (tells : TellsQueue g hs n ps t) where
   -- the homes of a kind that the handles of a piece leave
-  piece-kind : (kind : Bool → Bool) (count : Owned → ℕ) → Counts count kind t.owned.items t.last → (i : ℕ) → i ≤ n → set.len (homes_of (λ w. kind (is_copy w)) (slice_range hs i n)) ≡ owned_from count t.owned.items i
+  piece-kind : (kind : Bool → Bool) (count : Owned → ℕ) → CountsLastTouches count kind t.owned.items t.last → (i : ℕ) → i ≤ n → set.len (homes_of (λ w. kind (is_copy w)) (slice_range hs i n)) ≡ owned_from count t.owned.items i
   piece-kind kind count counts i inside =
       let hs = slice_range hs i n in
       len-of_kind (is_since kind i) t.last.entries sound.owners.ordered _ (λ q. contains-homes_of _ hs q ∙ of-kind kind (word hs q) ∙ ap (is_of kind) (sym (tells.follows i q inside)) ∙ is_of-since kind i (get nat_cmp t.last q)) ∙ sym (counts i)

@@ -9,7 +9,8 @@ use Rattle.jb_handle.specs.Word.{WordMap, is_copy}
 use Rattle.jb_handle.specs.Words.{copies, frees}
 use Rattle.jb_cost.specs.declared.geometry.Geometry.{Geometry}
 
--- the blocks of a group of this many copies and this many frees: the commit block, the copies, the descriptors, the revoke blocks
+-- the blocks of a group of this many copies and this many frees: the commit block, the copies, the descriptors, the
+-- revoke blocks
 abbrev pub blocks_of : Geometry → ℕ → ℕ → ℕ
 blocks_of g copies frees = 1 + copies + div_ceil copies g.t + div_ceil frees g.r
 

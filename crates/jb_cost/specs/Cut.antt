@@ -1,6 +1,7 @@
--- Cuts of a list of handles into groups, the cuts with the least total, and the prices that show it.
--- Here `c i j` is what the handles from i up to, but without, j cost as one group, and `limit` is the most that a group may cost.
-use Rattle.std.specs.Prelude.{◌≡◌, ℕ, ◌+◌, ◌<◌, ◌≤◌, List, [], ◌∷◌, length, Option, Some, None, slice_index_or, slice_range}
+-- Cuts of a list of handles into groups, the cuts with the least total, and the prices that show it. Here `c i j` is
+-- what the handles from i up to, but without, j cost as one group, and `limit` is the most that a group may cost.
+use Rattle.std.specs.Prelude.{◌≡◌, ℕ, ◌+◌, ◌<◌, ◌≤◌, List, [], ◌∷◌, length, Option, Some, None, slice_index_or}
+use Rattle.std.specs.Prelude.{slice_range}
 use Rattle.jb_handle.specs.declared.stopped.Stopped.{Stopped}
 use Rattle.jb_cost.specs.declared.geometry.Geometry.{Geometry}
 use Rattle.jb_cost.specs.Cost.{cost}
@@ -68,12 +69,15 @@ module _ (c : ℕ → ℕ → ℕ) (limit : ℕ) where
     pub number : length ps ≡ n + 1
     pub each : (i : ℕ) → i ≤ n → IsPrice i (price ps i)
 
-  -- prices that no piece undercuts: that of no handles is 0, and none within the limit leads to less than the price of its end
+  -- prices that no piece undercuts: that of no handles is 0, and none within the limit leads to less than the price of
+  -- its end
   pub record Hold (n : ℕ) (ps : List (Option ℕ)) : Type 0 where
     pub start : price ps 0 ≡ Some 0
-    pub step : (i j p : ℕ) → i < j → j ≤ n → price ps i ≡ Some p → c i j ≤ limit → (q : ℕ) × (price ps j ≡ Some q) × (q ≤ p + c i j)
+    pub step : (i j p : ℕ) → i < j → j ≤ n → price ps i ≡ Some p → c i j ≤ limit
+        → (q : ℕ) × (price ps j ≡ Some q) × (q ≤ p + c i j)
 
-  -- i may come before j in a least cut: the piece between them fits, and the price of j is that of i and the piece's cost
+  -- i may come before j in a least cut: the piece between them fits, and the price of j is that of i and the piece's
+  -- cost
   pub record Attains (ps : List (Option ℕ)) (i j : ℕ) : Type 0 where
     pub before : i < j
     pub fits : c i j ≤ limit

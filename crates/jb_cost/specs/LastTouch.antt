@@ -1,5 +1,6 @@
 -- Which handle touched each home last, and how many homes each handle owns by that.
-use Rattle.std.specs.Prelude.{◌≡◌, ℕ, ◌+◌, ◌<◌, ◌≤◌, Bool, ◌&&◌, not, cond, nat_le, if◌then◌else◌, List, length, drop, slice_index_or, Option, Some, None, unwrap_or}
+use Rattle.std.specs.Prelude.{◌≡◌, ℕ, ◌+◌, ◌<◌, ◌≤◌, Bool, ◌&&◌, not, cond, nat_le, if◌then◌else◌, List, length, drop}
+use Rattle.std.specs.Prelude.{slice_index_or, Option, Some, None, unwrap_or}
 use Rattle.std.specs.Option.{option_map}
 use Rattle.std.specs.List.{sum_by}
 use Rattle.std.specs.Ordering.{nat_cmp}
@@ -56,15 +57,15 @@ abbrev pub left_copy : Bool → Bool
 left_copy copy = copy
 
 -- for each i, the handles from i on own the homes that one of them touched last
-abbrev pub Counts : (Owned → ℕ) → (Bool → Bool) → List Owned → BTreeMap ℕ Touch → Type 0
-Counts count kind os last = (i : ℕ) → owned_from count os i ≡ sum_by (counts_since kind i) (values last)
+abbrev pub CountsLastTouches : (Owned → ℕ) → (Bool → Bool) → List Owned → BTreeMap ℕ Touch → Type 0
+CountsLastTouches count kind os last = (i : ℕ) → owned_from count os i ≡ sum_by (counts_since kind i) (values last)
 
 -- each home is owned by the handle that touched it last
 pub record AreOwners (os : List Owned) (last : BTreeMap ℕ Touch) : Type 0 where
   pub ordered : IsOrdered nat_cmp last
   pub below : (q : ℕ) (t : Touch) → get nat_cmp last q ≡ Some t → t.handle < length os
-  pub copies : Counts copies_of left_copy os last
-  pub frees : Counts frees_of not os last
+  pub copies : CountsLastTouches copies_of left_copy os last
+  pub frees : CountsLastTouches frees_of not os last
 
 -- the handle of a touch owns a home that it left so
 pub record Owns (os : List Owned) (t : Touch) : Type 0 where
@@ -74,7 +75,8 @@ pub record Owns (os : List Owned) (t : Touch) : Type 0 where
 
 -- for each i, the handles from i on own one home of a kind less, if one of them had touched it last
 abbrev pub Lose : (Owned → ℕ) → (Bool → Bool) → Option Touch → List Owned → List Owned → Type 0
-Lose count kind before os now = (i : ℕ) → owned_from count now i + unwrap_or (option_map (counts_since kind i) before) 0 ≡ owned_from count os i
+Lose count kind before os now =
+    (i : ℕ) → owned_from count now i + unwrap_or (option_map (counts_since kind i) before) 0 ≡ owned_from count os i
 
 -- the last touch of a home, once handle n has this word there
 abbrev pub later_touch : ℕ → Option Word → Option Touch → Option Touch

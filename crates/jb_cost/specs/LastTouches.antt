@@ -15,7 +15,8 @@ use Rattle.jb_cost.specs.Spans.{FitOwned, FitPrices}
 abbrev pub homes_owned : LastTouches → ℕ
 homes_owned t = all_owned t.owned.items
 
--- the parts fit one another: each home is owned by the handle that touched it last, and the shortcuts fit what the handles own
+-- the parts fit one another: each home is owned by the handle that touched it last, and the shortcuts fit what the
+-- handles own
 pub record PartsFit (t : LastTouches) : Type 0 where
   pub owners : AreOwners t.owned.items t.last
   pub shortcuts : FitOwned t.owned.items t.shortcuts
@@ -25,5 +26,6 @@ pub record TellsQueue (g : Geometry) (hs : List Stopped) (n : ℕ) (ps : List (O
   pub geometry : t.geometry ≡ g
   pub number : length t.owned.items ≡ n
   pub within : n ≤ length hs
-  pub follows : (i q : ℕ) → i ≤ n → left_since i (get nat_cmp t.last q) ≡ option_map is_copy (word (slice_range hs i n) q)
+  pub follows : (i q : ℕ) → i ≤ n
+      → left_since i (get nat_cmp t.last q) ≡ option_map is_copy (word (slice_range hs i n) q)
   pub prices : FitPrices ps t.owned.items t.shortcuts

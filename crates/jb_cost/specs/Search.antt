@@ -28,7 +28,9 @@ BestSoFar g os limit ps w = BestStart (owned_cost g os) limit ps w.low (length o
 
 -- if its best start was that, by the prices that the shortcuts are of, it is so too where the search has gone on
 abbrev pub StaysBest : List Owned → ℕ → Shortcuts → StartSearch → Option StartSearch → Type 0
-StaysBest os limit k w next = (ps : List (Option ℕ)) → FitPrices ps os k → BestSoFar w.tally.geometry os limit ps w → IfSome next (BestSoFar w.tally.geometry os limit ps)
+StaysBest os limit k w next =
+    (ps : List (Option ℕ)) → FitPrices ps os k → BestSoFar w.tally.geometry os limit ps w
+    → IfSome next (BestSoFar w.tally.geometry os limit ps)
 
 -- no group from a start before low is within the limit
 abbrev pub AreBeyondLimit : Geometry → List Owned → ℕ → ℕ → Type 0

@@ -1,5 +1,6 @@
 -- Spans of eight handles, over which a search goes in one step, and the shortcuts of a search.
-use Rattle.std.specs.Prelude.{◌≡◌, ℕ, ◌+◌, ◌-◌, ◌*◌, ◌/◌, ◌^◌, ◌<◌, ◌≤◌, List, length, slice_index_or, Option, Some, None}
+use Rattle.std.specs.Prelude.{◌≡◌, ℕ, ◌+◌, ◌-◌, ◌*◌, ◌/◌, ◌^◌, ◌<◌, ◌≤◌, List, length, slice_index_or, Option, Some}
+use Rattle.std.specs.Prelude.{None}
 use Rattle.jb_cost.specs.declared.owned.Owned.{Owned}
 use Rattle.jb_cost.specs.declared.group_start.GroupStart.{GroupStart}
 use Rattle.jb_cost.specs.declared.span.Span.{Span}
@@ -47,7 +48,8 @@ OwnTheSame os now from end = (j : ℕ) → from ≤ j → j < end → owned_at n
 -- as many places, and each span that is known now was known before, and its handles own what they did
 pub record KeepSpans (os now : List Owned) (xs ys : List (Option Span)) : Type 0 where
   pub places : length ys ≡ length xs
-  pub known : (k : ℕ) (s : Span) → span_at ys k ≡ Some s → (span_at xs k ≡ Some s) × OwnTheSame os now s.from (8 * k + 8)
+  pub known : (k : ℕ) (s : Span) → span_at ys k ≡ Some s
+      → (span_at xs k ≡ Some s) × OwnTheSame os now s.from (8 * k + 8)
 
 -- a stretch for each handle and a place for each eight of them, and each fits what the handles own
 pub record FitOwned (os : List Owned) (k : Shortcuts) : Type 0 where

@@ -1,7 +1,9 @@
--- The best start of a group that ends with the last handle, and the least prices by which it is found.
--- Here `c i` is what the handles from i on cost as one group, `ps` has the price of each start, and `limit` is the most that a group may cost.
-use Rattle.std.specs.Prelude.{◌≡◌, ℕ, ◌+◌, ◌<◌, ◌≤◌, nat_lt, if◌then◌else◌, List, length, slice_index_or, Option, Some, None}
-use Rattle.jb_cost.specs.declared.stretch.Priced.{Priced}
+-- The best start of a group that ends with the last handle, and the least prices by which it is found. Here `c i` is
+-- what the handles from i on cost as one group, `ps` has the price of each start, and `limit` is the most that a group
+-- may cost.
+use Rattle.std.specs.Prelude.{◌≡◌, ℕ, ◌+◌, ◌<◌, ◌≤◌, nat_lt, if◌then◌else◌, List, length, slice_index_or, Option, Some}
+use Rattle.std.specs.Prelude.{None}
+use Rattle.jb_cost.specs.declared.stretch.PricedStart.{PricedStart}
 use Rattle.jb_cost.specs.declared.stretch.Stretch.{Stretch}
 use Rattle.jb_cost.specs.declared.group_start.GroupStart.{GroupStart}
 use Rattle.jb_cost.specs.declared.owned.Owned.{Owned}
@@ -9,18 +11,18 @@ use Rattle.jb_cost.specs.Cut.{price}
 use Rattle.jb_cost.specs.LastTouch.{IsIdle, owned_at}
 
 -- a start with its price, if it has one
-abbrev pub priced_of : ℕ → Option ℕ → Option Priced
+abbrev pub priced_of : ℕ → Option ℕ → Option PricedStart
 priced_of from None = None
 priced_of from (Some p) = Some (record { from = from; price = p })
 
 -- the one with the lesser price, the earlier one where the prices are equal
-abbrev pub lesser_of : Option Priced → Option Priced → Option Priced
+abbrev pub lesser_of : Option PricedStart → Option PricedStart → Option PricedStart
 lesser_of None later = later
 lesser_of (Some first) None = Some first
 lesser_of (Some first) (Some later) = if nat_lt later.price first.price then Some later else Some first
 
 -- a start whose group costs so much, if there is one
-abbrev pub found_start : Option Priced → ℕ → Option GroupStart
+abbrev pub found_start : Option PricedStart → ℕ → Option GroupStart
 found_start None cost = None
 found_start (Some s) cost = Some (record { from = s.from; price = s.price; cost = cost })
 
@@ -37,7 +39,7 @@ better_of (Some best) (Some s) = if nat_lt (best.price + best.cost) (s.price + s
 
 module _ (ps : List (Option ℕ)) (low high : ℕ) where
   -- no start from low up to high has a smaller price, and none before it has the same
-  pub record IsLeastPrice (s : Priced) : Type 0 where
+  pub record IsLeastPrice (s : PricedStart) : Type 0 where
     pub above : low ≤ s.from
     pub below : s.from < high
     pub is : price ps s.from ≡ Some s.price
@@ -45,7 +47,7 @@ module _ (ps : List (Option ℕ)) (low high : ℕ) where
     pub first : (i p : ℕ) → low ≤ i → i < s.from → price ps i ≡ Some p → s.price < p
 
   -- the least price from low up to high, or that no start there has one
-  abbrev pub LeastPrice : Option Priced → Type 0
+  abbrev pub LeastPrice : Option PricedStart → Type 0
   LeastPrice None = (i p : ℕ) → low ≤ i → i < high → price ps i ≡ Some p → ⊥
   LeastPrice (Some s) = IsLeastPrice s
 

@@ -1,4 +1,4 @@
-use crate::stretch::Priced;
+use crate::stretch::PricedStart;
 
 /// A start of a group, with its price and the cost of the group.
 #[derive(Clone, Copy, Debug, PartialEq, Eq)]
@@ -16,7 +16,7 @@ impl GroupStart {
     ghost use Rattle.jb_cost.specs.Starts.{better_of, dearer_by, found_start};
 
     /// A start whose group costs so much, if there is one.
-    pub(crate) fn of(start: Option<Priced>, cost: u64) -> Option<GroupStart>
+    pub(crate) fn of(start: Option<PricedStart>, cost: u64) -> Option<GroupStart>
         ensures { result ≡ found_start start cost }
     {
         let Some(start) = start else { return None };

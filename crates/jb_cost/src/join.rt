@@ -3,7 +3,7 @@ ghost use Rattle.jb_cost.specs.LastTouch.{IsIdle, owned_at};
 ghost use Rattle.jb_cost.specs.Starts.{LeastPrice, AreIdle, GoBack, AreLeast};
 
 use crate::owned::Owned;
-use crate::stretch::{Priced, Stretch};
+use crate::stretch::{PricedStart, Stretch};
 
 /// The stretch that ends with a handle, with those before it that have become idle.
 pub(crate) fn joined(owned: &[Owned], stretches: &[Stretch], start: usize) -> Stretch
@@ -20,7 +20,7 @@ pub(crate) fn joined(owned: &[Owned], stretches: &[Stretch], start: usize) -> St
         let earlier = stretches[joined.from - 1];
         joined = Stretch {
             from: earlier.from,
-            least: Priced::lesser(earlier.least, joined.least),
+            least: PricedStart::lesser(earlier.least, joined.least),
         };
     }
     joined

@@ -3,7 +3,7 @@ use crate::geometry::Geometry;
 use crate::group_start::GroupStart;
 use crate::owned::{Owned, Touch};
 use crate::shortcuts::Shortcuts;
-use crate::stretch::Priced;
+use crate::stretch::PricedStart;
 use crate::take_over::take_over;
 use jb_block::Memory;
 use jb_handle::Stopped;
@@ -63,7 +63,7 @@ impl LastTouches {
         let from = self.owned.len();
         let spans = &mut self.shortcuts.spans;
         take_over(&mut self.last, &mut self.owned, spans, &handle.words)?;
-        let least = Priced::of(from, start);
+        let least = PricedStart::of(from, start);
         self.shortcuts.push(from, least)?;
         Ok(())
     }

@@ -2,7 +2,7 @@ use crate::group_start::GroupStart;
 use crate::join::joined;
 use crate::owned::Owned;
 use crate::span::{SPAN, Span};
-use crate::stretch::{Priced, Stretch};
+use crate::stretch::{PricedStart, Stretch};
 use jb_block::Memory;
 use std::alloc::Global;
 
@@ -36,7 +36,7 @@ impl Shortcuts {
     }
 
     /// Adds the stretch of a further handle, which is its own start alone.
-    pub(crate) fn push(&mut self, from: usize, least: Option<Priced>) -> Result<(), Memory>
+    pub(crate) fn push(&mut self, from: usize, least: Option<PricedStart>) -> Result<(), Memory>
         ensures stretches { OnOk result
             (self.new.stretches.items ≡ self.old.stretches.items ++ record { from = from; least = least } ∷ []) }
         ensures places { OnOk result (length self.old.spans.items ≡ length self.old.stretches.items / 8 →

@@ -1,26 +1,29 @@
 /// A start of a group, and its price.
 #[derive(Clone, Copy)]
-pub(crate) struct Priced {
+pub(crate) struct PricedStart {
     pub(crate) from: usize,
     pub(crate) price: u64,
 }
 
-impl Priced {
+impl PricedStart {
     ghost use Rattle.std.specs.Prelude.{◌≡◌};
     ghost use Rattle.jb_cost.specs.Starts.{priced_of, lesser_of};
 
     /// A start with its price, if it has one.
-    pub(crate) fn of(from: usize, price: Option<u64>) -> Option<Priced>
+    pub(crate) fn of(from: usize, price: Option<u64>) -> Option<PricedStart>
         ensures { result ≡ priced_of from price }
     {
         match price {
-            Some(price) => Some(Priced { from, price }),
+            Some(price) => Some(PricedStart { from, price }),
             None => None,
         }
     }
 
     /// The one with the lesser price of two starts, the earlier one where the prices are equal.
-    pub(crate) fn lesser(earlier: Option<Priced>, later: Option<Priced>) -> Option<Priced>
+    pub(crate) fn lesser(
+        earlier: Option<PricedStart>,
+        later: Option<PricedStart>,
+    ) -> Option<PricedStart>
         ensures { result ≡ lesser_of earlier later }
     {
         let Some(first) = earlier else { return later };
@@ -36,5 +39,5 @@ impl Priced {
 #[derive(Clone, Copy)]
 pub(crate) struct Stretch {
     pub(crate) from: usize,
-    pub(crate) least: Option<Priced>,
+    pub(crate) least: Option<PricedStart>,
 }

@@ -1,8 +1,8 @@
 -- CRC-32C: the remainder of a message by the Castagnoli polynomial, with the lowest bit of each byte first.
 use Rattle.std.specs.Prelude.{ℕ, zero, suc, ◌/◌, ◌%◌, List, [], ◌∷◌, bit_xor, nat_eq, if◌then◌else◌}
 
--- x^32 + x^28 + x^27 + x^26 + x^25 + x^23 + x^22 + x^20 + x^19 + x^18 + x^14 + x^13 + x^11 + x^10 + x^9 + x^8 + x^6 + 1, without its first term: bit i of
--- a number stands for x^(31 - i)
+-- x^32 + x^28 + x^27 + x^26 + x^25 + x^23 + x^22 + x^20 + x^19 + x^18 + x^14 + x^13 + x^11 + x^10 + x^9 + x^8 + x^6 +
+-- 1, without its first term: bit i of a number stands for x^(31 - i)
 abbrev pub polynomial : ℕ
 polynomial = 0x82F63B78
 

@@ -6,11 +6,13 @@ use Rattle.jb_plan.specs.Costs.{HasCut}
 use Rattle.jb_book.specs.CallsToBook.{IsInHistory}
 use Rattle.jb_book.specs.Origin.{AreStops, Begun}
 use Rattle.jb_book.specs.Rounds.{end_of}
-use Rattle.jb_desk.specs.declared.queue_state.batch_out.Out.{Out}
+use Rattle.jb_desk.specs.declared.queue_state.batch_out.OutstandingBatch.{OutstandingBatch}
 
--- The batch has a handle at least, and a cut within the journal's limit. Its handles stopped with words that a handle may stop with, and are in the
--- history that was seen; its tickets are among this many that were given, and they are those that are out, and so is its shape
-pub record IsOut (b : Begun) (batch : Gathered) (given : ℕ) (seen : List WordMap) (out : Out) : Type 0 where
+-- The batch has a handle at least, and a cut within the journal's limit. Its handles stopped with words that a handle
+-- may stop with, and are in the history that was seen; its tickets are among this many that were given, and they are
+-- those that are out, and so is its shape
+pub record IsOut (b : Begun) (batch : Gathered) (given : ℕ) (seen : List WordMap) (out : OutstandingBatch)
+    : Type 0 where
   pub some : 0 < length batch.handles
   pub cut : HasCut batch.shape batch.handles
   pub stops : AreStops b batch.handles

@@ -21,7 +21,8 @@ EndsHolding Aborted held = held ≡ None
 EndsHolding Memory held = is_some held ≡ true
 EndsHolding Refused held = is_some held ≡ true
 
--- a checkpointer ends with a `Drained`, and no group was live in its journal at some time since the start; or it says that the journal has failed
+-- a checkpointer ends with a `Drained`, and no group was live in its journal at some time since the start; or it says
+-- that the journal has failed
 abbrev pub EndsChecking : {D : Type 0} → Ghosts D → Begun → Ended → Type 0
 EndsChecking G begun (Shut over) = HasNone G begun
 EndsChecking G begun Aborted = Unit {0}

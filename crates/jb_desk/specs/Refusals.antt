@@ -19,8 +19,8 @@ HandsBack handle (Aborted seat) = seat ≡ holder handle
 HandsBack handle (NotOpen back) = back ≡ handle
 HandsBack handle (Memory back) = back ≡ handle
 
--- credits that are too many are more than the number that the refusal names; that this is the most is known under the lock alone;
--- of the others nothing is known outside of it
+-- credits that are too many are more than the number that the refusal names; that this is the most is known under the
+-- lock alone; of the others nothing is known outside of it
 abbrev pub IsTooMany : ℕ → BeginFault → Type 0
 IsTooMany credits begin.Aborted = Unit {0}
 IsTooMany credits begin.Closed = Unit {0}

@@ -29,11 +29,14 @@ held_by c = c.batch
 
 -- all that was queued is taken as this batch, up to the ticket of the next handle that stops
 abbrev pub TakesQueue : Gathered → Account → Account → Type 0
-TakesQueue b old new = (b ≡ gathered old.shadow.taken old.shadow.queue old.shape) × HasCut old.shape old.shadow.queue × (end_of b ≡ new.shadow.next) × (new ≡ taken_all old)
+TakesQueue b old new =
+    (b ≡ gathered old.shadow.taken old.shadow.queue old.shape) × HasCut old.shape old.shadow.queue
+    × (end_of b ≡ new.shadow.next) × (new ≡ taken_all old)
 
 -- the batch that is held goes on, or else the queue is taken; none does in a book that has failed
 abbrev pub GivesBatch : Result (Option Gathered) RoundFault → Option Gathered → Account → Account → Type 0
-GivesBatch (Err fault) held old new = ((failed : HasAborted) × (fault ≡ Aborted failed)) × (old.aborted ≡ true) × (new ≡ old)
+GivesBatch (Err fault) held old new =
+    ((failed : HasAborted) × (fault ≡ Aborted failed)) × (old.aborted ≡ true) × (new ≡ old)
 GivesBatch (Ok given) (Some b) old new = (old.aborted ≡ false) × (given ≡ Some b) × (new ≡ old)
 GivesBatch (Ok (Some b)) None old new = CanTake old × TakesQueue b old new
 GivesBatch (Ok None) None old new = (old.aborted ≡ false) × (CanTake old → ⊥) × (new ≡ old)
@@ -61,19 +64,23 @@ abbrev pub StaysHeld : Option Gathered → Option Gathered → Type 0
 StaysHeld None new = is_some new ≡ true
 StaysHeld (Some b) new = new ≡ Some b
 
--- What a round answers, where the committer held such a batch before and after it, and its seat is sure of this many settled
--- tickets: a batch that is committed is settled whole, one handle at least, and the seat is sure of it; a batch stays held where it
--- may still be committed, and only there.
+-- What a round answers, where the committer held such a batch before and after it, and its seat is sure of this many
+-- settled tickets: a batch that is committed is settled whole, one handle at least, and the seat is sure of it; a batch
+-- stays held where it may still be committed, and only there.
 abbrev pub AnswersRound : Option Gathered → Option Gathered → ℕ → Result Round RoundFault → Type 0
 AnswersRound old new settled (Ok (Idle seen)) = (old ≡ None) × (new ≡ None)
-AnswersRound old new settled (Ok (Committed done)) = (new ≡ None) × ((past : ℕ) × Follow (first_ticket done) 0 past (entries_of done) × (first_ticket done < past) × (past ≤ settled) × IsOfHeld old (first_ticket done) past)
+AnswersRound old new settled (Ok (Committed done)) =
+    (new ≡ None) × ((past : ℕ) × Follow (first_ticket done) 0 past (entries_of done) × (first_ticket done < past)
+    × (past ≤ settled) × IsOfHeld old (first_ticket done) past)
 AnswersRound old new settled (Err (Aborted failed)) = new ≡ None
 AnswersRound old new settled (Err (DeviceFault failed)) = new ≡ None
 AnswersRound old new settled (Err Memory) = StaysHeld old new
 AnswersRound old new settled (Err Refused) = StaysHeld old new
 
--- a round that finds nothing to commit leaves the seat as it was, and has looked at a book in which all that was seen had stopped
-abbrev pub IdleKeeps : {H N : Type 0} {O : Ghosts H} {P : Places H} → ℕ → Seat H N O P → Seat H N O P → Result Round RoundFault → Type 0
+-- a round that finds nothing to commit leaves the seat as it was, and has looked at a book in which all that was seen
+-- had stopped
+abbrev pub IdleKeeps : {H N : Type 0} {O : Ghosts H} {P : Places H} → ℕ → Seat H N O P → Seat H N O P
+    → Result Round RoundFault → Type 0
 IdleKeeps seen old new (Ok (Idle none)) = (new ≡ old) × (seen ≤ none.seen.stopped)
 IdleKeeps seen old new (Ok (Committed done)) = Unit {0}
 IdleKeeps seen old new (Err fault) = Unit {0}

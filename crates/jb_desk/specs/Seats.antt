@@ -58,21 +58,25 @@ pub record KeepsSeat {H N : Type 0} {O : Ghosts H} {P : Places H} (old new : Sea
   pub counted : KeepsStops old new
 
 -- one handle more stopped with the seat: under this ticket and with these changes
-pub record AddsStop {H N : Type 0} {O : Ghosts H} {P : Places H} (ticket : ℕ) (handle : Held) (old new : Seat H N O P) : Type 0 where
+pub record AddsStop {H N : Type 0} {O : Ghosts H} {P : Places H} (ticket : ℕ) (handle : Held) (old new : Seat H N O P)
+    : Type 0 where
   pub stopped : stops new ≡ stops old + 1
   pub touched : changes new ≡ changes old + touched_count handle
   pub made : made_by new ≡ made_by old ++ (ticket, handle.words) ∷ []
 
--- the seat is the same but for the handle that stopped with it: it counts the handle, and is sure that the tickets up to
--- the handle's have stopped
-pub record CountsStop {H N : Type 0} {O : Ghosts H} {P : Places H} (ticket : ℕ) (handle : Held) (old new : Seat H N O P) : Type 0 where
+-- the seat is the same but for the handle that stopped with it: it counts the handle, and is sure that the tickets up
+-- to the handle's have stopped
+pub record CountsStop {H N : Type 0} {O : Ghosts H} {P : Places H} (ticket : ℕ) (handle : Held) (old new : Seat H N O P)
+    : Type 0 where
   pub desk : desk_of new ≡ desk_of old
   pub number : seat_number new ≡ seat_number old
   pub counted : AddsStop ticket handle old new
   pub view : view_of new ≡ raised_stopped (view_of old) (ticket + 1)
 
--- what seats have left adds up to this many handles, and to this many home blocks that these had touched; neither is above 2 ^ 61
-pub record AddsUp {H N : Type 0} {O : Ghosts H} {P : Places H} (lefts : List (Left H N O P)) (handles touched : ℕ) : Type 0 where
+-- what seats have left adds up to this many handles, and to this many home blocks that these had touched; neither is
+-- above 2 ^ 61
+pub record AddsUp {H N : Type 0} {O : Ghosts H} {P : Places H} (lefts : List (Left H N O P)) (handles touched : ℕ)
+    : Type 0 where
   pub all_handles : handles ≡ sum_by stops_left lefts
   pub all_touched : touched ≡ sum_by changes_left lefts
   pub few_handles : handles ≤ 2 ^ 61

@@ -11,8 +11,10 @@ use Rattle.jb_desk.specs.declared.seat.Seat.{Seat}
 use Rattle.jb_desk.specs.declared.fault.StopFault.{StopFault}
 use Rattle.jb_desk.specs.declared.fault.StopFault.TheVariants.{Aborted, NotOpen, Memory}
 
--- the handle has stopped: its words are queued under the next ticket, and its seat counts it and the homes that it touched
-pub record IsStopped {H N : Type 0} {O : Ghosts H} {P : Places H} (handle : Handle (Seat H N O P)) (old : Account) (seat : Seat H N O P) (ticket : ℕ) (new : Account) : Type 0 where
+-- the handle has stopped: its words are queued under the next ticket, and its seat counts it and the homes that it
+-- touched
+pub record IsStopped {H N : Type 0} {O : Ghosts H} {P : Places H} (handle : Handle (Seat H N O P)) (old : Account)
+    (seat : Seat H N O P) (ticket : ℕ) (new : Account) : Type 0 where
   pub same_number : seat.number ≡ (holder handle).number
   pub same_board : seat.board ≡ (holder handle).board
   pub could : CanStop old seat.number (changes_of handle).words
@@ -22,7 +24,11 @@ pub record IsStopped {H N : Type 0} {O : Ghosts H} {P : Places H} (handle : Hand
   pub counted : AddsStop ticket (changes_of handle) (holder handle) seat
 
 -- why it has not, and what is kept
-abbrev pub RefusesStopOf : {H N : Type 0} {O : Ghosts H} {P : Places H} → Handle (Seat H N O P) → Account → StopFault H N O P → Account → Type 0
-RefusesStopOf handle old (Aborted seat) new = (old.aborted ≡ true) × (seat ≡ holder handle) × (new ≡ dropped_of seat.number old)
-RefusesStopOf handle old (NotOpen back) new = RefusesStop old (holder handle).number (changes_of handle).words book.NotOpen × (back ≡ handle) × (new ≡ old)
-RefusesStopOf handle old (Memory back) new = RefusesStop old (holder handle).number (changes_of handle).words book.Memory × (back ≡ handle) × (new ≡ old)
+abbrev pub RefusesStopOf : {H N : Type 0} {O : Ghosts H} {P : Places H} → Handle (Seat H N O P) → Account
+    → StopFault H N O P → Account → Type 0
+RefusesStopOf handle old (Aborted seat) new =
+    (old.aborted ≡ true) × (seat ≡ holder handle) × (new ≡ dropped_of seat.number old)
+RefusesStopOf handle old (NotOpen back) new =
+    RefusesStop old (holder handle).number (changes_of handle).words book.NotOpen × (back ≡ handle) × (new ≡ old)
+RefusesStopOf handle old (Memory back) new =
+    RefusesStop old (holder handle).number (changes_of handle).words book.Memory × (back ≡ handle) × (new ≡ old)

@@ -25,20 +25,22 @@ with_taken past v = front v.settled (max v.taken past) (max v.stopped past)
 abbrev pub with_settled : ℕ → Front → Front
 with_settled past v = front (max v.settled past) (max v.taken past) (max v.stopped past)
 
--- why a wait for this ticket names no group, and what it makes of its seat: where the group's entry was taken the ticket is settled, and the seat is sure of
--- it; otherwise the seat is as it was
-abbrev pub RefusesWait : {H N : Type 0} {O : Ghosts H} {P : Places H} → ℕ → Seat H N O P → Seat H N O P → WaitFault → Type 0
+-- why a wait for this ticket names no group, and what it makes of its seat: where the group's entry was taken the
+-- ticket is settled, and the seat is sure of it; otherwise the seat is as it was
+abbrev pub RefusesWait : {H N : Type 0} {O : Ghosts H} {P : Places H} → ℕ → Seat H N O P → Seat H N O P → WaitFault
+    → Type 0
 RefusesWait ticket old new wait.Aborted = new ≡ old
 RefusesWait ticket old new wait.Taken = view_of new ≡ with_settled (ticket + 1) (view_of old)
 RefusesWait ticket old new wait.Unknown = new ≡ old
 
--- what the commit of a taken batch makes of them: the batch is settled whole, or after a fault of the disk a prefix of it
--- and not all, or nothing is
+-- what the commit of a taken batch makes of them: the batch is settled whole, or after a fault of the disk a prefix of
+-- it and not all, or nothing is
 abbrev pub SeesCommit : Gathered → Front → Front → Result Round RoundFault → Type 0
 SeesCommit b old new (Ok (Idle seen)) = ⊥
 SeesCommit b old new (Ok (Committed done)) = new ≡ raised_settled old (end_of b)
 SeesCommit b old new (Err (Aborted failed)) = new ≡ old
-SeesCommit b old new (Err (DeviceFault failed)) = (lost : ℕ) × (b.first ≤ lost) × (lost < end_of b) × (new ≡ raised_settled old lost)
+SeesCommit b old new (Err (DeviceFault failed)) =
+    (lost : ℕ) × (b.first ≤ lost) × (lost < end_of b) × (new ≡ raised_settled old lost)
 SeesCommit b old new (Err Memory) = new ≡ old
 SeesCommit b old new (Err Refused) = new ≡ old
 
@@ -61,9 +63,10 @@ pub record TakesUp (seen : ℕ) (held : Option Gathered) (b : Gathered) : Type 0
   pub next : IsNextBatch seen held b
   pub some : 0 < length b.handles
 
--- What a round makes of them, where this many handles were seen and the committer held such a batch before and after it: nothing where it takes up no batch;
--- otherwise its batch is taken, and then committed
+-- What a round makes of them, where this many handles were seen and the committer held such a batch before and after
+-- it: nothing where it takes up no batch; otherwise its batch is taken, and then committed
 abbrev pub SeesRound : ℕ → Option Gathered → Option Gathered → Front → Front → Result Round RoundFault → Type 0
 SeesRound seen held after old new result =
     (TakesNone result × (new ≡ old))
-    ⊎ ((b : Gathered) × TakesUp seen held b × AnswersRound (Some b) after new.settled result × SeesCommit b (with_taken (end_of b) old) new result)
+    ⊎ ((b : Gathered) × TakesUp seen held b × AnswersRound (Some b) after new.settled result
+    × SeesCommit b (with_taken (end_of b) old) new result)

@@ -2,7 +2,7 @@
 ghost use Rattle.std.specs.Prelude.{◌≡◌, None, Some, Ok, Err, OnOk, IfErr};
 
 use crate::held_batch::HeldBatch;
-use crate::queue_state::{HasAborted, NothingToTake, Out};
+use crate::queue_state::{HasAborted, NothingToTake, OutstandingBatch};
 use crate::seat::Seat;
 use jb_board::Tickets;
 use jb_book::{Origin, Sights};
@@ -50,7 +50,7 @@ impl<H: Origin, N: Ledger> Committer<H, N> {
         prepared: Prepared,
         tickets: Tickets<H>,
         seen: Sights<D, H>,
-        out: Out,
+        out: OutstandingBatch,
     )
         requires free { self.old.batch ≡ None }
         requires out { IsOut H.begun prepared.batch (given_by tickets) seen.stops out }

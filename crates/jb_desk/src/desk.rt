@@ -20,12 +20,12 @@ use crate::fair_queue::FairQueue;
 use crate::fault::{SeatFault, StopFault, WaitFault};
 use crate::queue_state::QueueState;
 use crate::seat::{Left, Seat};
-use crate::shown::Shown;
+use crate::shown::SharedBoard;
 use crate::signals::Signals;
 use crate::stop_ledger::StopLedger;
 use crate::waits::Waits;
 pub use closing::{CloseFault, Closed};
-use jb_board::{Board, Front, Opened};
+use jb_board::{Board, Front, NewHistory};
 use jb_book::{BeginFault, Histories, JournalState, Marks, Origin, Register, Sights};
 use jb_deck::Deck;
 use jb_disk::{Clock, Disk};
@@ -45,7 +45,7 @@ pub struct Desk<D: Disk, C: Clock, H: Origin, N: Ledger> {
     signals: Signals,
     fair_queue: FairQueue,
     waits: Waits,
-    board: Shown<H>,
+    board: SharedBoard<H>,
     histories: Histories<D, H>,
     shape: Shape,
     alloc: Global,
@@ -75,10 +75,10 @@ impl<D: Disk, C: Clock, H: Origin, N: Ledger> Desk<D, C, H, N> {
         alloc: Global,
         handles: StopLedger,
         changes: Blank,
-        marks: Opened<Deck<D>>,
+        marks: NewHistory<Deck<D>>,
         deck: Deck<D>,
         clock: C,
-    ) -> Result<Desk<D, C, H, N>, (StopLedger, Blank, Opened<Deck<D>>, Deck<D>, C)>
+    ) -> Result<Desk<D, C, H, N>, (StopLedger, Blank, NewHistory<Deck<D>>, Deck<D>, C)>
         requires handles { (handles.tickets.name ≡ H.name) × (handles.tickets.parts ≡ H.parts)
             × (H.parts ≡ 2 ^ 61 + 1) }
         requires histories { (history_in handles ≡ H.history) × (history_id marks ≡ H.marks) }
@@ -107,7 +107,7 @@ impl<D: Disk, C: Clock, H: Origin, N: Ledger> Desk<D, C, H, N> {
             signals: Signals::new(),
             fair_queue: FairQueue::new(),
             waits: Waits::new(),
-            board: Shown::new(board),
+            board: SharedBoard::new(board),
             histories,
             shape,
             alloc,

@@ -1,7 +1,7 @@
 //! A batch that a committer holds.
 ghost use Rattle.std.specs.Prelude.{◌≡◌};
 
-use crate::queue_state::{HasAborted, Out};
+use crate::queue_state::{HasAborted, OutstandingBatch};
 use jb_board::{Prefix, Tickets};
 use jb_book::Origin;
 use jb_deck::Batch;
@@ -16,7 +16,7 @@ pub struct HeldBatch<H: Origin> {
     batch: Batch,
     tickets: Tickets<H>,
     prefix: Prefix<Words, H>,
-    out: Out,
+    out: OutstandingBatch,
 }
 
 impl<H: Origin> Model for HeldBatch<H> {
@@ -44,7 +44,7 @@ impl<H: Origin> HeldBatch<H> {
         batch: Batch,
         tickets: Tickets<H>,
         prefix: Prefix<Words, H>,
-        out: Out,
+        out: OutstandingBatch,
     ) -> HeldBatch<H>
         requires { IsOut H.begun batch (given_by tickets) prefix out }
         ensures { result ≡ batch }
@@ -58,7 +58,7 @@ impl<H: Origin> HeldBatch<H> {
     }
 
     /// The batch again, that its tickets were given, what has its handles, and that it is out.
-    pub(crate) fn end(self) -> (Batch, Tickets<H>, Prefix<Words, H>, Out)
+    pub(crate) fn end(self) -> (Batch, Tickets<H>, Prefix<Words, H>, OutstandingBatch)
         ensures batch { result.0 ≡ self }
         /// A batch that is held for a round has handles of the history of stops, with their words; it has the tickets
         /// and the shape with which it is out.

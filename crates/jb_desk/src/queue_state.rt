@@ -17,7 +17,7 @@ mod waiting;
 use crate::fault::WaitFault;
 use crate::seat::{Left, Seat};
 pub use aborted::HasAborted;
-pub(crate) use batch_out::Out;
+pub(crate) use batch_out::OutstandingBatch;
 pub(crate) use book_counts::BookCounts;
 pub use drained::Drained;
 use jb_board::{BoardSeat, OwnEntries, Tickets};

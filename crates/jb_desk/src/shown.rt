@@ -11,16 +11,16 @@ use jb_book::Origin;
 /// The board of a desk. Its count of stopped tickets goes up to tickets that were given, and its counts of taken and of
 /// settled ones up to those of a look at the book under its lock.
 #[derive(Drop)]
-pub(crate) struct Shown<H: Origin> {
+pub(crate) struct SharedBoard<H: Origin> {
     board: Board<H>,
 }
 
-impl<H: Origin> Shown<H> {
+impl<H: Origin> SharedBoard<H> {
     /// This board.
-    pub fn new(board: Board<H>) -> Shown<H>
+    pub fn new(board: Board<H>) -> SharedBoard<H>
         ensures { result.board ≡ board }
     {
-        Shown { board }
+        SharedBoard { board }
     }
 
     /// A new seat, which has seen nothing.

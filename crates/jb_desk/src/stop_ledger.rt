@@ -2,7 +2,7 @@
 ghost use Rattle.std.specs.Prelude.{◌≡◌, IfOk};
 
 use jb_block::Memory;
-use jb_board::Opened;
+use jb_board::NewHistory;
 use jb_handle::Words;
 use std::alloc::Global;
 use std::sync::ledger::Blank;
@@ -14,7 +14,7 @@ pub struct StopLedger {
     /// The ledger.
     pub tickets: Blank,
     /// The history.
-    pub history: Opened<Words>,
+    pub history: NewHistory<Words>,
 }
 
 impl StopLedger {
@@ -28,7 +28,7 @@ impl StopLedger {
     {
         Ok(StopLedger {
             tickets: Blank::new(parts),
-            history: Opened::new(alloc)?,
+            history: NewHistory::new(alloc)?,
         })
     }
 }

@@ -1,6 +1,6 @@
 -- Runs of calls, and runs as steps, for any disk: what the crates above cite for each call, each loop and each way out.
 use Rattle.std.proofs.Common.{◌≤◌, ℕ, refl, sym, subst, inl, inr, ⊎_elim, arith}
-use Rattle.jb_disk.specs.Image.{Image, Same, Only}
+use Rattle.jb_disk.specs.Image.{Image, ChangesNothing, Only}
 use Rattle.jb_disk.specs.Time.{Goes, LeavesOnly}
 use Rattle.jb_disk.specs.Steps.{Steps}
 use Rattle.jb_disk.specs.Throughout.{AllHave, Throughout}
@@ -18,7 +18,7 @@ module _ {D : Type 0} (may_leave : D → Image → Type 0) (moment : D → ℕ) 
   -- ---- one call
 
   -- no call at all
-  pub goes-none : (old : D) → Goes may_leave moment left_since Same old old
+  pub goes-none : (old : D) → Goes may_leave moment left_since ChangesNothing old old
   goes-none old = record {
     crash = λ c now. (c, now, refl);
     later = omega arith;
@@ -27,7 +27,7 @@ module _ {D : Type 0} (may_leave : D → Image → Type 0) (moment : D → ℕ) 
   }
 
   -- a call that changes no block is one that may change some
-  pub goes-as : (step : Image → Image → Type 0) (old new : D) → ((c : Image) → step c c) → Goes may_leave moment left_since Same old new → Goes may_leave moment left_since step old new
+  pub goes-as : (step : Image → Image → Type 0) (old new : D) → ((c : Image) → step c c) → Goes may_leave moment left_since ChangesNothing old new → Goes may_leave moment left_since step old new
   goes-as step old new stays call = record {
     crash = λ c now. let from = call.crash c now in (from.0, from.1, subst (λ d. step from.0 d) (sym from.2) (stays from.0));
     later = call.later;
@@ -36,7 +36,7 @@ module _ {D : Type 0} (may_leave : D → Image → Type 0) (moment : D → ℕ) 
   }
 
   -- a call after one that changed no block
-  pub goes-on : (step : Image → Image → Type 0) (old mid new : D) → CountsNow old → Goes may_leave moment left_since Same old mid → Goes may_leave moment left_since step mid new → Goes may_leave moment left_since step old new
+  pub goes-on : (step : Image → Image → Type 0) (old mid new : D) → CountsNow old → Goes may_leave moment left_since ChangesNothing old mid → Goes may_leave moment left_since step mid new → Goes may_leave moment left_since step old new
   goes-on step old mid new counts_now first second =
       let back : (c : Image) → may_leave mid c → may_leave old c = λ c now. let from = first.crash c now in subst (may_leave old) (sym from.2) from.1 in
       record {
@@ -105,9 +105,9 @@ module _ {D : Type 0} (may_leave : D → Image → Type 0) (moment : D → ℕ) 
   steps-on step next old mid new joins first second = steps-joined step next step old mid new (λ c d one. one) joins first second
 
   -- a run after one that changed no block
-  pub steps-then : (step : Image → Image → Type 0) (old mid new : D) → ((c : Image) → step c c) → Steps may_leave moment left_since Same old mid → Steps may_leave moment left_since step mid new → Steps may_leave moment left_since step old new
+  pub steps-then : (step : Image → Image → Type 0) (old mid new : D) → ((c : Image) → step c c) → Steps may_leave moment left_since ChangesNothing old mid → Steps may_leave moment left_since step mid new → Steps may_leave moment left_since step old new
   steps-then step old mid new stays first second =
-      steps-joined Same step step old mid new (λ c d same. subst (step c) (sym same) (stays c)) (λ c d e same one. subst (λ from. step from e) same one) first second
+      steps-joined ChangesNothing step step old mid new (λ c d same. subst (step c) (sym same) (stays c)) (λ c d e same one. subst (λ from. step from e) same one) first second
 
   -- where a crash before the run leaves one image alone
   pub steps-settled : (step : Image → Image → Type 0) (old new : D) (base : Image) → Only base (may_leave old) → Steps may_leave moment left_since step old new → LeavesOnly moment left_since old new (step base)

@@ -4,7 +4,7 @@ use Rattle.std.proofs.lemmas.Nat.{mod_below}
 use Rattle.jb_block.specs.declared.size.BlockSize.{BlockSize}
 use Rattle.jb_block.specs.declared.size.BlockSize.TheVariants.{OneKib}
 use Rattle.jb_block.specs.Size.{bytes_of}
-use Rattle.jb_disk.specs.History.{History, HistoryStep, Wrote, Synced, AreWhole, IsHistorySound, MayLeave}
+use Rattle.jb_disk.specs.History.{DiskHistory, HistoryStep, Wrote, Synced, AreWhole, IsHistorySound, MayLeave}
 use Rattle.jb_disk.specs.CrashWrites.{writes_at, any_below}
 use Rattle.jb_disk.specs.Image.{Image, block, sector, HasShape}
 use Rattle.jb_disk.specs.Versions.{IsAmong, IsChosen, synced, written, written_below, version, versions, one_if_any}
@@ -49,14 +49,14 @@ chosen_by_history count sectors first stable now steps table choice before each 
     ∙ ap (λ n. sector k (version (versions first steps place) (get_or choice (n * sectors + k) 0))) (any_below-is count table steps each place (omega (arith, inside)))
 
 -- an image of the disk's shape that takes a version for each sector is one that a crash may leave
-pub takes_left : (h : History) (c : Image) → IsHistorySound h → HasShape h.count (bytes_of h.size) c
+pub takes_left : (h : DiskHistory) (c : Image) → IsHistorySound h → HasShape h.count (bytes_of h.size) c
     → ((p k : ℕ) → p < h.count → k < bytes_of h.size / 512 → IsAmong (versions h.first h.steps p) k (sector k (block c p))) → MayLeave h.first h.steps c
 takes_left h c sound shape =
     choice_left h.count (bytes_of h.size / 512) h.first h.steps c
     (rw (whole_sectors h.size) at sound.shape) (rw (whole_sectors h.size) at sound.whole) (rw (whole_sectors h.size) at shape)
 
 -- and so is one that a choice names
-pub chosen_left : (h : History) (choice : List ℕ) (c : Image) → IsHistorySound h → IsChosen h choice c → MayLeave h.first h.steps c
+pub chosen_left : (h : DiskHistory) (choice : List ℕ) (c : Image) → IsHistorySound h → IsChosen h choice c → MayLeave h.first h.steps c
 chosen_left h choice c sound is = takes_left h c sound is.shape
     (λ place k inside less.
     let number : ℕ = get_or choice (written_below h.steps place * (bytes_of h.size / 512) + k) 0 in (
@@ -123,10 +123,10 @@ named base (w ∷ writes) k number x among is =
     ∙ ap (λ n. sector k (get_or (base ∷ w ∷ writes) n [])) (sym (mod-eq_of_lt among.1))
     ∙ ap (λ n. sector k (version (base ∷ w ∷ writes) n)) (sym (is refl))
 
-left_shape : (h : History) (c : Image) → IsHistorySound h → MayLeave h.first h.steps c → HasShape h.count (bytes_of h.size) c
+left_shape : (h : DiskHistory) (c : Image) → IsHistorySound h → MayLeave h.first h.steps c → HasShape h.count (bytes_of h.size) c
 left_shape h c sound left = left_has_shape h.count (bytes_of h.size) h.first h.steps c sound.shape sound.whole left
 
-chosen : (h : History) (c : Image) → IsHistorySound h → MayLeave h.first h.steps c → (choice : List ℕ) × IsChosen h choice c
+chosen : (h : DiskHistory) (c : Image) → IsHistorySound h → MayLeave h.first h.steps c → (choice : List ℕ) × IsChosen h choice c
 chosen h c sound left =
     let sectors : ℕ = bytes_of h.size / 512 in
     let among : (p k : ℕ) → IsAmong (versions h.first h.steps p) k (sector k (block c p)) = image_takes h.first h.steps c left in
@@ -140,11 +140,11 @@ chosen h c sound left =
       },
     )
 
-pub left-versions : (h : History) (c : Image) → IsHistorySound h → MayLeave h.first h.steps c ↔ TakesVersions h c
+pub left-versions : (h : DiskHistory) (c : Image) → IsHistorySound h → MayLeave h.first h.steps c ↔ TakesVersions h c
 left-versions h c sound = (
   λ left. record { shape = left_shape h c sound left; each = λ place k inside less. image_takes h.first h.steps c left place k },
   λ takes. takes_left h c sound takes.shape takes.each,
 )
 
-pub left-chosen : (h : History) (c : Image) → IsHistorySound h → MayLeave h.first h.steps c ↔ ((choice : List ℕ) × IsChosen h choice c)
+pub left-chosen : (h : DiskHistory) (c : Image) → IsHistorySound h → MayLeave h.first h.steps c ↔ ((choice : List ℕ) × IsChosen h choice c)
 left-chosen h c sound = (chosen h c sound, λ is. chosen_left h is.0 c sound is.1)

@@ -4,9 +4,9 @@ use Rattle.std.proofs.lemmas.Result.{on_ok_weaker}
 use Rattle.jb_disk.specs.Image.{Image, block, Torn, HasShape}
 use Rattle.jb_disk.specs.Runs.{IsOutside, ReadsRun, WroteRun, TornRun, part}
 use Rattle.jb_disk.specs.Time.{Goes}
-use Rattle.jb_disk.specs.Events.{Event, Asked, Gave, Flushed, Measured, InBlocks, Makes, Agree, LeftBy, Leaves, LeftFrom, IsHonestFile, NoneAfter, NoneFailed, IsUnfailed}
+use Rattle.jb_disk.specs.Events.{SystemCall, Asked, Gave, Flushed, Measured, InBlocks, Makes, Agree, LeftBy, Leaves, LeftFrom, IsHonestFile, NoneAfter, NoneFailed, IsUnfailed}
 use Rattle.jb_disk.specs.Faults.{CountsFault, CountsOne, most_faults}
-use Rattle.jb_disk.specs.Kept.{Kept, OnlyReads}
+use Rattle.jb_disk.specs.Kept.{IsDiskKept, OnlyReads}
 use Rattle.jb_disk.specs.RecordLaws.{torn_of_wrote, newest_left}
 use Rattle.jb_disk.specs.declared.fault.Fault.{Fault}
 use Rattle.jb_disk.proofs.RunWrites.{wrote_run-more, wrote_run-none, wrote_run-one}
@@ -43,9 +43,9 @@ wrote_one size place bytes old new long inside wrote =
 
 -- ---- the calls of a disk whose record grows
 
-module _ {D : Type 0} (size : D → ℕ) (content : ℕ → Image) (events : D → List Event) where
+module _ {D : Type 0} (size : D → ℕ) (content : ℕ → Image) (events : D → List SystemCall) where
   -- what a crash may leave goes on as the call lets it
-  pub goes_event : (step : Image → Image → Type 0) (old new : D) (e : Event) → size new ≡ size old → events new ≡ e ∷ events old
+  pub goes_event : (step : Image → Image → Type 0) (old new : D) (e : SystemCall) → size new ≡ size old → events new ≡ e ∷ events old
       → ((c : Image) → LeftBy (size old) e (content (length (events old))) (Leaves (size old) content (events old)) c
       → (d : Image) × Leaves (size old) content (events old) d × step d c)
       → Goes (λ d. Leaves (size d) content (events d)) (λ d. length (events d)) (λ d. LeftFrom (size d) content (events d)) step old new
@@ -57,14 +57,14 @@ module _ {D : Type 0} (size : D → ℕ) (content : ℕ → Image) (events : D �
   }
 
 -- whether a call of the system succeeded
-abbrev answer_of : Event → Bool
+abbrev answer_of : SystemCall → Bool
 answer_of (Asked at ok bytes) = ok
 answer_of (Gave at ok bytes) = ok
 answer_of (Flushed ok) = ok
 answer_of (Measured len) = true
 
 -- a call that succeeded was no write or sync that failed
-passed-ok : (e : Event) (old new : ℕ) → CountsOne (answer_of e) old new → old < most_faults → new ≡ old → IsUnfailed e
+passed-ok : (e : SystemCall) (old new : ℕ) → CountsOne (answer_of e) old new → old < most_faults → new ≡ old → IsUnfailed e
 passed-ok (Asked at ok bytes) old new counted few same = tt
 passed-ok (Gave at true bytes) old new counted few same = tt
 passed-ok (Gave at false bytes) old new counted few same = omega (arith, counted, few, same)
@@ -73,9 +73,9 @@ passed-ok (Flushed false) old new counted few same = omega (arith, counted, few,
 passed-ok (Measured len) old new counted few same = tt
 
 -- what a call keeps, counts and leaves to be asked
-pub kept_event : {D : Type 0} (size count faults : D → ℕ) (content : ℕ → Image) (events : D → List Event) (old new : D) (r : Result Unit Fault) (e : Event)
+pub kept_event : {D : Type 0} (size count faults : D → ℕ) (content : ℕ → Image) (events : D → List SystemCall) (old new : D) (r : Result Unit Fault) (e : SystemCall)
     → size new ≡ size old → count new ≡ count old → events new ≡ e ∷ events old → CountsFault r (faults old) (faults new) → CountsOne (answer_of e) (faults old) (faults new)
-    → Kept size count faults (λ d. IsHonestFile (size d) (count d) content (events d)) (λ d. NoneFailed (events d)) (λ d. NoneAfter (events d)) (CountsFault r) old new
+    → IsDiskKept size count faults (λ d. IsHonestFile (size d) (count d) content (events d)) (λ d. NoneFailed (events d)) (λ d. NoneAfter (events d)) (CountsFault r) old new
 kept_event size count faults content events old new r e same_size same_count noted counted one = record {
   same_size = same_size;
   same_count = same_count;
@@ -86,7 +86,7 @@ kept_event size count faults content events old new r e same_size same_count not
 }
 
 -- a read leaves all that could be left, and no write or sync fails by it
-pub reads_event : {D : Type 0} (size : D → ℕ) (content : ℕ → Image) (events : D → List Event) (old new : D) (at : ℕ) (ok : Bool) (bytes : List ℕ)
+pub reads_event : {D : Type 0} (size : D → ℕ) (content : ℕ → Image) (events : D → List SystemCall) (old new : D) (at : ℕ) (ok : Bool) (bytes : List ℕ)
     → size new ≡ size old → events new ≡ Asked at ok bytes ∷ events old
     → OnlyReads (λ d. Leaves (size d) content (events d)) (λ d. NoneFailed (events d)) old new
 reads_event size content events old new at ok bytes same_size noted = record {
@@ -102,7 +102,7 @@ on_ok P (Ok x) true is holds = holds refl
 on_ok P (Ok x) false is holds = absurd (let h : ⊥ = cc in h)
 on_ok P (Err e) ok is holds = tt
 
-module _ (size count : ℕ) (content : ℕ → Image) (older events : List Event) where
+module _ (size count : ℕ) (content : ℕ → Image) (older events : List SystemCall) where
   abbrev old : Image
   old = content (length older)
 
@@ -110,12 +110,12 @@ module _ (size count : ℕ) (content : ℕ → Image) (older events : List Event
   new = content (length events)
 
   -- what the newest call made
-  made : (e : Event) → events ≡ e ∷ older → IsHonestFile size count content events → Makes size e old new
+  made : (e : SystemCall) → events ≡ e ∷ older → IsHonestFile size count content events → Makes size e old new
   made e are honest =
       subst (λ es. Makes size e old (content (length es))) (sym are) (subst (Agree size content) are honest.1).1
 
   -- the record before it
-  agreed : (e : Event) → events ≡ e ∷ older → IsHonestFile size count content events → Agree size content older
+  agreed : (e : SystemCall) → events ≡ e ∷ older → IsHonestFile size count content events → Agree size content older
   agreed e are honest = (subst (Agree size content) are honest.1).0
 
   tears : (at : ℕ) (ok : Bool) (bytes : List ℕ) → ((t : ℕ) → HasShape count size (content t)) → Makes size (Gave at ok bytes) old new → InBlocks size at bytes (λ place n. TornRun size n place bytes old new)

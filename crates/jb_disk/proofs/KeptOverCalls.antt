@@ -2,11 +2,11 @@
 use Rattle.std.proofs.Common.{ℕ, Result, Ok, Err, refl, sym, ◌∙◌, subst, IsErr, ◌<◌}
 use Rattle.jb_disk.specs.Faults.{CountsFault, CountsNone, MoreFaults, most_faults}
 use Rattle.jb_disk.specs.Image.{Image}
-use Rattle.jb_disk.specs.Kept.{Kept, OnlyReads}
+use Rattle.jb_disk.specs.Kept.{IsDiskKept, OnlyReads}
 
 module _ {D : Type 0} {size count faults : D → ℕ} {honest may_go_on well_asked : D → Type 0} where
   -- no call at all
-  pub kept_same : {counts : ℕ → ℕ → Type 0} (disk : D) → counts (faults disk) (faults disk) → Kept size count faults honest may_go_on well_asked counts disk disk
+  pub kept_same : {counts : ℕ → ℕ → Type 0} (disk : D) → counts (faults disk) (faults disk) → IsDiskKept size count faults honest may_go_on well_asked counts disk disk
   kept_same disk counted = record {
     same_size = refl;
     same_count = refl;
@@ -17,8 +17,8 @@ module _ {D : Type 0} {size count faults : D → ℕ} {honest may_go_on well_ask
   }
 
   -- a call after calls that succeeded: what all of them count is told anew
-  pub kept_on : {next both : ℕ → ℕ → Type 0} {old mid new : D} → Kept size count faults honest may_go_on well_asked CountsNone old mid
-      → Kept size count faults honest may_go_on well_asked next mid new → both (faults old) (faults new) → Kept size count faults honest may_go_on well_asked both old new
+  pub kept_on : {next both : ℕ → ℕ → Type 0} {old mid new : D} → IsDiskKept size count faults honest may_go_on well_asked CountsNone old mid
+      → IsDiskKept size count faults honest may_go_on well_asked next mid new → both (faults old) (faults new) → IsDiskKept size count faults honest may_go_on well_asked both old new
   kept_on {old = old} {mid = mid} first second counted =
       let still : faults old < most_faults → faults mid < most_faults = λ few. subst (λ n. n < most_faults) (sym first.counted) few in
       record {
@@ -31,19 +31,19 @@ module _ {D : Type 0} {size count faults : D → ℕ} {honest may_go_on well_ask
       }
 
   -- calls that succeeded
-  pub kept_ok : {old mid new : D} → Kept size count faults honest may_go_on well_asked CountsNone old mid
-      → Kept size count faults honest may_go_on well_asked CountsNone mid new → Kept size count faults honest may_go_on well_asked CountsNone old new
+  pub kept_ok : {old mid new : D} → IsDiskKept size count faults honest may_go_on well_asked CountsNone old mid
+      → IsDiskKept size count faults honest may_go_on well_asked CountsNone mid new → IsDiskKept size count faults honest may_go_on well_asked CountsNone old new
   kept_ok first second = kept_on first second (second.counted ∙ first.counted)
 
   -- one that failed, after calls that succeeded, and what called it fails too
-  pub kept_err : {T E : Type 0} {old mid new : D} (result : Result T E) → IsErr result → Kept size count faults honest may_go_on well_asked CountsNone old mid
-      → Kept size count faults honest may_go_on well_asked MoreFaults mid new → Kept size count faults honest may_go_on well_asked (CountsFault result) old new
+  pub kept_err : {T E : Type 0} {old mid new : D} (result : Result T E) → IsErr result → IsDiskKept size count faults honest may_go_on well_asked CountsNone old mid
+      → IsDiskKept size count faults honest may_go_on well_asked MoreFaults mid new → IsDiskKept size count faults honest may_go_on well_asked (CountsFault result) old new
   kept_err {new = new} (Ok value) failed first second = absurd (let h : ⊥ = cc in h)
   kept_err {new = new} (Err fault) failed first second = kept_on first second (subst (λ n. MoreFaults n (faults new)) first.counted second.counted)
 
   -- what is counted is told in another way
-  pub kept_as : {counts other : ℕ → ℕ → Type 0} {old new : D} → Kept size count faults honest may_go_on well_asked counts old new → other (faults old) (faults new)
-      → Kept size count faults honest may_go_on well_asked other old new
+  pub kept_as : {counts other : ℕ → ℕ → Type 0} {old new : D} → IsDiskKept size count faults honest may_go_on well_asked counts old new → other (faults old) (faults new)
+      → IsDiskKept size count faults honest may_go_on well_asked other old new
   kept_as kept counted = record {
     same_size = kept.same_size;
     same_count = kept.same_count;

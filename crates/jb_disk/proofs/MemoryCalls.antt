@@ -2,9 +2,9 @@
 use Rattle.std.proofs.Common.{◌≡◌, ◌<◌, ℕ, List, [], ◌∷◌, length, get_or, replicate, set, sym, ◌∙◌, ap, subst, arith, Vec, Global, vec_len, inl, inr, ⊎_elim}
 use Rattle.std.proofs.lemmas.List.{length-map, length-replicate, get_or-map, get_or-replicate, map-set}
 use Rattle.jb_block.specs.Size.{bytes_of}
-use Rattle.jb_disk.specs.Image.{Image, block, HasShape, Same, Torn}
+use Rattle.jb_disk.specs.Image.{Image, block, HasShape, ChangesNothing, Torn}
 use Rattle.jb_disk.specs.Calls.{image_of, steps_of}
-use Rattle.jb_disk.specs.History.{History, HistoryStep, Wrote, IsHistorySound, newest_of, Synced, replay, MayLeave, LeftSince}
+use Rattle.jb_disk.specs.History.{DiskHistory, HistoryStep, Wrote, IsHistorySound, newest_of, Synced, replay, MayLeave, LeftSince}
 use Rattle.jb_disk.specs.Lives.{replay_shape, newest_stays}
 use Rattle.jb_disk.specs.Memory.{history_of, IsHistoryKept}
 use Rattle.jb_disk.specs.declared.memory.MemoryDisk.TheInside.{Inside}
@@ -34,10 +34,10 @@ zeros_shape blocks size buffers are = rw (zeros_count blocks size buffers are, a
 })
 
 -- the newest content has the disk's shape
-newest_shape : (h : History) → IsHistorySound h → HasShape h.count (bytes_of h.size) (newest_of h)
+newest_shape : (h : DiskHistory) → IsHistorySound h → HasShape h.count (bytes_of h.size) (newest_of h)
 newest_shape h sound = replay_shape h.count (bytes_of h.size) h.first h.steps sound.shape sound.whole
 
-module _ {a : Inside} {h : History} (kept : IsHistoryKept a) (view : history_of a ≡ h) where
+module _ {a : Inside} {h : DiskHistory} (kept : IsHistoryKept a) (view : history_of a ≡ h) where
   pub kept_sound : IsHistorySound h
   kept_sound = subst IsHistorySound view kept.sound
 
@@ -54,7 +54,7 @@ module _ {a : Inside} {h : History} (kept : IsHistoryKept a) (view : history_of 
       buffer_at h.count (bytes_of h.size) (newest_of h) a.newest.items place b (newest_shape h kept_sound) (kept.newest ∙ ap newest_of view) inside here
 
 -- a write kept in both lists
-pub kept_written : {a : Inside} {h : History} → IsHistoryKept a → history_of a ≡ h → (place : ℕ) (bytes : List ℕ) (new : Vec ℕ Global) (calls : Vec Call Global) →
+pub kept_written : {a : Inside} {h : DiskHistory} → IsHistoryKept a → history_of a ≡ h → (place : ℕ) (bytes : List ℕ) (new : Vec ℕ Global) (calls : Vec Call Global) →
     place < h.count → length bytes ≡ bytes_of h.size → new.items ≡ bytes → steps_of calls.items ≡ Wrote place bytes ∷ steps_of a.calls.items →
     IsHistoryKept (record a { newest = with_item a.newest place new; calls = calls })
 kept_written {a} kept view place bytes new calls inside whole is noted = record {
@@ -66,8 +66,8 @@ kept_written {a} kept view place bytes new calls inside whole is noted = record 
 }
 
 -- a sync leaves one of the images that were there
-pub goes_synced : (old new : History) → IsHistorySound old → new.first ≡ old.first → new.steps ≡ Synced ∷ old.steps →
-    Goes (λ h. MayLeave h.first h.steps) (λ h. length h.steps) (λ h. LeftSince h.first h.steps) Same old new
+pub goes_synced : (old new : DiskHistory) → IsHistorySound old → new.first ≡ old.first → new.steps ≡ Synced ∷ old.steps →
+    Goes (λ h. MayLeave h.first h.steps) (λ h. length h.steps) (λ h. LeftSince h.first h.steps) ChangesNothing old new
 goes_synced old new sound first steps = rw (first, steps) (record {
   crash = λ c now. (replay old.first old.steps, newest_stays old.count (bytes_of old.size) old.first old.steps sound.shape sound.whole, now);
   later = omega arith;
@@ -76,13 +76,13 @@ goes_synced old new sound first steps = rw (first, steps) (record {
 })
 
 -- a write that is made
-pub torn_written : {first : Image} {steps : List HistoryStep} (old : History) (place : ℕ) (bytes : List ℕ) → IsHistorySound old → place < old.count →
+pub torn_written : {first : Image} {steps : List HistoryStep} (old : DiskHistory) (place : ℕ) (bytes : List ℕ) → IsHistorySound old → place < old.count →
     length bytes ≡ bytes_of old.size → first ≡ old.first → steps ≡ Wrote place bytes ∷ old.steps → Torn place bytes (newest_of old) (replay first steps)
 torn_written old place bytes sound inside whole same_first more =
     let shape = newest_shape old sound in
     rw (same_first, more) (torn_whole (newest_of old) place bytes (omega (arith, shape.blocks, inside)) (whole ∙ sym (shape.bytes place inside)))
 
-pub goes_written : (old new : History) (place : ℕ) (bytes : List ℕ) → new.first ≡ old.first → new.steps ≡ Wrote place bytes ∷ old.steps →
+pub goes_written : (old new : DiskHistory) (place : ℕ) (bytes : List ℕ) → new.first ≡ old.first → new.steps ≡ Wrote place bytes ∷ old.steps →
     Goes (λ h. MayLeave h.first h.steps) (λ h. length h.steps) (λ h. LeftSince h.first h.steps) (Torn place bytes) old new
 goes_written old new place bytes first steps = rw (first, steps) (record {
   crash = λ c now. now;
@@ -92,7 +92,7 @@ goes_written old new place bytes first steps = rw (first, steps) (record {
 })
 
 -- a write that is not made leaves all as it was
-pub goes_refused : (old new : History) (place : ℕ) (bytes : List ℕ) → new.first ≡ old.first → new.steps ≡ old.steps →
+pub goes_refused : (old new : DiskHistory) (place : ℕ) (bytes : List ℕ) → new.first ≡ old.first → new.steps ≡ old.steps →
     Goes (λ h. MayLeave h.first h.steps) (λ h. length h.steps) (λ h. LeftSince h.first h.steps) (Torn place bytes) old new
 goes_refused old new place bytes first steps = rw (first, steps) (record {
   crash = λ c now. (c, now, torn_same c place bytes);

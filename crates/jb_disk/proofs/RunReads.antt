@@ -5,7 +5,7 @@ use Rattle.std.proofs.lemmas.List.{drop-take, take-append-le, take-take}
 use Rattle.std.proofs.lemmas.Slice.{take-put_mid_below, between-put_mid}
 use borrow.Rule.Slice.PartMut.{put_mid}
 use Rattle.jb_disk.specs.OneCall.{AllMade, AreMade, Called, Reads}
-use Rattle.jb_disk.specs.Image.{Image, block, Same}
+use Rattle.jb_disk.specs.Image.{Image, block, ChangesNothing}
 use Rattle.jb_disk.specs.Faults.{CountsNone}
 use Rattle.jb_disk.specs.Kept.{Untouched}
 use Rattle.jb_disk.specs.KeptOn.{KeptOn, ReadsOn}
@@ -81,7 +81,7 @@ pub record ReadSoFar {D : Type 0} (G : Ghosts D) (place k : ℕ) (old now : D) (
   pub made : AllMade G.own (λ j. Reads (place + j)) k old now
   pub found : G.honest now → ReadsRun (G.size old) k place (G.newest old) buf
   pub same_newest : G.honest now → G.newest now ≡ G.newest old
-  pub goes : G.honest now → Goes G.may_leave G.moment G.left_since Same old now
+  pub goes : G.honest now → Goes G.may_leave G.moment G.left_since ChangesNothing old now
   pub reads : ReadsOn G old now
   pub untried : k ≡ 0 → now ≡ old
   pub passed : 0 < k → IsTrue (G.fails_next old) → ⊥

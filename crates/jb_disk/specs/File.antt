@@ -2,7 +2,8 @@
 use Rattle.std.specs.Prelude.{◌≡◌, ◌/◌, ℕ, Bool, List, [], ◌∷◌, length}
 use Rattle.jb_block.specs.Size.{bytes_of}
 use Rattle.jb_block.specs.declared.size.BlockSize.{BlockSize}
-use Rattle.jb_disk.specs.Events.{Event, Asked, Gave, Flushed, Measured, IsHonestFile, NotesAtMost, Leaves, LeftFrom, NoneAfter, NoneFailed}
+use Rattle.jb_disk.specs.Events.{SystemCall, Asked, Gave, Flushed, Measured, IsHonestFile, NotesAtMost, Leaves}
+use Rattle.jb_disk.specs.Events.{LeftFrom, NoneAfter, NoneFailed}
 use Rattle.jb_disk.specs.Faults.{CountsOne}
 use Rattle.jb_disk.specs.Image.{Image}
 use Rattle.jb_disk.specs.OneCall.{Called, Reads, Writes, Syncs}
@@ -16,7 +17,7 @@ abbrev pub UnknownFile : Type 0
 UnknownFile = FileDisk Unknown unknown
 
 -- what one call of a disk notes of a file: a sync its one event, with the answer that it gives
-abbrev pub NotesCall : Called → Bool → List Event → List Event → Type 0
+abbrev pub NotesCall : Called → Bool → List SystemCall → List SystemCall → Type 0
 NotesCall (Reads place) ok old new = NotesAtMost Asked ok old new
 NotesCall (Writes place bytes) ok old new = NotesAtMost Gave ok old new
 NotesCall Syncs ok old new = new ≡ Flushed ok ∷ old
@@ -35,7 +36,7 @@ module _ {S : Type 0} {start : Ghosts S} where
   faults_of f = f.faults
 
   -- the calls so far, the newest first
-  abbrev pub events_of : FileDisk S start → List Event
+  abbrev pub events_of : FileDisk S start → List SystemCall
   events_of f = f.host.log.events
 
   -- the file was asked its length and nothing else, and the disk has the whole blocks of it

@@ -19,7 +19,8 @@ failed_calls f = f.failed
 -- A call: one fewer is left. While any was left, it is passed on, once: it makes of the disk inside the fuse what that
 -- disk says of one call, fails where that disk counts a fault, and the fuse counts none of its own. When none was left,
 -- that disk stays as it is, and the fuse counts one.
-pub record Burns {D : Type 0} (faults : D → ℕ) (own : Called → D → D → Bool → Type 0) (call : Called) (old new : FuseDisk D) (ok : Bool) : Type 0 where
+pub record Burns {D : Type 0} (faults : D → ℕ) (own : Called → D → D → Bool → Type 0) (call : Called)
+    (old new : FuseDisk D) (ok : Bool) : Type 0 where
   pub left : left_of new ≡ left_of old - 1
   pub once : left_of old ≢ 0 → own call (disk_of old) (disk_of new) ok
   pub passed : left_of old ≢ 0 → CountsCall ok (faults (disk_of old)) (faults (disk_of new))

@@ -10,7 +10,7 @@ pub data HistoryStep : Type 0 where
   Synced : HistoryStep
 
 -- a disk in memory
-pub record History : Type 0 where
+pub record DiskHistory : Type 0 where
   pub size : BlockSize
   pub count : ℕ
   pub first : Image
@@ -32,7 +32,8 @@ MayLeave first (Synced ∷ older) c = c ≡ replay first older
 -- what a crash may have left when t steps had been made, or later
 abbrev pub LeftSince : Image → List HistoryStep → ℕ → Image → Type 0
 LeftSince first [] t c = (t ≤ 0) × MayLeave first [] c
-LeftSince first (step ∷ older) t c = ((t ≤ length older + 1) × MayLeave first (step ∷ older) c) ⊎ LeftSince first older t c
+LeftSince first (step ∷ older) t c =
+    ((t ≤ length older + 1) × MayLeave first (step ∷ older) c) ⊎ LeftSince first older t c
 
 -- each write was one of a whole block at a place of the disk
 abbrev pub AreWhole : ℕ → ℕ → List HistoryStep → Type 0
@@ -41,10 +42,10 @@ AreWhole count size (Wrote place bytes ∷ older) = (place < count) × (length b
 AreWhole count size (Synced ∷ older) = AreWhole count size older
 
 -- the first content and each write have the disk's shape
-pub record IsHistorySound (h : History) : Type 0 where
+pub record IsHistorySound (h : DiskHistory) : Type 0 where
   pub shape : HasShape h.count (bytes_of h.size) h.first
   pub whole : AreWhole h.count (bytes_of h.size) h.steps
 
 -- the newest content: the first one with all writes made
-abbrev pub newest_of : History → Image
+abbrev pub newest_of : DiskHistory → Image
 newest_of h = replay h.first h.steps

@@ -18,11 +18,12 @@ pub record Torn (place : ℕ) (bytes : List ℕ) (old new : Image) : Type 0 wher
   pub count : length new ≡ length old
   pub elsewhere : (p : ℕ) → p ≢ place → block new p ≡ block old p
   pub size : length (block new place) ≡ length (block old place)
-  pub sectors : (k : ℕ) → (sector k (block new place) ≡ sector k (block old place)) ⊎ (sector k (block new place) ≡ sector k bytes)
+  pub sectors : (k : ℕ)
+      → (sector k (block new place) ≡ sector k (block old place)) ⊎ (sector k (block new place) ≡ sector k bytes)
 
 -- a step that changes no block
-abbrev pub Same : Image → Image → Type 0
-Same old new = new ≡ old
+abbrev pub ChangesNothing : Image → Image → Type 0
+ChangesNothing old new = new ≡ old
 
 -- a crash leaves this image and no other
 abbrev pub Only : Image → (Image → Type 0) → Type 0

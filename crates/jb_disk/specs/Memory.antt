@@ -1,11 +1,11 @@
 -- What a disk in memory keeps of its fields.
 use Rattle.std.specs.Prelude.{◌≡◌, length}
-use Rattle.jb_disk.specs.History.{History, IsHistorySound, replay}
+use Rattle.jb_disk.specs.History.{DiskHistory, IsHistorySound, replay}
 use Rattle.jb_disk.specs.Calls.{steps_of, image_of}
 use Rattle.jb_disk.specs.declared.memory.MemoryDisk.TheInside.{Inside}
 
 -- the history of the disk with these fields
-abbrev pub history_of : Inside → History
+abbrev pub history_of : Inside → DiskHistory
 history_of a = record {
   size = a.size;
   count = length a.first.items;

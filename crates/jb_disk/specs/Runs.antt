@@ -6,8 +6,8 @@ use Rattle.jb_disk.specs.Image.{Image, block, sector}
 abbrev pub part : ℕ → ℕ → List ℕ → List ℕ
 part size k bytes = take size (drop (size * k) bytes)
 
--- n blocks from a place on, one at least, are on a disk with blocks of this size and this many of them, no place of them wraps, and this many
--- bytes have their length
+-- n blocks from a place on, one at least, are on a disk with blocks of this size and this many of them, no place of
+-- them wraps, and this many bytes have their length
 pub record IsRunOn (size count place n bytes : ℕ) : Type 0 where
   pub some : 0 < n
   pub within : place + n ≤ count
@@ -28,10 +28,12 @@ pub record WroteRun (size n place : ℕ) (bytes : List ℕ) (old new : Image) : 
   pub inside : (k : ℕ) → k < n → block new (place + k) ≡ part size k bytes
   pub elsewhere : (p : ℕ) → IsOutside n place p → block new p ≡ block old p
 
--- a write of n blocks from a place on that failed or that a crash cut short: each sector of each of them is the old one or the
--- written one, whatever the other sectors are
+-- a write of n blocks from a place on that failed or that a crash cut short: each sector of each of them is the old one
+-- or the written one, whatever the other sectors are
 pub record TornRun (size n place : ℕ) (bytes : List ℕ) (old new : Image) : Type 0 where
   pub count : length new ≡ length old
   pub sizes : (p : ℕ) → length (block new p) ≡ length (block old p)
-  pub sectors : (k j : ℕ) → k < n → (sector j (block new (place + k)) ≡ sector j (block old (place + k))) ⊎ (sector j (block new (place + k)) ≡ sector j (part size k bytes))
+  pub sectors : (k j : ℕ) → k < n
+      → (sector j (block new (place + k)) ≡ sector j (block old (place + k)))
+      ⊎ (sector j (block new (place + k)) ≡ sector j (part size k bytes))
   pub elsewhere : (p : ℕ) → IsOutside n place p → block new p ≡ block old p

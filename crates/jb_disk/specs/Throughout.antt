@@ -8,7 +8,8 @@ pub record AllHave {D : Type 0} (may_leave : D → Image → Type 0) (disk : D) 
   pub each : (c : Image) → may_leave disk c → P c
 
 -- a crash at the end of a run, and at any moment of it, leaves an image that has P
-pub record Throughout {D : Type 0} (may_leave : D → Image → Type 0) (moment : D → ℕ) (left_since : D → ℕ → Image → Type 0)
+pub record Throughout {D : Type 0} (may_leave : D → Image → Type 0) (moment : D → ℕ)
+    (left_since : D → ℕ → Image → Type 0)
     (old new : D) (P : Image → Type 0) : Type 0 where
   pub now : AllHave may_leave new P
   pub leaves : LeavesOnly moment left_since old new P

@@ -12,7 +12,8 @@ pub record Goes {D : Type 0} (may_leave : D → Image → Type 0) (moment : D �
   pub keeps : (t : ℕ) (c : Image) → t ≤ moment old → left_since old t c → left_since new t c
 
 -- A run of calls: a crash at any moment of it leaves an image that has P.
-pub record LeavesOnly {D : Type 0} (moment : D → ℕ) (left_since : D → ℕ → Image → Type 0) (old new : D) (P : Image → Type 0) : Type 0 where
+pub record LeavesOnly {D : Type 0} (moment : D → ℕ) (left_since : D → ℕ → Image → Type 0) (old new : D)
+    (P : Image → Type 0) : Type 0 where
   pub later : moment old ≤ moment new
   pub each : (c : Image) → left_since new (moment old) c → P c
   -- of moments before this run

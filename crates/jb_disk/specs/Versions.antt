@@ -1,8 +1,9 @@
 -- What a crash may make of the sectors of a disk in memory, and how a choice of numbers names one outcome.
-use Rattle.std.specs.Prelude.{◌≡◌, ◌<◌, ℕ, zero, suc, ◌+◌, ◌*◌, ◌/◌, ◌%◌, cond, eqb, List, [], ◌∷◌, ◌++◌, length, get_or}
+use Rattle.std.specs.Prelude.{◌≡◌, ◌<◌, ℕ, zero, suc, ◌+◌, ◌*◌, ◌/◌, ◌%◌, cond, eqb, List, [], ◌∷◌, ◌++◌, length}
+use Rattle.std.specs.Prelude.{get_or}
 use Rattle.jb_block.specs.Size.{bytes_of}
 use Rattle.jb_disk.specs.Image.{Image, block, sector, HasShape}
-use Rattle.jb_disk.specs.History.{History, HistoryStep, Wrote, Synced, replay}
+use Rattle.jb_disk.specs.History.{DiskHistory, HistoryStep, Wrote, Synced, replay}
 
 -- the image at the last sync that succeeded, or the first image where there was none
 abbrev pub synced : Image → List HistoryStep → Image
@@ -36,10 +37,12 @@ version contents number = get_or contents (number % length contents) []
 
 -- The image that a choice names: the sectors that have been written take the numbers of the choice in rising order
 -- of place and of sector within the block, and 0 where there are no more.
-pub record IsChosen (h : History) (choice : List ℕ) (c : Image) : Type 0 where
+pub record IsChosen (h : DiskHistory) (choice : List ℕ) (c : Image) : Type 0 where
   pub shape : HasShape h.count (bytes_of h.size) c
   pub each : (place k : ℕ) → place < h.count → k < bytes_of h.size / 512
-      → sector k (block c place) ≡ sector k (version (versions h.first h.steps place) (get_or choice (written_below h.steps place * (bytes_of h.size / 512) + k) 0))
+      → sector k (block c place)
+      ≡ sector k (version (versions h.first h.steps place)
+      (get_or choice (written_below h.steps place * (bytes_of h.size / 512) + k) 0))
 
 -- the k-th sector of one of these contents
 abbrev pub IsAmong : List (List ℕ) → ℕ → List ℕ → Type 0

@@ -26,7 +26,8 @@ pub record IsBehind (b : WriteBehind) (p : ℕ) : Type 0 where
   pub from : b.first ≤ p
   pub to : p < b.first + b.count
 
--- the buffer is one for a disk: the blocks that it holds have room in it and places on the disk, and no place of them wraps
+-- the buffer is one for a disk: the blocks that it holds have room in it and places on the disk, and no place of them
+-- wraps
 pub record IsBehindOf {D : Type 0} (G : Ghosts D) (b : WriteBehind) (disk : D) : Type 0 where
   pub same_size : size_behind b ≡ G.size disk
   pub within : b.first + b.count ≤ G.count disk
@@ -37,18 +38,20 @@ pub record IsBehindOf {D : Type 0} (G : Ghosts D) (b : WriteBehind) (disk : D) :
 abbrev pub Owes : WriteBehind → Image → Image → Type 0
 Owes b old new = WroteRun (size_behind b) b.count b.first b.run old new
 
--- some sectors of the blocks that the buffer holds, or none, are written to the old image, which makes the new one of it
+-- some sectors of the blocks that the buffer holds, or none, are written to the old image, which makes the new one of
+-- it
 abbrev pub OwesTorn : WriteBehind → Image → Image → Type 0
 OwesTorn b old new = TornRun (size_behind b) b.count b.first b.run old new
 
--- once it is written, what the buffer then holds makes of the new image what this change makes of the image that the blocks of before
--- would have made of the old one
+-- once it is written, what the buffer then holds makes of the new image what this change makes of the image that the
+-- blocks of before would have made of the old one
 abbrev pub OwesThen : WriteBehind → WriteBehind → (Image → Image) → Image → Image → Type 0
 OwesThen b b' change old new = (c : Image) → Owes b old c → Owes b' new (change c)
 
--- A call has written some of the blocks that the buffer held, or sectors of them, or none, whatever a crash leaves meanwhile. Where it
--- succeeded, this is said of the images before and after it.
-pub record WritesHeld {D T E : Type 0} (G : Ghosts D) (result : Result T E) (b : WriteBehind) (Done : Image → Image → Type 0)
+-- A call has written some of the blocks that the buffer held, or sectors of them, or none, whatever a crash leaves
+-- meanwhile. Where it succeeded, this is said of the images before and after it.
+pub record WritesHeld {D T E : Type 0} (G : Ghosts D) (result : Result T E) (b : WriteBehind)
+    (Done : Image → Image → Type 0)
     (old new : D) : Type 0 where
   pub done : OnOk result (Done (G.newest old) (G.newest new))
   pub torn : OwesTorn b (G.newest old) (G.newest new)

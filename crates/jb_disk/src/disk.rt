@@ -1,11 +1,11 @@
 //! What is assumed of a disk: whole blocks of 512-byte sectors, and what a crash may leave of them.
 ghost use Rattle.std.specs.Prelude.{Bool, true, false, is_ok, IsTrue, IsErr, ◌≡◌, ◌<◌, ◌≤◌, ◌+◌, ℕ, length, OnOk, set};
 ghost use Rattle.jb_block.specs.Size.{bytes_of, IsBlockSize};
-ghost use Rattle.jb_disk.specs.Image.{Image, block, Torn, Same, Only, HasShape};
+ghost use Rattle.jb_disk.specs.Image.{Image, block, Torn, ChangesNothing, Only, HasShape};
 ghost use Rattle.jb_disk.specs.Time.{Goes};
 ghost use Rattle.jb_disk.specs.OneCall.{AreMade, Called, Reads, Writes, Syncs};
 ghost use Rattle.jb_disk.specs.Faults.{CountsFault};
-ghost use Rattle.jb_disk.specs.Kept.{Kept, OwnReads, Untouched};
+ghost use Rattle.jb_disk.specs.Kept.{IsDiskKept, OwnReads, Untouched};
 ghost use Rattle.jb_disk.specs.Runs.{part, IsRunOn, ReadsRun, TornRun, WroteRun};
 ghost use Rattle.jb_disk.specs.Steps.{Steps};
 
@@ -71,14 +71,14 @@ pub trait Disk {
     fn read(&mut self, place: u64, buf: &mut [u8]) -> Result<(), Fault>
         requires place { place < count self.old }
         requires block { length buf.old ≡ size self.old }
-        ensures kept { Kept size count faults honest may_go_on well_asked (CountsFault result) self.old self.new }
+        ensures kept { IsDiskKept size count faults honest may_go_on well_asked (CountsFault result) self.old self.new }
         ensures spent { IsTrue (fails_next self.old) → IsErr result
             × Untouched newest may_leave moment self.old self.new }
         ensures own { OwnReads may_leave may_go_on (own (Reads place) self.old self.new (is_ok result))
             self.old self.new }
         ensures found { honest self.new → OnOk result (buf.new ≡ block (newest self.old) place) }
         ensures newest { honest self.new → newest self.new ≡ newest self.old }
-        ensures goes { honest self.new → Goes may_leave moment left_since Same self.old self.new };
+        ensures goes { honest self.new → Goes may_leave moment left_since ChangesNothing self.old self.new };
 
     /// Writes `bytes`, which has the length of one block, to the block at `place`. Until a sync
     /// succeeds, a crash may leave each of its sectors as it was or as it is written; after a fault a
@@ -86,7 +86,7 @@ pub trait Disk {
     fn write(&mut self, place: u64, bytes: &[u8]) -> Result<(), Fault>
         requires place { place < count self.old }
         requires block { length bytes.now ≡ size self.old }
-        ensures kept { Kept size count faults honest may_go_on well_asked (CountsFault result) self.old self.new }
+        ensures kept { IsDiskKept size count faults honest may_go_on well_asked (CountsFault result) self.old self.new }
         ensures spent { IsTrue (fails_next self.old) → IsErr result
             × Untouched newest may_leave moment self.old self.new }
         ensures own { own (Writes place bytes.now) self.old self.new (is_ok result) }
@@ -99,19 +99,19 @@ pub trait Disk {
     fn sync(&mut self) -> Result<(), Fault>
         /// No call of a disk comes after a write or a sync that failed, where none did before; and while no call fails,
         /// no write or sync has failed.
-        ensures kept { Kept size count faults honest may_go_on well_asked (CountsFault result) self.old self.new }
+        ensures kept { IsDiskKept size count faults honest may_go_on well_asked (CountsFault result) self.old self.new }
         ensures spent { IsTrue (fails_next self.old) → IsErr result
             × Untouched newest may_leave moment self.old self.new }
         ensures own { own Syncs self.old self.new (is_ok result) }
         ensures newest { honest self.new → newest self.new ≡ newest self.old }
         ensures durable { honest self.new → OnOk result (Only (newest self.old) (may_leave self.new)) }
-        ensures goes { honest self.new → Goes may_leave moment left_since Same self.old self.new };
+        ensures goes { honest self.new → Goes may_leave moment left_since ChangesNothing self.old self.new };
 
     /// Reads `blocks` blocks from the one at `place` on into `buf`, which has their length: one at least. Most
     /// disks make one call of `read` for each of them. After a fault `buf` may hold anything.
     fn read_run(&mut self, place: u64, blocks: usize, buf: &mut [u8]) -> Result<(), Fault>
         requires run { IsRunOn (size self.old) (count self.old) place blocks (length buf.old) }
-        ensures kept { Kept size count faults honest may_go_on well_asked (CountsFault result) self.old self.new }
+        ensures kept { IsDiskKept size count faults honest may_go_on well_asked (CountsFault result) self.old self.new }
         ensures spent { IsTrue (fails_next self.old) → IsErr result
             × Untouched newest may_leave moment self.old self.new }
         /// A run of blocks that is read does to the state of a disk what a read of each of them does, up to the first
@@ -125,7 +125,7 @@ pub trait Disk {
         ensures found { honest self.new → OnOk result
             (ReadsRun (size self.old) blocks place (newest self.old) buf.new) }
         ensures newest { honest self.new → newest self.new ≡ newest self.old }
-        ensures goes { honest self.new → Goes may_leave moment left_since Same self.old self.new }
+        ensures goes { honest self.new → Goes may_leave moment left_since ChangesNothing self.old self.new }
     {
         let size = self.block_size().bytes() as usize;
         for k in 0..blocks {
@@ -140,7 +140,7 @@ pub trait Disk {
     /// find either, too.
     fn write_run(&mut self, place: u64, blocks: usize, bytes: &[u8]) -> Result<(), Fault>
         requires run { IsRunOn (size self.old) (count self.old) place blocks (length bytes.now) }
-        ensures kept { Kept size count faults honest may_go_on well_asked (CountsFault result) self.old self.new }
+        ensures kept { IsDiskKept size count faults honest may_go_on well_asked (CountsFault result) self.old self.new }
         ensures spent { IsTrue (fails_next self.old) → IsErr result
             × Untouched newest may_leave moment self.old self.new }
         /// A run of blocks that is written does what a write of each of them does. A disk in memory, a fuse, a disk of

@@ -32,9 +32,9 @@ pub(crate) enum Call {
 }
 
 impl Model for MemoryDisk {
-    ghost use Rattle.jb_disk.specs.History.{History};
+    ghost use Rattle.jb_disk.specs.History.{DiskHistory};
 
-    ghost Value = { History };
+    ghost Value = { DiskHistory };
 
     ghost use Rattle.jb_disk.specs.Memory.{history_of, IsHistoryKept};
 

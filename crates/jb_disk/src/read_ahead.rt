@@ -2,7 +2,7 @@
 ghost use Rattle.std.specs.Prelude.{◌≡◌, ◌<◌, ◌≤◌, ℕ, length, OnOk};
 ghost use Rattle.jb_block.specs.Size.{bytes_of};
 ghost use Rattle.jb_disk.specs.Faults.{CountsFault};
-ghost use Rattle.jb_disk.specs.Image.{Image, block, Same};
+ghost use Rattle.jb_disk.specs.Image.{Image, block, ChangesNothing};
 ghost use Rattle.jb_disk.specs.KeptOn.{KeptOn};
 ghost use Rattle.jb_disk.specs.ReadAhead.{size_ahead, AreAhead, FitsAhead, IsAhead, IsAheadOf};
 ghost use Rattle.jb_disk.specs.Time.{Goes};
@@ -51,7 +51,7 @@ impl ReadAhead {
         /// reads on only where it does not.
         ensures ahead { IsAheadOf D.Disk place end self.new disk.new }
         ensures newest { D.honest disk.new → D.newest disk.new ≡ D.newest disk.old }
-        ensures goes { D.honest disk.new → Goes D.may_leave D.moment D.left_since Same disk.old disk.new }
+        ensures goes { D.honest disk.new → Goes D.may_leave D.moment D.left_since ChangesNothing disk.old disk.new }
     {
         if self.first <= place && place < self.first + self.count as u64 {
             return Ok(());

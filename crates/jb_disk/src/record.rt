@@ -1,7 +1,7 @@
 //! The calls of a file, kept for clauses alone.
 ghost use Rattle.std.specs.Prelude.{◌≡◌, List, [], ◌∷◌};
 ghost use Rattle.std.specs.Borrow.{ftrue};
-ghost use Rattle.jb_disk.specs.Events.{Event, event_of};
+ghost use Rattle.jb_disk.specs.Events.{SystemCall, event_of};
 
 use std::marker::Model;
 
@@ -9,7 +9,7 @@ use std::marker::Model;
 /// what the caller says: each call of `note` has to be read beside the call of the system that it stands for.
 #[derive(Drop)]
 pub(crate) struct Record {
-    pub(crate) ghost events: { List Event },
+    pub(crate) ghost events: { List SystemCall },
 }
 
 impl Model for Record {

@@ -1,5 +1,6 @@
 -- Dates in UTC, of seconds since 1970.
-use Rattle.std.specs.Prelude.{ℕ, zero, suc, ◌+◌, ◌/◌, ◌%◌, Bool, not, ◌&&◌, List, ◌++◌, codes, decimal, nat_eq, nat_lt, if◌then◌else◌, pos}
+use Rattle.std.specs.Prelude.{ℕ, zero, suc, ◌+◌, ◌/◌, ◌%◌, Bool, not, ◌&&◌, List, ◌++◌, codes, decimal, nat_eq, nat_lt}
+use Rattle.std.specs.Prelude.{if◌then◌else◌, pos}
 use Rattle.jiff_core.specs.Calendar.{day_count, days_in_month}
 use Rattle.jiff_fmt.specs.Text.{pad2, pad4}
 
@@ -15,7 +16,9 @@ day_at n = record { year = n / 31 / 12; month = n / 31 % 12 + 1; day = n % 31 + 
 
 -- the month has this day, and it is the one this many days after 1970-01-01
 abbrev pub is_day : ℕ → DayOf → Bool
-is_day days d = not (nat_lt (days_in_month (pos d.year) d.month) d.day) && nat_eq (day_count (pos d.year) d.month d.day) (day_count (pos 1970) 1 1 + days)
+is_day days d =
+    not (nat_lt (days_in_month (pos d.year) d.month) d.day)
+    && nat_eq (day_count (pos d.year) d.month d.day) (day_count (pos 1970) 1 1 + days)
 
 -- of the days with a number below this one, the last that is this many days after 1970-01-01
 unfoldable pub day_before : ℕ → ℕ → DayOf

@@ -7,7 +7,14 @@ use Rattle.jb_dump.specs.declared.dump_filter.DumpFilter.{DumpFilter}
 
 -- the filter, where a journal may have checksums or not
 abbrev pub allowing : Bool → DumpFilter → DumpFilter
-allowing checksums filter = record { home = filter.home; last = filter.last; superblock = filter.superblock; summary = filter.summary; checksums = checksums }
+allowing checksums filter =
+    record {
+      home = filter.home;
+      last = filter.last;
+      superblock = filter.superblock;
+      summary = filter.summary;
+      checksums = checksums;
+    }
 
 -- a journal whose superblock has no bits of checksums is dumped, or refused, as where it may have none
 abbrev pub PlainIsDumpedAlike : Type 0

@@ -9,7 +9,9 @@ use Rattle.std.specs.Ordering.{nat_cmp}
 -- homes in their order, each once, with one more among them
 abbrev pub home_among : ℕ → List ℕ → List ℕ
 home_among home [] = home ∷ []
-home_among home (other ∷ others) = if nat_lt home other then home ∷ other ∷ others else (if nat_eq home other then other ∷ others else other ∷ home_among home others)
+home_among home (other ∷ others) =
+    if nat_lt home other then home ∷ other ∷ others
+    else (if nat_eq home other then other ∷ others else other ∷ home_among home others)
 
 -- homes in their order, each once, with these among them
 abbrev pub homes_among : List ℕ → List ℕ → List ℕ
@@ -34,8 +36,8 @@ abbrev pub ranked : List (ℕ × ℕ) → List (ℕ × ℕ) → List (ℕ × ℕ
 ranked rows [] = rows
 ranked rows (row ∷ more) = ranked (ranked_among row rows) more
 
--- the first ten of the rows by their rank: those that are written most, most first, and of those that are written as often the
--- lowest homes, which come first in the rows
+-- the first ten of the rows by their rank: those that are written most, most first, and of those that are written as
+-- often the lowest homes, which come first in the rows
 abbrev pub foremost : List (ℕ × ℕ) → List (ℕ × ℕ)
 foremost rows = take 10 (ranked [] rows)
 

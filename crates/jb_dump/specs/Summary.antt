@@ -59,7 +59,8 @@ all_revoked (t ∷ ts) = revoked_in t.pieces + all_revoked ts
 
 -- what these transactions come to
 abbrev pub summary_of : List Transaction → Summary
-summary_of ts = record { sizes = map transaction_size ts; homes = all_copied ts; revokes = all_revoked ts; times = map time_of ts }
+summary_of ts =
+    record { sizes = map transaction_size ts; homes = all_copied ts; revokes = all_revoked ts; times = map time_of ts }
 
 -- ---- measures of it
 
@@ -115,16 +116,19 @@ room_line s count used = room_text count used (usable_of s) (usable_of s - used)
 
 -- the places of the log's first block, and of the first one after it
 abbrev pub ends_line : Superblock → ℕ → List ℕ
-ends_line s used = spelled (codes "ends tail=" ∷ decimal (place s 0) ∷ codes " head=" ∷ decimal (place s used) ∷ codes "\n" ∷ [])
+ends_line s used =
+    spelled (codes "ends tail=" ∷ decimal (place s 0) ∷ codes " head=" ∷ decimal (place s used) ∷ codes "\n" ∷ [])
 
 -- how many blocks the transactions take: the fewest, in the mean, rounded down, and the most
 abbrev pub sizes_line : ℕ → ℕ → ℕ → List ℕ
 sizes_line least mean most = spelled (
-    codes "blocks least=" ∷ decimal least ∷ codes " mean=" ∷ decimal mean ∷ codes " most=" ∷ decimal most ∷ codes "\n" ∷ [])
+    codes "blocks least=" ∷ decimal least ∷ codes " mean=" ∷ decimal mean ∷ codes " most=" ∷ decimal most ∷ codes "\n"
+    ∷ [])
 
 -- how many copies there are, and of how many homes
 abbrev pub copies_line : ℕ → ℕ → List ℕ
-copies_line copies homes = spelled (codes "copies total=" ∷ decimal copies ∷ codes " homes=" ∷ decimal homes ∷ codes "\n" ∷ [])
+copies_line copies homes =
+    spelled (codes "copies total=" ∷ decimal copies ∷ codes " homes=" ∷ decimal homes ∷ codes "\n" ∷ [])
 
 -- how often a home is written
 abbrev pub written_line : ℕ × ℕ → List ℕ
@@ -141,7 +145,8 @@ revokes_line revokes = spelled (codes "revokes total=" ∷ decimal revokes ∷ c
 
 -- when the first and the last transaction were committed
 abbrev pub times_line : ℕ → ℕ → List ℕ
-times_line first last = spelled (codes "commits first=" ∷ date_text first ∷ codes " last=" ∷ date_text last ∷ codes "\n" ∷ [])
+times_line first last =
+    spelled (codes "commits first=" ∷ date_text first ∷ codes " last=" ∷ date_text last ∷ codes "\n" ∷ [])
 
 -- what is said of some transactions beside their room and ends
 abbrev pub contents_text : Summary → List ℕ
@@ -160,7 +165,8 @@ contents_said (suc n) text = text
 -- the text of a log that has to be recovered
 abbrev pub glance_text : Superblock → Summary → List ℕ
 glance_text s sum =
-    spelled (room_line s (length sum.sizes) (sum_of sum.sizes) ∷ ends_line s (sum_of sum.sizes) ∷ contents_said (length sum.sizes) (contents_text sum) ∷ [])
+    spelled (room_line s (length sum.sizes) (sum_of sum.sizes) ∷ ends_line s (sum_of sum.sizes)
+    ∷ contents_said (length sum.sizes) (contents_text sum) ∷ [])
 
 -- that of a clean journal, whose log holds nothing
 abbrev pub clean_said : Superblock → List ℕ

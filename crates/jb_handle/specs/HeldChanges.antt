@@ -1,5 +1,6 @@
 -- The changes of an open handle, which further changes it refuses, and what a change makes of it.
-use Rattle.std.specs.Prelude.{◌≡◌, ℕ, ◌^◌, ◌<◌, ◌≤◌, Bool, true, false, not, nat_le, ◌==◌, ◌&&◌, List, [], ◌∷◌, length, Option, Some, None}
+use Rattle.std.specs.Prelude.{◌≡◌, ℕ, ◌^◌, ◌<◌, ◌≤◌, Bool, true, false, not, nat_le, ◌==◌, ◌&&◌, List, [], ◌∷◌, length}
+use Rattle.std.specs.Prelude.{Option, Some, None}
 use Rattle.std.specs.FinMap as map
 use Rattle.jb_block.specs.Size.{bytes_of}
 use Rattle.jb_handle.specs.declared.word.Word.{Word}
@@ -72,7 +73,9 @@ is_misfit shape (Some len) = not (len == bytes_of shape.bs)
 
 -- the first reason against a change of a home, by a write of this many bytes or by a revoke
 abbrev pub refusal_at : Held → ℕ → Option ℕ → Option TouchFault
-refusal_at h home len = first_of ((is_spent h home, NoCredit h.credits) ∷ (nat_le h.shape.homes home, OutOfRange home) ∷ (is_misfit h.shape len, Length) ∷ [])
+refusal_at h home len =
+    first_of ((is_spent h home, NoCredit h.credits) ∷ (nat_le h.shape.homes home, OutOfRange home)
+    ∷ (is_misfit h.shape len, Length) ∷ [])
 
 -- the first reason against a change
 abbrev pub refusal : Held → Op → Option TouchFault

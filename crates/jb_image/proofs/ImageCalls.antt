@@ -2,7 +2,7 @@
 use Rattle.std.proofs.Common.{◌≡◌, ℕ, length}
 use Rattle.jb_disk.specs.Faults.{counted}
 use Rattle.jb_disk.specs.Image.{Image}
-use Rattle.jb_disk.specs.Kept.{Kept, OnlyReads}
+use Rattle.jb_disk.specs.Kept.{IsDiskKept, OnlyReads}
 use Rattle.jb_disk.specs.KeptOn.{KeptOn, ReadsOn}
 use Rattle.jb_disk.specs.Steps.{Steps}
 use Rattle.jb_disk.specs.Time.{Goes}
@@ -38,13 +38,13 @@ module _ {D E : Type 0} (G : Ghosts D) (H : Ghosts E) (step : ℕ → Image → 
 
 -- what a call of a disk in extents of which the journal stands keeps and counts
 abbrev WithinKept : {D : Type 0} → Ghosts D → (ℕ → ℕ → Type 0) → ExtentsDisk D → ExtentsDisk D → Type 0
-WithinKept G = Kept (λ d. G.size (whole_disk d)) (λ d. spread_count (journal_blocks d) (G.count (whole_disk d))) (λ d. counted (G.faults (whole_disk d)) (refused_calls d)) (IsHonestWithin G)
+WithinKept G = IsDiskKept (λ d. G.size (whole_disk d)) (λ d. spread_count (journal_blocks d) (G.count (whole_disk d))) (λ d. counted (G.faults (whole_disk d)) (refused_calls d)) (IsHonestWithin G)
     (λ d. G.may_go_on (whole_disk d)) (λ d. G.well_asked (whole_disk d))
 
 -- and what a call of an image does
 module _ {D E : Type 0} (G : Ghosts D) (H : Ghosts E) (counts : ℕ → ℕ → Type 0) where
   abbrev pub ImageKept : ImageDisk D E → ImageDisk D E → Type 0
-  ImageKept = Kept (image_size G H) (image_count G H) (image_faults G H) (IsHonestImage G H) (MayImageGoOn G H) (IsImageWellAsked G H) counts
+  ImageKept = IsDiskKept (image_size G H) (image_count G H) (image_faults G H) (IsHonestImage G H) (MayImageGoOn G H) (IsImageWellAsked G H) counts
 
   pub keeps-one : {old : ImageDisk D E} {d e : D} → old ≡ One d → KeptOn G counts d e → ImageKept old (One e)
   keeps-one is kept = rw is (record { same_size = kept.same_size; same_count = kept.same_count; was_honest = kept.was_honest; counted = kept.counted; asked = kept.asked; going = kept.going })

@@ -1,6 +1,6 @@
 -- How a crash of two disks goes on where one of them is called.
 use Rattle.std.proofs.Common.{◌≡◌, ◌⊎◌, ℕ, ◌+◌, List, ◌∷◌, ◌++◌, length, refl, sym, ap, subst, inl, inr, ⊎_elim, arith, rules}
-use Rattle.jb_disk.specs.Image.{Image, Same, HasShape}
+use Rattle.jb_disk.specs.Image.{Image, ChangesNothing, HasShape}
 use Rattle.jb_disk.specs.KeptOn.{KeptOn}
 use Rattle.jb_disk.specs.Runs.{TornRun}
 use Rattle.jb_disk.specs.Steps.{Steps}
@@ -121,8 +121,8 @@ module _ {A B : Type 0} (G : Ghosts A) (H : Ghosts B) where
             (λ c one. moves-front c one.front one.back (run.leaves.each one.front one.first) (only_b p.back one.back honest.second one.second) one.joined)
 
       -- a call that changes no block
-      pub reads-front : (G.honest a' → Goes G.may_leave G.moment G.left_since Same p.front a') → IsHonestPair G H front_called → PairGoes Same p front_called
-      reads-front goes honest = goes-front Same Same honest (λ x x' y _ same. ap (λ z. z ++ y) same) (goes honest.first)
+      pub reads-front : (G.honest a' → Goes G.may_leave G.moment G.left_since ChangesNothing p.front a') → IsHonestPair G H front_called → PairGoes ChangesNothing p front_called
+      reads-front goes honest = goes-front ChangesNothing ChangesNothing honest (λ x x' y _ same. ap (λ z. z ++ y) same) (goes honest.first)
 
     -- ---- the second disk
 
@@ -156,8 +156,8 @@ module _ {A B : Type 0} (G : Ghosts A) (H : Ghosts B) where
             (λ c one. moves-back c one.front one.back (only_a p.front one.front honest.first one.first) (run.leaves.each one.back one.second) one.joined)
 
       -- a call that changes no block
-      pub reads-back : (H.honest b' → Goes H.may_leave H.moment H.left_since Same p.back b') → IsHonestPair G H back_called → PairGoes Same p back_called
-      reads-back goes honest = goes-back Same Same honest (λ x y y' _ same. ap (λ z. x ++ z) same) (goes honest.second)
+      pub reads-back : (H.honest b' → Goes H.may_leave H.moment H.left_since ChangesNothing p.back b') → IsHonestPair G H back_called → PairGoes ChangesNothing p back_called
+      reads-back goes honest = goes-back ChangesNothing ChangesNothing honest (λ x y y' _ same. ap (λ z. x ++ z) same) (goes honest.second)
 
     -- ---- the first disk, and then the second
 
@@ -179,9 +179,9 @@ module _ {A B : Type 0} (G : Ghosts A) (H : Ghosts B) where
       was = search (rules, kept.was_honest honest.first, between.second, rw kept.same_size at between.same_size, rw kept.same_count at between.all_counted)
 
       -- calls that change no block
-      pub goes-both : (G.honest a' → Goes G.may_leave G.moment G.left_since Same p.front a') → (H.honest b' → Goes H.may_leave H.moment H.left_since Same p.back b') → PairGoes Same p end
+      pub goes-both : (G.honest a' → Goes G.may_leave G.moment G.left_since ChangesNothing p.front a') → (H.honest b' → Goes H.may_leave H.moment H.left_since ChangesNothing p.back b') → PairGoes ChangesNothing p end
       goes-both first second =
-          goes-on (PairLeaves G H) (λ p. length (past_states p)) (PairLeftSince G H) Same p midway end
+          goes-on (PairLeaves G H) (λ p. length (past_states p)) (PairLeftSince G H) ChangesNothing p midway end
           (λ t d earlier left. counts_both G H p t d was (λ x. shapes_a p.front x was.first) (λ y. shapes_b p.back y was.second) earlier left)
           (reads-front p a' mid noted kept first between)
           (reads-back midway b' new noted' kept' second honest)

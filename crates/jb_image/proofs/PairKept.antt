@@ -2,7 +2,7 @@
 use Rattle.std.proofs.Common.{false, IsTrue, ◌≡◌, ◌+◌, ◌-◌, ◌*◌, ◌<◌, ◌^◌, ◌≤◌, ◌⊎◌, inl, inr, ℕ, Result, Ok, Err, IsErr, refl, sym, ◌∙◌, ap, arith}
 use Rattle.std.proofs.lemmas.Bool.Decides.{nat_tests}
 use Rattle.jb_disk.specs.Faults.{counted, CountsFault, CountsNone, MoreFaults, most_faults}
-use Rattle.jb_disk.specs.Kept.{Kept, OnlyReads}
+use Rattle.jb_disk.specs.Kept.{IsDiskKept, OnlyReads}
 use Rattle.jb_disk.specs.KeptOn.{KeptOn, ReadsOn}
 use Rattle.jb_disk.specs.Runs.{IsRunOn}
 use Rattle.jb_disk.specs.declared.disk.Disk.{Ghosts}
@@ -37,7 +37,7 @@ no-fewer (Err _) old new more = more.no_fewer
 
 module _ {A B : Type 0} (G : Ghosts A) (H : Ghosts B) where
   abbrev pub PairKept : (ℕ → ℕ → Type 0) → PairDisk A B → PairDisk A B → Type 0
-  PairKept = Kept (λ p. G.size p.front) (λ p. joined_count (G.size p.front) (G.count p.front) (H.size p.back) (H.count p.back)) (λ p. counted (G.faults p.front) (H.faults p.back)) (IsHonestPair G H)
+  PairKept = IsDiskKept (λ p. G.size p.front) (λ p. joined_count (G.size p.front) (G.count p.front) (H.size p.back) (H.count p.back)) (λ p. counted (G.faults p.front) (H.faults p.back)) (IsHonestPair G H)
       (MayGoOnBoth G H) (AreWellAsked G H)
 
   module _ (p : PairDisk A B) (a' : A) (b' : B) (new : Past A B) where

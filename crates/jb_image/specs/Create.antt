@@ -15,7 +15,8 @@ use Rattle.jb_format.specs.declared.fault.FormatFault.{FormatFault}
 use Rattle.jb_format.specs.declared.fault.FormatFault.TheVariants.{DeviceFault}
 use Rattle.jb_image.specs.declared.image_geometry.ImageGeometry.{ImageGeometry}
 
--- the journal has as many blocks as one may have, the image a length that a file may have, and each home block a number of the journal's width
+-- the journal has as many blocks as one may have, the image a length that a file may have, and each home block a number
+-- of the journal's width
 pub record MakesImage (g : ImageGeometry) : Type 0 where
   pub least : 9 ≤ g.journal
   pub most : g.journal < 2 ^ 31
@@ -26,9 +27,11 @@ pub record MakesImage (g : ImageGeometry) : Type 0 where
 abbrev pub block_made : ℕ → ImageGeometry → List ℕ
 block_made size g = new_block (is_wide g.width) size g.journal g.max_transaction g.uuid
 
--- A journal was formatted on a disk, with this answer: no block has changed but block 0, which is that of the new journal then, and
--- nothing is pending. A crash in its midst leaves what the disk might have left, with some new sectors of block 0.
-pub record FormatsOn {D : Type 0} (G : Disks D) (g : ImageGeometry) (old new : D) (answer : Result Unit FormatFault) : Type 0 where
+-- A journal was formatted on a disk, with this answer: no block has changed but block 0, which is that of the new
+-- journal then, and nothing is pending. A crash in its midst leaves what the disk might have left, with some new
+-- sectors of block 0.
+pub record FormatsOn {D : Type 0} (G : Disks D) (g : ImageGeometry) (old new : D) (answer : Result Unit FormatFault)
+    : Type 0 where
   pub kept : KeptOn G (FormatFaults answer) old new
   pub written : G.honest new → OnOk answer (G.newest new ≡ set (G.newest old) 0 (block_made (G.size old) g))
   pub torn : G.honest new → Torn 0 (block_made (G.size old) g) (G.newest old) (G.newest new)
@@ -36,7 +39,8 @@ pub record FormatsOn {D : Type 0} (G : Disks D) (g : ImageGeometry) (old new : D
   pub durable : G.honest new → OnOk answer (Only (G.newest new) (G.may_leave new))
 
 -- the same of a file of the blocks that were asked for, which was asked its length and nothing else before
-pub record IsFormatted {S : Type 0} {start : Starts S} (g : ImageGeometry) (old new : FileDisk S start) (answer : Result Unit FormatFault) : Type 0 where
+pub record IsFormatted {S : Type 0} {start : Starts S} (g : ImageGeometry) (old new : FileDisk S start)
+    (answer : Result Unit FormatFault) : Type 0 where
   pub size : size_of_blocks old ≡ g.block_size
   pub count : count_of old ≡ g.journal + g.homes
   pub measured : IsMeasured old

@@ -1,5 +1,6 @@
 -- A journal and the file system that it is in, as one disk.
-use Rattle.std.specs.Prelude.{◌≡◌, ℕ, ◌+◌, ◌-◌, ◌^◌, Bool, false, if◌then◌else◌, List, [], ◌∷◌, max, min, nat_lt, Option, Some, None, option_and_then}
+use Rattle.std.specs.Prelude.{◌≡◌, ℕ, ◌+◌, ◌-◌, ◌^◌, Bool, false, if◌then◌else◌, List, [], ◌∷◌, max, min, nat_lt}
+use Rattle.std.specs.Prelude.{Option, Some, None, option_and_then}
 use Rattle.jb_disk.specs.OneCall.{Called, Reads, Writes, Syncs}
 use Rattle.jb_disk.specs.Faults.{CountsCall, CountsOne}
 use Rattle.jb_image.specs.Lists.{holds_in, list_of, meets_in, place_within}
@@ -31,8 +32,8 @@ spread_count journal count = min (journal + count) (2 ^ 64 - 1)
 abbrev pub in_image : ℕ → ℕ → Option ℕ
 in_image blocks block = if nat_lt block blocks then Some block else None
 
--- the block of the image that a place is: of the journal by the extents; else the home block of its number, unless it is one of
--- the journal's own
+-- the block of the image that a place is: of the journal by the extents; else the home block of its number, unless it
+-- is one of the journal's own
 abbrev pub at_block : Extents → ℕ → ℕ → ℕ → Option ℕ
 at_block extents journal blocks place =
     if nat_lt place journal then option_and_then (in_image blocks) (place_within (list_of extents) place)
@@ -57,8 +58,10 @@ pub record KeepsExtents {D : Type 0} (old new : ExtentsDisk D) : Type 0 where
   pub extents : extents_of new ≡ extents_of old
   pub journal : journal_blocks new ≡ journal_blocks old
 
--- a call that the image is given, once: it makes of it what the image says of one call, and fails where the image counts a fault
-pub record GivenOn {D : Type 0} (faults : D → ℕ) (own : Called → D → D → Bool → Type 0) (call : Called) (old new : ExtentsDisk D) (ok : Bool) : Type 0 where
+-- a call that the image is given, once: it makes of it what the image says of one call, and fails where the image
+-- counts a fault
+pub record GivenOn {D : Type 0} (faults : D → ℕ) (own : Called → D → D → Bool → Type 0) (call : Called)
+    (old new : ExtentsDisk D) (ok : Bool) : Type 0 where
   pub once : own call (whole_disk old) (whole_disk new) ok
   pub counted : CountsCall ok (faults (whole_disk old)) (faults (whole_disk new))
   pub unfailed : refused_calls new ≡ refused_calls old
@@ -79,6 +82,10 @@ module _ {D : Type 0} (count faults : D → ℕ) (own : Called → D → D → B
 
   -- what a call makes of the image
   abbrev pub ExtentsCalled : Called → ExtentsDisk D → ExtentsDisk D → Bool → Type 0
-  ExtentsCalled (Reads place) old new ok = GivenAt (at_block (extents_of old) (journal_blocks old) (count (whole_disk old)) place) (λ block. Reads block) old new ok
-  ExtentsCalled (Writes place bytes) old new ok = GivenAt (at_block (extents_of old) (journal_blocks old) (count (whole_disk old)) place) (λ block. Writes block bytes) old new ok
+  ExtentsCalled (Reads place) old new ok =
+      GivenAt (at_block (extents_of old) (journal_blocks old) (count (whole_disk old)) place) (λ block. Reads block) old
+      new ok
+  ExtentsCalled (Writes place bytes) old new ok =
+      GivenAt (at_block (extents_of old) (journal_blocks old) (count (whole_disk old)) place)
+      (λ block. Writes block bytes) old new ok
   ExtentsCalled Syncs old new ok = GivenOn faults own Syncs old new ok

@@ -1,11 +1,13 @@
 -- An image in files as a disk.
 use Rattle.std.specs.Prelude.{true, false, length}
 use Rattle.jb_block.specs.Size.{bytes_of}
-use Rattle.jb_disk.specs.File.{UnknownFile, IsHonest, IsOneCall, IsWellAsked, MayGoOn, FileLeaves, FileLeft, content_of, count_of, events_of, faults_of, size_of_blocks}
+use Rattle.jb_disk.specs.File.{UnknownFile, IsHonest, IsOneCall, IsWellAsked, MayGoOn, FileLeaves, FileLeft, content_of}
+use Rattle.jb_disk.specs.File.{count_of, events_of, faults_of, size_of_blocks}
 use Rattle.jb_disk.specs.declared.disk.Disk.{Ghosts}
 use Rattle.jb_disk.specs.declared.file.FileDisk.{FileDisk}
 use Rattle.jb_disk.specs.declared.start.Start.{Ghosts as Starts}
-use Rattle.jb_image.specs.Images.{image_count, image_faults, image_moment, image_newest, image_size, IsHonestImage, IsImageWellAsked, MayImageGoOn, ImageCalled, ImageLeaves, ImageLeft}
+use Rattle.jb_image.specs.Images.{image_count, image_faults, image_moment, image_newest, image_size, IsHonestImage}
+use Rattle.jb_image.specs.Images.{IsImageWellAsked, MayImageGoOn, ImageCalled, ImageLeaves, ImageLeft}
 use Rattle.jb_image.specs.declared.image.ImageDisk.{ImageDisk}
 
 -- what a file is as a disk
@@ -45,7 +47,8 @@ as_disks G H = record {
 }
 
 -- what an image in two files is, the one with the home blocks first; or in one of the first kind
-abbrev pub as_files : {S T : Type 0} {start : Starts S} {other : Starts T} → Ghosts (ImageDisk (FileDisk S start) (FileDisk T other))
+abbrev pub as_files : {S T : Type 0} {start : Starts S} {other : Starts T}
+    → Ghosts (ImageDisk (FileDisk S start) (FileDisk T other))
 as_files = as_disks as_file as_file
 
 -- an image in files of which nothing is supposed

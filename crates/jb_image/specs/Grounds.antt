@@ -10,8 +10,8 @@ pub record Share (one other : Ground) : Type 0 where
   pub base : one.base ≡ other.base
   pub stretch : Meet one.stretch other.stretch
 
--- whether a device of this major number may stand on this: on a file only a loop device (7) does, and a partition (259) of one; on a
--- device each that is one, which 0 is not
+-- whether a device of this major number may stand on this: on a file only a loop device (7) does, and a partition (259)
+-- of one; on a device each that is one, which 0 is not
 abbrev pub may_stand_on : Base → ℕ → Bool
 may_stand_on (File device inode) major = major == 7 || major == 259
 may_stand_on (Device own minor) major = not (major == 0)

@@ -5,10 +5,12 @@ use Rattle.jb_disk.specs.OneCall.{Called}
 use Rattle.jb_disk.specs.Faults.{counted}
 use Rattle.jb_disk.specs.Image.{Image, HasShape}
 use Rattle.jb_disk.specs.declared.disk.Disk.{Ghosts}
-use Rattle.jb_image.specs.Disks.{ExtentsCalled, extents_of, refused_calls, journal_blocks, own_among, own_in, spread_count, whole_disk}
+use Rattle.jb_image.specs.Disks.{ExtentsCalled, extents_of, refused_calls, journal_blocks, own_among, own_in}
+use Rattle.jb_image.specs.Disks.{spread_count, whole_disk}
 use Rattle.jb_image.specs.ExtentImage.{IsHonestWithin, WithinLeaves, WithinLeft, within, within-shape}
 use Rattle.jb_image.specs.Laws.{counts_both, has_both_shapes, leaves_newest, only_both, since_has_both_shapes}
-use Rattle.jb_image.specs.Pair.{back_disk, front_disk, joined_count, past_states, AreWellAsked, IsHonestPair, MayGoOnBoth, PairCalled, PairLeaves, PairLeftSince}
+use Rattle.jb_image.specs.Pair.{back_disk, front_disk, joined_count, past_states, AreWellAsked, IsHonestPair}
+use Rattle.jb_image.specs.Pair.{MayGoOnBoth, PairCalled, PairLeaves, PairLeftSince}
 use Rattle.jb_image.specs.declared.image.ImageDisk.{ImageDisk}
 use Rattle.jb_image.specs.declared.image.ImageDisk.TheVariants.{One, Two, Within}
 
@@ -40,7 +42,9 @@ module _ {D E : Type 0} (G : Ghosts D) (H : Ghosts E) where
   -- how many blocks it has
   abbrev pub image_count : ImageDisk D E → ℕ
   image_count (One disk) = G.count disk
-  image_count (Two pair) = joined_count (H.size (front_disk pair)) (H.count (front_disk pair)) (G.size (back_disk pair)) (G.count (back_disk pair))
+  image_count (Two pair) =
+      joined_count (H.size (front_disk pair)) (H.count (front_disk pair)) (G.size (back_disk pair))
+      (G.count (back_disk pair))
   image_count (Within disk) = spread_count (journal_blocks disk) (G.count (whole_disk disk))
 
   -- how many calls of it have failed
@@ -106,49 +110,65 @@ module _ {D E : Type 0} (G : Ghosts D) (H : Ghosts E) where
   -- ---- the laws, by those of the two kinds of disks
 
   -- its blocks have one of the sizes that a journal's may have
-  pub has_image_size : ((disk : D) → IsBlockSize (G.size disk)) → ((disk : E) → IsBlockSize (H.size disk)) → (image : ImageDisk D E) → IsBlockSize (image_size image)
+  pub has_image_size : ((disk : D) → IsBlockSize (G.size disk)) → ((disk : E) → IsBlockSize (H.size disk))
+      → (image : ImageDisk D E) → IsBlockSize (image_size image)
   has_image_size one other (One disk) = one disk
   has_image_size one other (Two pair) = other (front_disk pair)
   has_image_size one other (Within disk) = one (whole_disk disk)
 
   -- a crash may leave what a read gives
-  pub newest_may_stay : ((disk : D) → G.honest disk → G.may_leave disk (G.newest disk)) → ((disk : E) → H.honest disk → H.may_leave disk (H.newest disk))
+  pub newest_may_stay : ((disk : D) → G.honest disk → G.may_leave disk (G.newest disk))
+      → ((disk : E) → H.honest disk → H.may_leave disk (H.newest disk))
       → (image : ImageDisk D E) → IsHonestImage image → ImageLeaves image (image_newest image)
   newest_may_stay one other (One disk) honest = one disk honest
-  newest_may_stay one other (Two pair) honest = leaves_newest H G pair (other (front_disk pair) honest.first) (one (back_disk pair) honest.second)
-  newest_may_stay one other (Within disk) honest = (G.newest (whole_disk disk), one (whole_disk disk) honest.whole, refl)
+  newest_may_stay one other (Two pair) honest =
+      leaves_newest H G pair (other (front_disk pair) honest.first) (one (back_disk pair) honest.second)
+  newest_may_stay one other (Within disk) honest =
+      (G.newest (whole_disk disk), one (whole_disk disk) honest.whole, refl)
 
   -- what a crash may leave has its shape
-  pub has_image_shape : ((disk : D) (c : Image) → G.honest disk → G.may_leave disk c → HasShape (G.count disk) (G.size disk) c)
+  pub has_image_shape : ((disk : D) (c : Image) → G.honest disk → G.may_leave disk c
+      → HasShape (G.count disk) (G.size disk) c)
       → ((disk : E) (c : Image) → H.honest disk → H.may_leave disk c → HasShape (H.count disk) (H.size disk) c)
-      → (image : ImageDisk D E) (c : Image) → IsHonestImage image → ImageLeaves image c → HasShape (image_count image) (image_size image) c
+      → (image : ImageDisk D E) (c : Image) → IsHonestImage image → ImageLeaves image c
+      → HasShape (image_count image) (image_size image) c
   has_image_shape one other (One disk) c honest left = one disk c honest left
   has_image_shape one other (Two pair) c honest left =
-      has_both_shapes H G pair c honest (λ x. other (front_disk pair) x honest.first) (λ y. one (back_disk pair) y honest.second) left
+      has_both_shapes H G pair c honest (λ x. other (front_disk pair) x honest.first)
+      (λ y. one (back_disk pair) y honest.second) left
   has_image_shape one other (Within disk) c honest left =
-      within-shape (extents_of disk) (journal_blocks disk) (G.size (whole_disk disk)) (G.count (whole_disk disk)) c left.0 (one (whole_disk disk) left.0 honest.whole left.1) left.2
+      within-shape (extents_of disk) (journal_blocks disk) (G.size (whole_disk disk)) (G.count (whole_disk disk)) c
+      left.0 (one (whole_disk disk) left.0 honest.whole left.1) left.2
 
   -- so has what a crash since a moment might have left
-  pub has_shape_since : ((disk : D) (t : ℕ) (c : Image) → G.honest disk → G.left_since disk t c → HasShape (G.count disk) (G.size disk) c)
-      → (image : ImageDisk D E) (t : ℕ) (c : Image) → IsHonestImage image → ImageLeft image t c → HasShape (image_count image) (image_size image) c
+  pub has_shape_since : ((disk : D) (t : ℕ) (c : Image) → G.honest disk → G.left_since disk t c
+      → HasShape (G.count disk) (G.size disk) c)
+      → (image : ImageDisk D E) (t : ℕ) (c : Image) → IsHonestImage image → ImageLeft image t c
+      → HasShape (image_count image) (image_size image) c
   has_shape_since one (One disk) t c honest left = one disk t c honest left
   has_shape_since one (Two pair) t c honest left = since_has_both_shapes H G pair t c left
   has_shape_since one (Within disk) t c honest left =
-      within-shape (extents_of disk) (journal_blocks disk) (G.size (whole_disk disk)) (G.count (whole_disk disk)) c left.0 (one (whole_disk disk) t left.0 honest.whole left.1) left.2
+      within-shape (extents_of disk) (journal_blocks disk) (G.size (whole_disk disk)) (G.count (whole_disk disk)) c
+      left.0 (one (whole_disk disk) t left.0 honest.whole left.1) left.2
 
   -- this moment is one of those since an earlier one
-  pub counts_now : ((disk : D) (t : ℕ) (c : Image) → G.honest disk → t ≤ G.moment disk → G.may_leave disk c → G.left_since disk t c)
+  pub counts_now : ((disk : D) (t : ℕ) (c : Image) → G.honest disk → t ≤ G.moment disk → G.may_leave disk c
+      → G.left_since disk t c)
       → ((disk : D) (c : Image) → G.honest disk → G.may_leave disk c → HasShape (G.count disk) (G.size disk) c)
       → ((disk : E) (c : Image) → H.honest disk → H.may_leave disk c → HasShape (H.count disk) (H.size disk) c)
-      → (image : ImageDisk D E) (t : ℕ) (c : Image) → IsHonestImage image → t ≤ image_moment image → ImageLeaves image c → ImageLeft image t c
+      → (image : ImageDisk D E) (t : ℕ) (c : Image) → IsHonestImage image → t ≤ image_moment image → ImageLeaves image c
+      → ImageLeft image t c
   counts_now counts one other (One disk) t c honest earlier left = counts disk t c honest earlier left
   counts_now counts one other (Two pair) t c honest earlier left =
-      counts_both H G pair t c honest (λ x. other (front_disk pair) x honest.first) (λ y. one (back_disk pair) y honest.second) earlier left
-  counts_now counts one other (Within disk) t c honest earlier left = (left.0, counts (whole_disk disk) t left.0 honest.whole earlier left.1, left.2)
+      counts_both H G pair t c honest (λ x. other (front_disk pair) x honest.first)
+      (λ y. one (back_disk pair) y honest.second) earlier left
+  counts_now counts one other (Within disk) t c honest earlier left =
+      (left.0, counts (whole_disk disk) t left.0 honest.whole earlier left.1, left.2)
 
   -- since this moment there is no other
   pub only_now : ((disk : D) (c : Image) → G.honest disk → G.left_since disk (G.moment disk) c → G.may_leave disk c)
-      → (image : ImageDisk D E) (c : Image) → IsHonestImage image → ImageLeft image (image_moment image) c → ImageLeaves image c
+      → (image : ImageDisk D E) (c : Image) → IsHonestImage image → ImageLeft image (image_moment image) c
+      → ImageLeaves image c
   only_now only (One disk) c honest left = only disk c honest left
   only_now only (Two pair) c honest left = only_both H G pair c left
   only_now only (Within disk) c honest left = (left.0, only (whole_disk disk) left.0 honest.whole left.1, left.2)

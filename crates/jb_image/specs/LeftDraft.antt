@@ -4,7 +4,8 @@ use Rattle.jb_super.specs.Faults.{super_in}
 use Rattle.jb_super.specs.Superblock.{Superblock}
 use Rattle.jb_super.specs.declared.fault.SuperFault.{SuperFault}
 
--- what is read as a superblock is that of a journal that has had no transaction: it is clean, and the next number is the first
+-- what is read as a superblock is that of a journal that has had no transaction: it is clean, and the next number is
+-- the first
 abbrev pub is_unused_super : Result Superblock SuperFault → Bool
 is_unused_super (Ok sb) = sb.start == 0 && sb.sequence == 1
 is_unused_super (Err fault) = false

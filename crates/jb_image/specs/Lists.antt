@@ -1,5 +1,7 @@
 -- A list of extents: what a text lists, and which blocks it has.
-use Rattle.std.specs.Prelude.{◌≡◌, ℕ, ◌+◌, ◌-◌, ◌^◌, ◌<◌, ◌≤◌, ◌==◌, ◌&&◌, ◌||◌, not, Bool, true, false, if◌then◌else◌, List, [], ◌∷◌, ◌++◌, All, min, max, nat_lt, Option, Some, None, option_and_then, Result, Ok, Err}
+use Rattle.std.specs.Prelude.{◌≡◌, ℕ, ◌+◌, ◌-◌, ◌^◌, ◌<◌, ◌≤◌, ◌==◌, ◌&&◌, ◌||◌, not, Bool, true, false, if◌then◌else◌}
+use Rattle.std.specs.Prelude.{List, [], ◌∷◌, ◌++◌, All, min, max, nat_lt, Option, Some, None, option_and_then, Result}
+use Rattle.std.specs.Prelude.{Ok, Err}
 use Rattle.jb_text.specs.Parts.{grow}
 use Rattle.jb_map.specs.Blocks.{extent_count, has_block}
 use Rattle.jb_image.specs.Words.{named_in}
@@ -7,8 +9,8 @@ use Rattle.jb_map.specs.declared.extent.Extent.{Extent}
 use Rattle.jb_image.specs.declared.extents.Extents.{Extents}
 use Rattle.jb_image.specs.declared.extents_fault.ListFault.{ListFault}
 use Rattle.jb_image.specs.declared.extents_fault.ListFault.TheVariants.{Syntax, Memory}
-use Rattle.jb_image.specs.declared.list_word.Named.{Named}
-use Rattle.jb_image.specs.declared.list_word.Named.TheVariants.{Nothing, Blocks}
+use Rattle.jb_image.specs.declared.list_word.ListWord.{ListWord}
+use Rattle.jb_image.specs.declared.list_word.ListWord.TheVariants.{Nothing, Blocks}
 
 -- ---- the words of a text
 
@@ -60,7 +62,8 @@ meets_in e (f ∷ fs) =
 -- at no place of a journal do two lists of extents have another block; or this is the first at which they do
 abbrev pub PartsFirst : List Extent → List Extent → Option ℕ → Type 0
 PartsFirst es fs None = (i : ℕ) → place_within es i ≡ place_within fs i
-PartsFirst es fs (Some at) = (place_within es at ≡ place_within fs at → ⊥) × ((i : ℕ) → i < at → place_within es i ≡ place_within fs i)
+PartsFirst es fs (Some at) =
+    (place_within es at ≡ place_within fs at → ⊥) × ((i : ℕ) → i < at → place_within es i ≡ place_within fs i)
 
 -- how many of the extents have this block
 abbrev pub times : List Extent → ℕ → ℕ
@@ -104,7 +107,7 @@ follows_at blocks None = true
 follows_at blocks (Some at) = at == blocks
 
 -- the extents with the blocks that a word says, where they come next
-abbrev pub with_named : List Extent → Named → Option (List Extent)
+abbrev pub with_named : List Extent → ListWord → Option (List Extent)
 with_named es Nothing = Some es
 with_named es (Blocks at e) = if follows_at (extents_count es) at then Some (attached es e) else None
 

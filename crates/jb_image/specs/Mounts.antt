@@ -8,7 +8,9 @@ behind_first delimiter bytes = drop 1 (onward delimiter bytes)
 
 -- the two numbers of a device that is written `A:B`
 abbrev pub numbers_in : List ℕ → Option (ℕ × ℕ)
-numbers_in device = option_and_then (λ major. option_map (λ minor. (major, minor)) (number_of (behind_first 58 device))) (number_of (before 58 device))
+numbers_in device =
+    option_and_then (λ major. option_map (λ minor. (major, minor)) (number_of (behind_first 58 device)))
+    (number_of (before 58 device))
 
 -- the numbers of the device that is mounted: the third word of a line
 abbrev pub device_in : List ℕ → Option (ℕ × ℕ)

@@ -17,7 +17,8 @@ pub record Joins (P Q : Image → Type 0) (c : Image) : Type 0 where
   pub second : Q back
   pub joined : c ≡ front ++ back
 
-module _ {A B : Type 0} (leaves : A → Image → Type 0) (moment : A → ℕ) (since : A → ℕ → Image → Type 0) (leaves' : B → Image → Type 0) (moment' : B → ℕ) (since' : B → ℕ → Image → Type 0) where
+module _ {A B : Type 0} (leaves : A → Image → Type 0) (moment : A → ℕ) (since : A → ℕ → Image → Type 0)
+    (leaves' : B → Image → Type 0) (moment' : B → ℕ) (since' : B → ℕ → Image → Type 0) where
   -- what a crash may leave of two disks: what it may leave of each
   abbrev pub LeavesBoth : A × B → Image → Type 0
   LeavesBoth now = Joins (leaves now.0) (leaves' now.1)
@@ -29,4 +30,6 @@ module _ {A B : Type 0} (leaves : A → Image → Type 0) (moment : A → ℕ) (
   -- what a crash might have left of two disks when t calls had been made, or later: between two calls, or in one
   abbrev pub LeftOfBoth : A × B → List (A × B) → ℕ → Image → Type 0
   LeftOfBoth now [] t c = (t ≤ 0) × LeavesBoth now c
-  LeftOfBoth now (before ∷ older) t c = ((t ≤ length older + 1) × LeavesBoth now c) ⊎ (((t ≤ length older) × LeftBetween before now c) ⊎ LeftOfBoth before older t c)
+  LeftOfBoth now (before ∷ older) t c =
+      ((t ≤ length older + 1) × LeavesBoth now c)
+      ⊎ (((t ≤ length older) × LeftBetween before now c) ⊎ LeftOfBoth before older t c)

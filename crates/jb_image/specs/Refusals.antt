@@ -5,7 +5,8 @@ use Rattle.std.specs.declared.fs.TryLockError.{TryLockError}
 use Rattle.std.specs.declared.fs.TryLockError.TheVariants.{Error as LockError, WouldBlock}
 use Rattle.std.specs.declared.io.Error.{Error}
 use Rattle.std.specs.declared.io.ErrorKind.{ErrorKind}
-use Rattle.std.specs.declared.io.ErrorKind.TheVariants.{NotADirectory, NotFound, OutOfMemory, PermissionDenied, Unsupported}
+use Rattle.std.specs.declared.io.ErrorKind.TheVariants.{NotADirectory, NotFound, OutOfMemory, PermissionDenied}
+use Rattle.std.specs.declared.io.ErrorKind.TheVariants.{Unsupported}
 use Rattle.std.specs.IoError.{error_kind, raw_os_error}
 use Rattle.jb_image.specs.declared.fault.ImageFault.{ImageFault}
 use Rattle.jb_image.specs.declared.fault.ImageFault.TheVariants.{InUse, Memory, Mounted, MountsUnknown, System}
@@ -68,7 +69,8 @@ is_unseen NotADirectory = true
 is_unseen PermissionDenied = true
 is_unseen _ = false
 
--- whether an image may be opened of which it is asked whether it is mounted: not where it is; where that is not known, only by force
+-- whether an image may be opened of which it is asked whether it is mounted: not where it is; where that is not known,
+-- only by force
 abbrev pub may_open : Opening → Result Bool ImageFault → Result Unit ImageFault
 may_open Read answer = Ok tt
 may_open Change (Ok mounted) = if mounted then Err Mounted else Ok tt

@@ -5,7 +5,7 @@ ghost use Rattle.jb_map.specs.Twice.{AreForward};
 ghost use Rattle.jb_image.specs.Lists.{is_between as stands_between, listed, listed_in, TakesWord};
 
 use crate::extents_fault::ListFault;
-use crate::list_word::{Named, read_word};
+use crate::list_word::{ListWord, read_word};
 use crate::parting::first_parting;
 use crate::shared::lowest_shared;
 use jb_block::Memory;
@@ -180,8 +180,8 @@ fn take_word(list: &mut Vec<Extent>, blocks: u64, word: &[u8]) -> Result<u64, Li
 {
     match read_word(word) {
         None => Err(ListFault::Syntax),
-        Some(Named::Nothing) => Ok(blocks),
-        Some(Named::Blocks(at, extent)) => {
+        Some(ListWord::Nothing) => Ok(blocks),
+        Some(ListWord::Blocks(at, extent)) => {
             if !follows(blocks, at) {
                 return Err(ListFault::Syntax);
             }

@@ -8,7 +8,7 @@ ghost use Rattle.jb_image.specs.Grounds.{Share};
 use crate::fault::ImageFault;
 use crate::mount_line::numbers;
 use crate::refusals::{is_missing, is_unseen, mounts_fault};
-use crate::stretch::Stretch;
+use crate::stretch::ByteStretch;
 use jb_text::{number, part};
 use std::fs::{File, Metadata};
 use std::os::unix::fs::{FileTypeExt, MetadataExt};
@@ -53,7 +53,7 @@ pub(crate) struct Ground {
     /// The file or the device.
     base: Base,
     /// Which of its bytes.
-    stretch: Stretch,
+    stretch: ByteStretch,
 }
 
 impl Ground {
@@ -67,7 +67,7 @@ impl Ground {
     ) -> Result<Ground, ImageFault> {
         let mut ground = Ground {
             base,
-            stretch: Stretch::all(),
+            stretch: ByteStretch::all(),
         };
         for _ in 0..DEPTH {
             match below(rt, ground.base)? {
@@ -127,7 +127,7 @@ fn below_loop<R: Files<File = File> + AllocGlobal>(
     let len = number_said(rt, major, minor, "loop/sizelimit")?;
     Ok(Some(Ground {
         base,
-        stretch: Stretch::new(from, len),
+        stretch: ByteStretch::new(from, len),
     }))
 }
 
@@ -148,7 +148,7 @@ fn below_partition<R: Files<File = File> + AllocGlobal>(
     };
     Ok(Ground {
         base: Base::Device(major, minor),
-        stretch: Stretch::new(start.saturating_mul(SECTOR), sectors.saturating_mul(SECTOR)),
+        stretch: ByteStretch::new(start.saturating_mul(SECTOR), sectors.saturating_mul(SECTOR)),
     })
 }
 

@@ -8,7 +8,7 @@ use jb_text::{number, part};
 
 /// What a word of a list says.
 #[derive(Clone, Copy)]
-pub(crate) enum Named {
+pub(crate) enum ListWord {
     /// Nothing of the journal's blocks: it is empty, or about a block of the file system's own map.
     Nothing,
     /// These blocks hold blocks of the journal, from this one on where the word says so.
@@ -17,22 +17,22 @@ pub(crate) enum Named {
 
 /// What a word says: `(A-B):C-D` or `(A):C`, as debugfs lists the extents of a file; `(NAME):C`, the blocks of the
 /// map; or `C-D` or `C` alone, the next blocks.
-pub(crate) fn read_word(word: &[u8]) -> Option<Named>
+pub(crate) fn read_word(word: &[u8]) -> Option<ListWord>
     ensures says { result ≡ named_in word.now }
     ensures forward { IfSome result IsForward }
 {
     if word.is_empty() {
-        return Some(Named::Nothing);
+        return Some(ListWord::Nothing);
     }
     if word[0] != b'(' {
-        return Some(Named::Blocks(None, range_of(word)?));
+        return Some(ListWord::Blocks(None, range_of(word)?));
     }
     let (inner, rest) = part(&word[1..], b')');
     read_placed(inner, rest)
 }
 
 /// What `(INNER` and the rest of a word say, which begins with `):`.
-fn read_placed(inner: &[u8], rest: &[u8]) -> Option<Named>
+fn read_placed(inner: &[u8], rest: &[u8]) -> Option<ListWord>
     ensures says { result ≡ place_in inner.now rest.now }
     ensures forward { IfSome result IsForward }
 {
@@ -41,13 +41,13 @@ fn read_placed(inner: &[u8], rest: &[u8]) -> Option<Named>
     }
     let blocks = range_of(&rest[2..])?;
     if is_name(inner) {
-        return Some(Named::Nothing);
+        return Some(ListWord::Nothing);
     }
     stretch(range_of(inner)?, blocks)
 }
 
 /// Blocks of the journal that are in as many of the image.
-fn stretch(own: Extent, blocks: Extent) -> Option<Named>
+fn stretch(own: Extent, blocks: Extent) -> Option<ListWord>
     requires { blocks.first ≤ blocks.last }
     ensures says { result ≡ stretch_in own blocks }
     ensures forward { IfSome result IsForward }
@@ -55,7 +55,7 @@ fn stretch(own: Extent, blocks: Extent) -> Option<Named>
     if own.blocks() != blocks.blocks() {
         return None;
     }
-    Some(Named::Blocks(Some(own.first), blocks))
+    Some(ListWord::Blocks(Some(own.first), blocks))
 }
 
 /// Whether a text begins with `):`.

@@ -14,7 +14,7 @@ use Rattle.jb_book.specs.Marks.{SeesStop}
 use Rattle.jb_book.specs.declared.origin.Origin.{Ghosts}
 use Rattle.jb_book.specs.declared.sights.Sights.{Sights}
 use Rattle.jb_desk.specs.Seats.{made_by}
-use Rattle.jb_journal.specs.Change.{AnswersChange, IsCalled, IsChanged, SeesChange, Stops}
+use Rattle.jb_journal.specs.Change.{AnswersChange, IsCalled, IsChanged, SeesChange, StopsWith}
 use Rattle.jb_journal.specs.Client.{made_from}
 use Rattle.jb_journal.specs.Notes.{Stop}
 use Rattle.jb_journal.specs.declared.counted.CountedSeat.{CountedSeat}
@@ -23,7 +23,7 @@ use Rattle.jb_journal.specs.declared.fault.HandleFault.TheVariants.{Begin, Refus
 
 module _ {F T E : Type 0} (g : Once F (MutBor (Handle (Unit {0})) × Unit {0}) (Result T E × (MutBor (Handle (Unit {0})) × Unit {0}))) (f : F) (fresh : Held) (answer : T) (called : IsCalled g f fresh (Ok answer)) where
   -- the handle that f left stops with its words
-  pub stopped-as : (words : WordMap) (old new : List (ℕ × WordMap)) → words ≡ (changes_of called.after).words → (r : Result (T × ℕ) (HandleFault E)) → Stops answer words old new r → AnswersChange g f fresh old new r
+  pub stopped-as : (words : WordMap) (old new : List (ℕ × WordMap)) → words ≡ (changes_of called.after).words → (r : Result (T × ℕ) (HandleFault E)) → StopsWith answer words old new r → AnswersChange g f fresh old new r
   stopped-as words old new same (Ok given) is = subst (λ a. IsChanged g f fresh a given.1 old new) (sym is.0) record { called = called; stopped = is.1 ∙ ap (λ w. old ++ (given.1, w) ∷ []) same }
   stopped-as words old new same (Err (Begin fault)) none = absurd none
   stopped-as words old new same (Err (Refused fault)) none = absurd none

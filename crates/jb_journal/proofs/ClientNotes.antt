@@ -24,7 +24,7 @@ use Rattle.jb_book.specs.declared.origin.Origin.{Ghosts as OriginGhosts}
 use Rattle.jb_book.specs.declared.sights.Sights.{Sights}
 use Rattle.jb_book.specs.History.{IsStop}
 use Rattle.jb_book.specs.Journal.{ReadsHome}
-use Rattle.jb_book.specs.SinceMark.{HasSettledOf, Lasts, Within}
+use Rattle.jb_book.specs.SinceMark.{HasSettledOf, Lasts, HaveTickets}
 use Rattle.jb_desk.specs.Desks.{shape_in}
 use Rattle.jb_desk.specs.Marks.{ShowsTaken}
 use Rattle.jb_desk.specs.declared.fault.WaitFault.{WaitFault}
@@ -144,7 +144,7 @@ noted-on before after ticket number p n = record {
 
 module _ {D : Type 0} (G : Ghosts D) (b : Begun) (known log : List WordMap) (marks after : List (OpenDeck D)) (notes : List Note) (home bytes : ℕ) (found : List ℕ) where
   abbrev HasNote : List Entry → Note → Type 0
-  HasNote trail n = Within n.trail × (committed_by n ≤ past_after 0 trail)
+  HasNote trail n = HaveTickets n.trail × (committed_by n ≤ past_after 0 trail)
 
   pub reads-as : (r : Result (Unit {0}) ReadHomeFault) → ReadsHome G b known marks after home bytes found r
       → OnOk r (ReadsAs b (AreHonest G after) (record { log = log; notes = map (note_of G.moment) marks }) (record { log = known; notes = notes }) home found)

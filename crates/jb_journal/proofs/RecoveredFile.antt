@@ -5,8 +5,8 @@ use Rattle.jb_block.specs.declared.size.BlockSize.{BlockSize}
 use Rattle.jb_disk.specs.RecordLaws.{left_from_now}
 use Rattle.jb_disk.specs.Faults.{CountsNone}
 use Rattle.jb_disk.specs.File.{content_of, count_of, events_of, faults_of, size_of_blocks, FileLeaves, FileLeft, IsHonest, IsMeasured, IsWellAsked, MayGoOn}
-use Rattle.jb_disk.specs.Image.{Image, Only, Same}
-use Rattle.jb_disk.specs.Kept.{Kept}
+use Rattle.jb_disk.specs.Image.{Image, Only, ChangesNothing}
+use Rattle.jb_disk.specs.Kept.{IsDiskKept}
 use Rattle.jb_disk.specs.Time.{Goes, LeavesOnly}
 use Rattle.jb_disk.specs.declared.file.FileDisk.{FileDisk}
 use Rattle.jb_disk.specs.declared.start.Start.{Ghosts as Starts}
@@ -26,7 +26,7 @@ module _ {S : Type 0} {start : Starts S} where
 
   -- what a call keeps of a file, with this of its counts of faults
   abbrev pub Keeps : (ℕ → ℕ → Type 0) → FileDisk S start → FileDisk S start → Type 0
-  Keeps counts old new = Kept (λ f. bytes_of (size_of_blocks f)) count_of faults_of IsHonest MayGoOn IsWellAsked counts old new
+  Keeps counts old new = IsDiskKept (λ f. bytes_of (size_of_blocks f)) count_of faults_of IsHonest MayGoOn IsWellAsked counts old new
 
   module _ (size : BlockSize) (old new : FileDisk S start) where
     -- what a recovery says of the files is said of what the file held when it was opened
@@ -63,7 +63,7 @@ module _ {S : Type 0} {start : Starts S} where
 
     -- a file that was recovered is so after a read
     pub still-recovered : WasRecovered size old → Keeps CountsNone old new → (IsHonest new → content_of new ≡ content_of old)
-        → (IsHonest new → Goes FileLeaves moment FileLeft Same old new) → WasRecovered size new
+        → (IsHonest new → Goes FileLeaves moment FileLeft ChangesNothing old new) → WasRecovered size new
     still-recovered was kept same reads =
         let before : IsHonest new → IsHonest old = kept.was_honest in
         let left_before : (honest : IsHonest new) → (c : Image) → FileLeaves new c → FileLeaves old c

@@ -9,7 +9,7 @@ use Rattle.jb_board.specs.declared.place.Place.{Ghosts as Places}
 use Rattle.jb_journal.specs.Client.{AreHonest}
 use Rattle.jb_journal.specs.Notes.{Known, Stop, changed_by}
 use Rattle.jb_journal.specs.Run.{AreAnswers, HaveWorked, answer_of, known_of_worked, marks_of_worked, stops_of_worked, HasThreaded, RanAll}
-use Rattle.jb_journal.specs.declared.threads.Worked.{Worked}
+use Rattle.jb_journal.specs.declared.threads.WorkerResult.{WorkerResult}
 use Rattle.std.specs.List.{sum_by}
 use Rattle.jb_cost.specs.Pieces.{joined}
 use Rattle.jb_handle.specs.declared.shape.Shape.{Shape}
@@ -47,17 +47,17 @@ all-there (Some x ∷ os) same = ap (λ l. Some x ∷ l) (all-there os (omega (a
 
 -- ---- what all workers answered, from what each leaves
 
-module _ {T D H N : Type 0} {O : Ghosts H} {P : Places H} (G : Disks D) (may : Type 0 → ℕ → ℕ → List Stop → Known → T → Type 0) (workers : ℕ) (answers : List T) (ws : List (Worked T D H N O P)) (worked : HaveWorked G may workers ws) where
-  abbrev stops : Worked T D H N O P → List Stop
+module _ {T D H N : Type 0} {O : Ghosts H} {P : Places H} (G : Disks D) (may : Type 0 → ℕ → ℕ → List Stop → Known → T → Type 0) (workers : ℕ) (answers : List T) (ws : List (WorkerResult T D H N O P)) (worked : HaveWorked G may workers ws) where
+  abbrev stops : WorkerResult T D H N O P → List Stop
   stops w = stops_of_worked w
 
-  abbrev knew : Worked T D H N O P → Known
+  abbrev knew : WorkerResult T D H N O P → Known
   knew w = known_of_worked G.moment w
 
-  abbrev saw : Worked T D H N O P → List (OpenDeck D)
+  abbrev saw : WorkerResult T D H N O P → List (OpenDeck D)
   saw w = marks_of_worked w
 
-  abbrev told : Worked T D H N O P → Option T
+  abbrev told : WorkerResult T D H N O P → Option T
   told w = answer_of w
 
   -- each that was called has answered what it may
@@ -70,14 +70,14 @@ module _ {T D H N : Type 0} {O : Ghosts H} {P : Places H} (G : Disks D) (may : T
     each = λ at none unknown unseen d inside. each at none unknown unseen d inside ws refl;
   }
     where
-      each : (at : ℕ) (none : List Stop) (unknown : Known) (unseen : List (OpenDeck D)) (d : Option T) → at < workers → (xs : List (Worked T D H N O P)) → xs ≡ ws
+      each : (at : ℕ) (none : List Stop) (unknown : Known) (unseen : List (OpenDeck D)) (d : Option T) → at < workers → (xs : List (WorkerResult T D H N O P)) → xs ≡ ws
           → IfSome (get_or (map told ws) at d) (may (AreHonest G (get_or (map saw ws) at unseen)) workers at (get_or (map stops ws) at none) (get_or (map knew ws) at unknown))
       each at none unknown unseen d inside [] is = absurd (let none : 0 ≡ workers = ap length is ∙ worked.number in let never : ⊥ = omega arith in never)
       each at none unknown unseen d inside (x ∷ xs) is =
           let lt : at < length ws = omega (arith, inside, worked.number) in
           rw (get_or-map stops ws at x none lt, get_or-map knew ws at x unknown lt, get_or-map saw ws at x unseen lt, get_or-map told ws at x d lt) (worked.each at x inside)
 
-  told-lists : (xs : List (Worked T D H N O P)) → map answers_of xs ≡ map option_to_list (map told xs)
+  told-lists : (xs : List (WorkerResult T D H N O P)) → map answers_of xs ≡ map option_to_list (map told xs)
   told-lists [] = refl
   told-lists (x ∷ xs) = ap (λ l. option_to_list (told x) ∷ l) (told-lists xs)
 
@@ -130,13 +130,13 @@ module _ {T D H N : Type 0} {O : Ghosts H} {P : Places H} (G : Disks D) (b : Beg
       → (shape : Shape) (told : Ran T D) → IsClosed G b workers all shape told → RanAll G b may workers shape told
   ran-all may workers ran all has gathered shape told closed =
       let ws = ran.workers.items in
-      let stopped : List (List Stop) = map (λ (w : Worked T D H N O P). stops_of_worked w) ws in
+      let stopped : List (List Stop) = map (λ (w : WorkerResult T D H N O P). stops_of_worked w) ws in
       let made : joined (map made_left all.lefts.items) ≡ joined stopped = gathered.stops ∙ ap (λ xs. xs ++ joined stopped) has.committed in
-      let ends = ends-known G b _ stopped told.handles shape told.disk told.trail.items made (λ (w : Worked T D H N O P). w.seen) ws all.seen told.in_log closed.ends gathered.seen in
+      let ends = ends-known G b _ stopped told.handles shape told.disk told.trail.items made (λ (w : WorkerResult T D H N O P). w.seen) ws all.seen told.in_log closed.ends gathered.seen in
       record {
         stopped = stopped;
-        known = map (λ (w : Worked T D H N O P). known_of_worked G.moment w) ws;
-        seen = map (λ (w : Worked T D H N O P). marks_of_worked w) ws;
+        known = map (λ (w : WorkerResult T D H N O P). known_of_worked G.moment w) ws;
+        seen = map (λ (w : WorkerResult T D H N O P). marks_of_worked w) ws;
         answers = are-answers G may workers told.answers.items ws has.worked (ap (λ xs. xs.items) closed.answers ∙ gathered.answers) (let number = closed.number in omega (arith, number));
         changes = closed.changes ∙ ap (sum_by changed_by) made;
         ends = ends.0;
@@ -153,18 +153,18 @@ module _ {T D H N : Type 0} {O : Ghosts H} {P : Places H} (G : Disks D) (b : Beg
   stands-of may workers ran all has gathered back same ends =
       let ws = ran.workers.items in
       record {
-        stopped = map (λ (w : Worked T D H N O P). stops_of_worked w) ws;
-        known = map (λ (w : Worked T D H N O P). known_of_worked G.moment w) ws;
-        seen = map (λ (w : Worked T D H N O P). marks_of_worked w) ws;
-        told = map (λ (w : Worked T D H N O P). answer_of w) ws;
+        stopped = map (λ (w : WorkerResult T D H N O P). stops_of_worked w) ws;
+        known = map (λ (w : WorkerResult T D H N O P). known_of_worked G.moment w) ws;
+        seen = map (λ (w : WorkerResult T D H N O P). marks_of_worked w) ws;
+        told = map (λ (w : WorkerResult T D H N O P). answer_of w) ws;
         answers = are-told G may workers back.answers.items ws has.worked;
         same_answers = are-there G may workers back.answers.items ws has.worked (ap (λ xs. xs.items) same ∙ gathered.answers);
         log = ends.log;
         deck = ends.deck;
         same_disk = ends.same_disk;
         since = ends.since;
-        last = all-known G b ends.log ends.since.given ends.deck back.disk ends.deck.trail ends.same_disk refl (λ (w : Worked T D H N O P). w.seen) ws all.seen ends.knows ends.last gathered.seen;
-        honest = all-honest G b ends.log ends.since.given ends.deck back.disk ends.deck.trail ends.same_disk refl (λ (w : Worked T D H N O P). w.seen) ws all.seen ends.knows ends.last gathered.seen;
+        last = all-known G b ends.log ends.since.given ends.deck back.disk ends.deck.trail ends.same_disk refl (λ (w : WorkerResult T D H N O P). w.seen) ws all.seen ends.knows ends.last gathered.seen;
+        honest = all-honest G b ends.log ends.since.given ends.deck back.disk ends.deck.trail ends.same_disk refl (λ (w : WorkerResult T D H N O P). w.seen) ws all.seen ends.knows ends.last gathered.seen;
       }
 
   -- why there is none

@@ -13,7 +13,8 @@ use Rattle.jb_journal.specs.Notes.{Stop}
 use Rattle.jb_journal.specs.declared.fault.HandleFault.{HandleFault}
 use Rattle.jb_journal.specs.declared.fault.HandleFault.TheVariants.{Begin, Refused, Aborted, NotOpen, Memory}
 
-module _ {F T E : Type 0} (g : Once F (MutBor (Handle (Unit {0})) × Unit {0}) (Result T E × (MutBor (Handle (Unit {0})) × Unit {0}))) (f : F) (fresh : Held) where
+module _ {F T E : Type 0} (g : Once F (MutBor (Handle (Unit {0})) × Unit {0})
+    (Result T E × (MutBor (Handle (Unit {0})) × Unit {0}))) (f : F) (fresh : Held) where
   -- f was called with a handle that had these changes, and gave this
   pub record IsCalled (answer : Result T E) : Type 0 where
     pub before : Handle (Unit {0})
@@ -26,13 +27,15 @@ module _ {F T E : Type 0} (g : Once F (MutBor (Handle (Unit {0})) × Unit {0}) (
     pub answer : T
     pub called : IsCalled (Ok answer)
 
-  -- f gave this, and the handle stopped under this ticket, with the words that f left in it: with these the client has stopped one handle more
+  -- f gave this, and the handle stopped under this ticket, with the words that f left in it: with these the client has
+  -- stopped one handle more
   pub record IsChanged (answer : T) (ticket : ℕ) (old new : List Stop) : Type 0 where
     pub called : IsCalled (Ok answer)
     pub stopped : new ≡ old ++ (ticket, (changes_of called.after).words) ∷ []
 
-  -- What f gave is given where its handle stopped, and is the refusal where it refused. Of a handle that was not begun nothing is said of f; where its credits were
-  -- too many, they are more than the number that is named. Only a handle that stopped is one more of those that the client has stopped
+  -- What f gave is given where its handle stopped, and is the refusal where it refused. Of a handle that was not begun
+  -- nothing is said of f; where its credits were too many, they are more than the number that is named. Only a handle
+  -- that stopped is one more of those that the client has stopped
   abbrev pub AnswersChange : List Stop → List Stop → Result (T × ℕ) (HandleFault E) → Type 0
   AnswersChange old new (Ok given) = IsChanged given.0 given.1 old new
   AnswersChange old new (Err (Begin fault)) = IsTooMany fresh.credits fault × (new ≡ old)
@@ -42,17 +45,19 @@ module _ {F T E : Type 0} (g : Once F (MutBor (Handle (Unit {0})) × Unit {0}) (
   AnswersChange old new (Err Memory) = IsCalledWell × (new ≡ old)
 
 -- a handle stops with this answer and these words, or the desk refuses it
-abbrev pub Stops : {T E : Type 0} → T → WordMap → List Stop → List Stop → Result (T × ℕ) (HandleFault E) → Type 0
-Stops answer words old new (Ok given) = (given.0 ≡ answer) × (new ≡ old ++ (given.1, words) ∷ [])
-Stops answer words old new (Err (Begin fault)) = ⊥
-Stops answer words old new (Err (Refused fault)) = ⊥
-Stops answer words old new (Err Aborted) = new ≡ old
-Stops answer words old new (Err NotOpen) = new ≡ old
-Stops answer words old new (Err Memory) = new ≡ old
+abbrev pub StopsWith : {T E : Type 0} → T → WordMap → List Stop → List Stop → Result (T × ℕ) (HandleFault E) → Type 0
+StopsWith answer words old new (Ok given) = (given.0 ≡ answer) × (new ≡ old ++ (given.1, words) ∷ [])
+StopsWith answer words old new (Err (Begin fault)) = ⊥
+StopsWith answer words old new (Err (Refused fault)) = ⊥
+StopsWith answer words old new (Err Aborted) = new ≡ old
+StopsWith answer words old new (Err NotOpen) = new ≡ old
+StopsWith answer words old new (Err Memory) = new ≡ old
 
--- What was seen after a change: the handle that stopped is seen, with a higher ticket than those that had been seen; where none stopped, the same is seen. Either way the
--- handles that stopped with the seat are seen where they were before
-pub record SeesChange {D H T E : Type 0} (before after : List Stop) (old new : Sights D H) (result : Result (T × ℕ) E) : Type 0 where
+-- What was seen after a change: the handle that stopped is seen, with a higher ticket than those that had been seen;
+-- where none stopped, the same is seen. Either way the handles that stopped with the seat are seen where they were
+-- before
+pub record SeesChange {D H T E : Type 0} (before after : List Stop) (old new : Sights D H) (result : Result (T × ℕ) E)
+    : Type 0 where
   pub marks : new.marks ≡ old.marks
   pub begins : IsFirstPart old.stops new.stops
   pub higher : IfOk result (λ given. length old.stops ≤ given.1)

@@ -27,7 +27,8 @@ abbrev pub one_block : ℕ → List ℕ → WordMap
 one_block home bytes = map.insert map.empty home (Copy bytes)
 
 -- there is a seat, of that board
-abbrev pub SeatedAt : {H N : Type 0} {O : OriginGhosts H} {P : Places H} → BoardId → Option (CountedSeat H N O P) → Type 0
+abbrev pub SeatedAt : {H N : Type 0} {O : OriginGhosts H} {P : Places H} → BoardId → Option (CountedSeat H N O P)
+    → Type 0
 SeatedAt board None = ⊥
 SeatedAt board (Some counted) = desk_of counted.seat ≡ board
 
@@ -50,7 +51,8 @@ abbrev pub known_in : {D H : Type 0} → (D → ℕ) → Sights D H → Known
 known_in moment seen = record { log = seen.stops; notes = each (note_of moment) seen.marks }
 
 module _ {D C R H N : Type 0} {Q : Disks D} {O : OriginGhosts H} {P : Places H} where
-  -- a client with a seat at its desk and the shape of its journal, where handles may stop with any words; it knows its own
+  -- a client with a seat at its desk and the shape of its journal, where handles may stop with any words; it knows its
+  -- own
   pub record IsClient (b : Begun) (client : Client D C R H N Q O P) : Type 0 where
     pub seated : SeatedAt (desk_id client.desk.now) client.seat
     pub shaped : client.shape ≡ shape_in client.desk.now
@@ -90,7 +92,8 @@ module _ {D C R H N : Type 0} {Q : Disks D} {O : OriginGhosts H} {P : Places H} 
     pub client : IsClient b of
     pub meanwhile : when_committed of ≡ Meanwhile
 
-  -- how a client goes on: it knows all that it knew, the disk was honest at all that it had seen if it was so at all that it has seen now, and its handles have to fit the same shape, and are committed when they were before
+  -- how a client goes on: it knows all that it knew, the disk was honest at all that it had seen if it was so at all
+  -- that it has seen now, and its handles have to fit the same shape, and are committed when they were before
   pub record ClientGoesOn (old new : Client D C R H N Q O P) : Type 0 where
     pub knows : KnowsMore (client_known old) (client_known new)
     pub honest : client_honest new → client_honest old

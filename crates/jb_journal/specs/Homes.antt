@@ -5,7 +5,8 @@ use Rattle.jb_recover.specs.Peeks.{PeekFaults, Peeks}
 use Rattle.jb_journal.specs.declared.fault.HomeFault.{HomeFault}
 use Rattle.jb_journal.specs.declared.fault.HomeFault.TheVariants.{Length, Peek}
 
--- what the answer says of the home of an image, and of the buffer: what a peek says, where the buffer has the length of one block
+-- what the answer says of the home of an image, and of the buffer: what a peek says, where the buffer has the length of
+-- one block
 abbrev pub ReadsWhole : ℕ → ℕ → Image → ℕ → List ℕ → List ℕ → Result Unit HomeFault → Type 0
 ReadsWhole size count c home before after (Ok unit) = Peeks size count c home before after (Ok unit)
 ReadsWhole size count c home before after (Err Length) = after ≡ before

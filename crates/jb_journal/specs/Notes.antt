@@ -15,7 +15,7 @@ use Rattle.jb_deck.specs.declared.done.Entry.{Entry}
 use Rattle.jb_book.specs.CallsToBook.{IsInHistory}
 use Rattle.jb_book.specs.Marks.{HasEntry}
 use Rattle.jb_book.specs.Origin.{Begun}
-use Rattle.jb_book.specs.SinceMark.{Within}
+use Rattle.jb_book.specs.SinceMark.{HaveTickets}
 use Rattle.jb_book.specs.Since.{HasFirst}
 use Rattle.jb_desk.specs.declared.fault.WaitFault.{WaitFault}
 use Rattle.jb_desk.specs.declared.fault.WaitFault.TheVariants as wait
@@ -28,7 +28,8 @@ Stop = ℕ × WordMap
 abbrev pub changed_by : Stop → ℕ
 changed_by stop = map.len stop.1
 
--- What is noted of a journal at one time: the moment, and the transactions that were committed by then, without those that had been taken from the trail
+-- What is noted of a journal at one time: the moment, and the transactions that were committed by then, without those
+-- that had been taken from the trail
 pub record Note : Type 0 where
   pub moment : ℕ
   pub trail : List Entry
@@ -41,7 +42,8 @@ note_of moment m = record { moment = moment m.disk; trail = m.trail }
 abbrev pub committed_by : Note → ℕ
 committed_by n = past_after 0 n.trail
 
--- What is known of a journal: the words of the first handles that stopped, each at the place of its ticket, and the first notes of it
+-- What is known of a journal: the words of the first handles that stopped, each at the place of its ticket, and the
+-- first notes of it
 pub record Known : Type 0 where
   pub log : List WordMap
   pub notes : List Note
@@ -80,8 +82,9 @@ NotesTaken notes ticket wait.Unknown = Unit {0}
 abbrev pub AreInNotes : List Note → List Stop → Type 0
 AreInNotes notes stops = All (λ s. (number : ℕ) × IsInNotes notes s.0 number) stops
 
--- What a home holds that was read: what the first of the known handles leave in it, all of those among them that were known to be committed before; nothing is said of a
--- home that these leave free. What it holds is said where the start is known, and the disk is sure to have been honest
+-- What a home holds that was read: what the first of the known handles leave in it, all of those among them that were
+-- known to be committed before; nothing is said of a home that these leave free. What it holds is said where the start
+-- is known, and the disk is sure to have been honest
 pub record ReadsAs (b : Begun) (sure : Type 0) (before after : Known) (home : ℕ) (found : List ℕ) : Type 0 where
   pub given : List Stopped
   pub tickets : TicketsFrom 0 given
@@ -91,20 +94,25 @@ pub record ReadsAs (b : Begun) (sure : Type 0) (before after : Known) (home : �
 
 -- ---- what a run keeps of it
 
--- A note lasts, on the disk that a run leaves, of a journal that was given these handles and has this trail: where that disk is honest, what a crash at any time since that
--- moment leaves has the handles that were committed then, at least
-pub record NoteLasts {D : Type 0} (G : Ghosts D) (b : Begun) (given : List Stopped) (disk : D) (trail : List Entry) (n : Note) : Type 0 where
-  pub tiles : Within n.trail
+-- A note lasts, on the disk that a run leaves, of a journal that was given these handles and has this trail: where that
+-- disk is honest, what a crash at any time since that moment leaves has the handles that were committed then, at least
+pub record NoteLasts {D : Type 0} (G : Ghosts D) (b : Begun) (given : List Stopped) (disk : D) (trail : List Entry)
+    (n : Note) : Type 0 where
+  pub tiles : HaveTickets n.trail
   pub settled : committed_by n ≤ past_after 0 trail
   pub earlier : b.is_known → G.honest disk → n.moment ≤ G.moment disk
-  pub leaves : b.is_known → G.honest disk → (c : Image) → G.left_since disk n.moment c → HasFirst b given (committed_by n) c
+  pub leaves : b.is_known → G.honest disk → (c : Image) → G.left_since disk n.moment c
+      → HasFirst b given (committed_by n) c
 
 -- what was known holds of the whole run: the handles are the first of all that stopped, and the notes last
-pub record KnownLasts {D : Type 0} (G : Ghosts D) (b : Begun) (log : List WordMap) (given : List Stopped) (disk : D) (trail : List Entry) (k : Known) : Type 0 where
+pub record KnownLasts {D : Type 0} (G : Ghosts D) (b : Begun) (log : List WordMap) (given : List Stopped) (disk : D)
+    (trail : List Entry) (k : Known) : Type 0 where
   pub begins : IsFirstPart k.log log
   pub last : All (NoteLasts G b given disk trail) k.notes
 
--- the handle with this ticket stays since this moment: what a crash at any time since then leaves has the first of these handles by their tickets, up to this one at least
-pub record StaysSince {D : Type 0} (G : Ghosts D) (b : Begun) (given : List Stopped) (disk : D) (since ticket : ℕ) : Type 0 where
+-- the handle with this ticket stays since this moment: what a crash at any time since then leaves has the first of
+-- these handles by their tickets, up to this one at least
+pub record StaysSince {D : Type 0} (G : Ghosts D) (b : Begun) (given : List Stopped) (disk : D) (since ticket : ℕ)
+    : Type 0 where
   pub earlier : since ≤ G.moment disk
   pub leaves : (c : Image) → G.left_since disk since c → HasFirst b given (suc ticket) c

@@ -1,5 +1,6 @@
 -- What the threads of a journal leave.
-use Rattle.std.specs.Prelude.{◌≡◌, ℕ, ◌<◌, ◌≤◌, Bool, true, false, All, List, [], length, slice_index_or, Option, Some, None, IfSome}
+use Rattle.std.specs.Prelude.{◌≡◌, ℕ, ◌<◌, ◌≤◌, Bool, true, false, All, List, [], length, slice_index_or, Option, Some}
+use Rattle.std.specs.Prelude.{None, IfSome}
 use Rattle.std.specs.Bool.{OnTrue}
 use Rattle.std.specs.List.{sum_by}
 use Rattle.jb_cost.specs.Pieces.{joined}
@@ -27,17 +28,20 @@ use Rattle.jb_journal.specs.declared.fault.NotDurable.{NotDurable}
 use Rattle.jb_journal.specs.declared.fault.NotDurable.TheVariants.{NotSettled, NotHome}
 use Rattle.jb_journal.specs.declared.ran.Ran.{Ran}
 use Rattle.jb_journal.specs.declared.threads.Threaded.{Threaded}
-use Rattle.jb_journal.specs.declared.threads.Worked.{Worked}
+use Rattle.jb_journal.specs.declared.threads.WorkerResult.{WorkerResult}
 
--- each of this many workers answered what it may with the handles that its client has stopped and what that knew of the journal, where what it read rests on that the disk
--- was honest at all that its client has seen
-pub record AreAnswers {T D : Type 0} (G : Disks D) (may : Type 0 → ℕ → ℕ → List Stop → Known → T → Type 0) (workers : ℕ) (stopped : List (List Stop)) (known : List Known) (seen : List (List (OpenDeck D))) (answers : List T) : Type 0 where
+-- each of this many workers answered what it may with the handles that its client has stopped and what that knew of the
+-- journal, where what it read rests on that the disk was honest at all that its client has seen
+pub record AreAnswers {T D : Type 0} (G : Disks D) (may : Type 0 → ℕ → ℕ → List Stop → Known → T → Type 0) (workers : ℕ)
+    (stopped : List (List Stop)) (known : List Known) (seen : List (List (OpenDeck D))) (answers : List T)
+    : Type 0 where
   pub number : length answers ≡ workers
   pub same : length stopped ≡ workers
   pub knew : length known ≡ workers
   pub saw : length seen ≡ workers
   pub each : (at : ℕ) (none : List Stop) (unknown : Known) (unseen : List (OpenDeck D)) (d : T) → at < workers
-      → may (AreHonest G (slice_index_or seen at unseen)) workers at (slice_index_or stopped at none) (slice_index_or known at unknown) (slice_index_or answers at d)
+      → may (AreHonest G (slice_index_or seen at unseen)) workers at (slice_index_or stopped at none)
+      (slice_index_or known at unknown) (slice_index_or answers at d)
 
 -- the handles that stopped with a seat that has left, where there was one
 abbrev pub stops_left_by : {H N : Type 0} {O : Ghosts H} {P : Places H} → Option (CountedLeft H N O P) → List Stop
@@ -46,50 +50,58 @@ stops_left_by (Some counted) = made_left counted.left
 
 module _ {T D H N : Type 0} {O : Ghosts H} {P : Places H} where
   -- what a worker answered
-  abbrev pub answer_of : Worked T D H N O P → Option T
+  abbrev pub answer_of : WorkerResult T D H N O P → Option T
   answer_of w = w.answer
 
   -- the handles that a worker's client has stopped
-  abbrev pub stops_of_worked : Worked T D H N O P → List Stop
+  abbrev pub stops_of_worked : WorkerResult T D H N O P → List Stop
   stops_of_worked w = stops_left_by w.left
 
   -- what a worker's client knew of the journal
-  abbrev pub known_of_worked : (D → ℕ) → Worked T D H N O P → Known
+  abbrev pub known_of_worked : (D → ℕ) → WorkerResult T D H N O P → Known
   known_of_worked moment w = known_in moment w.seen
 
   -- what a worker's client had seen of the marks
-  abbrev pub marks_of_worked : Worked T D H N O P → List (OpenDeck D)
+  abbrev pub marks_of_worked : WorkerResult T D H N O P → List (OpenDeck D)
   marks_of_worked w = w.seen.marks
 
   -- all that a worker's client has seen is seen, and perhaps more
-  abbrev pub HasAllSeen : Sights D H → Worked T D H N O P → Type 0
+  abbrev pub HasAllSeen : Sights D H → WorkerResult T D H N O P → Type 0
   HasAllSeen seen w = SeesMore w.seen seen
 
   -- the worker was not called
-  abbrev pub HasNotWorked : Worked T D H N O P → Type 0
+  abbrev pub HasNotWorked : WorkerResult T D H N O P → Type 0
   HasNotWorked w = w.answer ≡ None
 
   -- the worker at this place of this many has answered what it may, if it was called
-  abbrev pub HasWorked : Disks D → (Type 0 → ℕ → ℕ → List Stop → Known → T → Type 0) → ℕ → ℕ → Worked T D H N O P → Type 0
-  HasWorked G may workers at w = IfSome (answer_of w) (may (AreHonest G (marks_of_worked w)) workers at (stops_of_worked w) (known_of_worked G.moment w))
+  abbrev pub HasWorked : Disks D → (Type 0 → ℕ → ℕ → List Stop → Known → T → Type 0) → ℕ → ℕ → WorkerResult T D H N O P
+      → Type 0
+  HasWorked G may workers at w =
+      IfSome (answer_of w) (may (AreHonest G (marks_of_worked w)) workers at (stops_of_worked w)
+      (known_of_worked G.moment w))
 
   -- each of this many workers has
-  pub record HaveWorked (G : Disks D) (may : Type 0 → ℕ → ℕ → List Stop → Known → T → Type 0) (workers : ℕ) (ran : List (Worked T D H N O P)) : Type 0 where
+  pub record HaveWorked (G : Disks D) (may : Type 0 → ℕ → ℕ → List Stop → Known → T → Type 0) (workers : ℕ)
+      (ran : List (WorkerResult T D H N O P)) : Type 0 where
     pub number : length ran ≡ workers
-    pub each : (at : ℕ) (d : Worked T D H N O P) → at < workers → HasWorked G may workers at (slice_index_or ran at d)
+    pub each : (at : ℕ) (d : WorkerResult T D H N O P) → at < workers
+        → HasWorked G may workers at (slice_index_or ran at d)
 
   -- the workers have answered, and the committer has stopped no handle
-  pub record HasThreaded (G : Disks D) (may : Type 0 → ℕ → ℕ → List Stop → Known → T → Type 0) (workers : ℕ) (ran : Threaded T D H N O P) : Type 0 where
+  pub record HasThreaded (G : Disks D) (may : Type 0 → ℕ → ℕ → List Stop → Known → T → Type 0) (workers : ℕ)
+      (ran : Threaded T D H N O P) : Type 0 where
     pub worked : HaveWorked G may workers ran.workers.items
     pub committed : stops_left_by ran.committer ≡ []
 
 -- the handles that stopped with the committer's seat, which has left, where there was one
-abbrev pub committed_stops : {H N : Type 0} {O : Ghosts H} {P : Places H} → Option (CountedLeft H N O P × Ended) → List Stop
+abbrev pub committed_stops : {H N : Type 0} {O : Ghosts H} {P : Places H} → Option (CountedLeft H N O P × Ended)
+    → List Stop
 committed_stops None = []
 committed_stops (Some committed) = made_left committed.0.left
 
 -- a seat that was there has left, with what it stopped
-abbrev pub HasLeft : {H N : Type 0} {O : Ghosts H} {P : Places H} → Option (CountedSeat H N O P) → Option (CountedLeft H N O P × Ended) → Type 0
+abbrev pub HasLeft : {H N : Type 0} {O : Ghosts H} {P : Places H} → Option (CountedSeat H N O P)
+    → Option (CountedLeft H N O P × Ended) → Type 0
 HasLeft None after = after ≡ None
 HasLeft (Some before) None = ⊥
 HasLeft (Some before) (Some after) = made_left after.0.left ≡ made_by before.seat
@@ -104,7 +116,8 @@ EndsChecked true (Some ended.Aborted) = Unit {0}
 EndsChecked true (Some ended.Memory) = ⊥
 EndsChecked true (Some ended.Refused) = ⊥
 
--- what a run tells of its end: the settled handles go up to where the trail ends, and are as many as are told to have stopped where the committer ended as the desk was over
+-- what a run tells of its end: the settled handles go up to where the trail ends, and are as many as are told to have
+-- stopped where the committer ended as the desk was over
 pub record EndsRun {T D : Type 0} (checkpoint : Bool) (ran : Ran T D) : Type 0 where
   pub follows : Follow (start_of ran.trail.items) 0 ran.settled ran.trail.items
   pub within : ran.settled ≤ ran.handles
@@ -130,13 +143,17 @@ abbrev pub IsNotDurable : {T D : Type 0} → Ran T D → NotDurable → Type 0
 IsNotDurable ran (NotSettled handles settled) = (handles ≡ ran.handles) × (settled ≡ ran.settled) × (AllSettled ran → ⊥)
 IsNotDurable ran NotHome = AllSettled ran × (IsDoneAtHome ran → ⊥)
 
--- What was run: there are the handles that each worker's client has stopped, and what it knew and had seen of the journal, with which it answered what it may. The handles
--- are all of one history, of as many as are reported, and each is there once; the home blocks that they changed, each handle's added up, are as many as are reported. The
--- journal that the disk is left with has this shape, by which its groups have cost what its trail says, and was given the first of this history; and the machine of
--- handles accepts a list of events in which they stopped in this order, and whose settled groups are those of the trail. What a client knew to be committed at some
--- moment, what a crash at any time since then leaves has. Where the disk that is given back is honest, it was so at all that any client has seen. Of the journal's log this many blocks
--- are in use as are told: where none are, each home on the disk is as these handles left it
-pub record RanAll {T D : Type 0} (G : Disks D) (b : Begun) (may : Type 0 → ℕ → ℕ → List Stop → Known → T → Type 0) (workers : ℕ) (shape : Shape) (ran : Ran T D) : Type 0 where
+-- What was run: there are the handles that each worker's client has stopped, and what it knew and had seen of the
+-- journal, with which it answered what it may. The handles are all of one history, of as many as are reported, and each
+-- is there once; the home blocks that they changed, each handle's added up, are as many as are reported. The journal
+-- that the disk is left with has this shape, by which its groups have cost what its trail says, and was given the first
+-- of this history; and the machine of handles accepts a list of events in which they stopped in this order, and whose
+-- settled groups are those of the trail. What a client knew to be committed at some moment, what a crash at any time
+-- since then leaves has. Where the disk that is given back is honest, it was so at all that any client has seen. Of the
+-- journal's log this many blocks are in use as are told: where none are, each home on the disk is as these handles left
+-- it
+pub record RanAll {T D : Type 0} (G : Disks D) (b : Begun) (may : Type 0 → ℕ → ℕ → List Stop → Known → T → Type 0)
+    (workers : ℕ) (shape : Shape) (ran : Ran T D) : Type 0 where
   pub stopped : List (List Stop)
   pub known : List Known
   pub seen : List (List (OpenDeck D))
@@ -150,7 +167,8 @@ pub record RanAll {T D : Type 0} (G : Disks D) (b : Begun) (may : Type 0 → ℕ
   pub home : ran.in_log ≡ Some 0 → b.is_known → G.honest ran.disk → AreHome G b ends.since.given ran.disk
 
 -- what was run on this disk: the journal on it was opened, with the shape that its workers' handles had to fit
-pub record RanOn {T D : Type 0} (G : Disks D) (disk : D) (b : Begun) (may : Shape → Type 0 → ℕ → ℕ → List Stop → Known → T → Type 0) (workers : ℕ) (ran : Ran T D) : Type 0 where
+pub record RanOn {T D : Type 0} (G : Disks D) (disk : D) (b : Begun)
+    (may : Shape → Type 0 → ℕ → ℕ → List Stop → Known → T → Type 0) (workers : ℕ) (ran : Ran T D) : Type 0 where
   pub shape : Shape
   pub opened : WasOpened G disk shape
   pub all : RanAll G b (may shape) workers shape ran

@@ -38,15 +38,19 @@ module _ {D : Type 0} (G : Ghosts D) (b : Begun) where
     pub same_disk : deck.disk ≡ disk
     pub none : HasNoHandle deck
 
-  -- What is kept of a run of this many workers that has no whole answer: there are the handles that each worker's client has stopped, and what it knew and had seen of the journal,
-  -- with which it answered what it may, if it was called; these are the answers. There is one history of stops, and the journal on the disk was given the first of them. What a client
-  -- knew to be committed at some moment, what a crash at any time since then leaves has. Where the disk is honest, it was so at all that any client has seen
-  pub record StandsOf {T : Type 0} (may : Type 0 → ℕ → ℕ → List Stop → Known → T → Type 0) (workers : ℕ) (disk : D) (given : List T) : Type 0 where
+  -- What is kept of a run of this many workers that has no whole answer: there are the handles that each worker's
+  -- client has stopped, and what it knew and had seen of the journal, with which it answered what it may, if it was
+  -- called; these are the answers. There is one history of stops, and the journal on the disk was given the first of
+  -- them. What a client knew to be committed at some moment, what a crash at any time since then leaves has. Where the
+  -- disk is honest, it was so at all that any client has seen
+  pub record StandsOf {T : Type 0} (may : Type 0 → ℕ → ℕ → List Stop → Known → T → Type 0) (workers : ℕ) (disk : D)
+      (given : List T) : Type 0 where
     pub stopped : List (List Stop)
     pub known : List Known
     pub seen : List (List (OpenDeck D))
     pub told : List (Option T)
-    pub answers : AreAnswers G (λ sure many at stops knows answer. IfSome answer (may sure many at stops knows)) workers stopped known seen told
+    pub answers : AreAnswers G (λ sure many at stops knows answer. IfSome answer (may sure many at stops knows)) workers
+        stopped known seen told
     pub same_answers : given ≡ joined (map option_to_list told)
     pub log : List WordMap
     pub deck : OpenDeck D
@@ -55,24 +59,31 @@ module _ {D : Type 0} (G : Ghosts D) (b : Begun) where
     pub last : All (KnownLasts G b log since.given disk deck.trail) known
     pub honest : G.honest disk → All (AreHonest G) seen
 
-  -- a run at a desk has no whole answer: the accounts do not agree; or for want of a thread, where commits are made while the workers are at work and at no other time, no worker has
-  -- answered, and no handle has stopped
-  abbrev pub StopsAtDesk : {T : Type 0} → Commits → (Type 0 → ℕ → ℕ → List Stop → Known → T → Type 0) → ℕ → NotRun T D → Type 0
+  -- a run at a desk has no whole answer: the accounts do not agree; or for want of a thread, where commits are made
+  -- while the workers are at work and at no other time, no worker has answered, and no handle has stopped
+  abbrev pub StopsAtDesk : {T : Type 0} → Commits → (Type 0 → ℕ → ℕ → List Stop → Known → T → Type 0) → ℕ → NotRun T D
+      → Type 0
   StopsAtDesk commits may workers back =
       ((back.fault ≡ Accounts) × StandsOf may workers back.disk back.answers.items)
       ⊎ ((back.fault ≡ NoThread) × (commits ≡ Meanwhile) × IsUnused back.disk × (back.answers.items ≡ []))
 
   -- so has a run on a journal that was opened with this disk: or there was no memory, and this is the disk
-  abbrev pub StopsRun : {T : Type 0} → D → Commits → (Type 0 → ℕ → ℕ → List Stop → Known → T → Type 0) → ℕ → NotRun T D → Type 0
-  StopsRun opened commits may workers back = StopsAtDesk commits may workers back ⊎ ((back.fault ≡ Memory) × (back.disk ≡ opened) × (back.answers.items ≡ []))
+  abbrev pub StopsRun : {T : Type 0} → D → Commits → (Type 0 → ℕ → ℕ → List Stop → Known → T → Type 0) → ℕ → NotRun T D
+      → Type 0
+  StopsRun opened commits may workers back =
+      StopsAtDesk commits may workers back ⊎ ((back.fault ≡ Memory) × (back.disk ≡ opened) × (back.answers.items ≡ []))
 
-module _ {T D : Type 0} (G : Ghosts D) (disk : D) (b : Begun) (commits : Commits) (may : Shape → Type 0 → ℕ → ℕ → List Stop → Known → T → Type 0) (workers : ℕ) where
-  -- the journal on the disk was not opened, for this; or it was opened, and there was no memory, a thread was missing, or the accounts do not agree
+module _ {T D : Type 0} (G : Ghosts D) (disk : D) (b : Begun) (commits : Commits)
+    (may : Shape → Type 0 → ℕ → ℕ → List Stop → Known → T → Type 0) (workers : ℕ) where
+  -- the journal on the disk was not opened, for this; or it was opened, and there was no memory, a thread was missing,
+  -- or the accounts do not agree
   abbrev pub RefusesRun : RunFault → D → List T → Type 0
   RefusesRun (Open why) after answers = NotOpened G disk after why × (answers ≡ [])
   RefusesRun Memory after answers = IsOpenedOnly G b disk after × (answers ≡ [])
-  RefusesRun NoThread after answers = ((shape : Shape) × WasOpened G disk shape) × (commits ≡ Meanwhile) × IsUnused G b after × (answers ≡ [])
-  RefusesRun Accounts after answers = (shape : Shape) × WasOpened G disk shape × StandsOf G b (may shape) workers after answers
+  RefusesRun NoThread after answers =
+      ((shape : Shape) × WasOpened G disk shape) × (commits ≡ Meanwhile) × IsUnused G b after × (answers ≡ [])
+  RefusesRun Accounts after answers =
+      (shape : Shape) × WasOpened G disk shape × StandsOf G b (may shape) workers after answers
 
   -- the same of what is handed back
   abbrev pub IsNotRun : NotRun T D → Type 0

@@ -4,7 +4,8 @@ use Rattle.jb_deck.specs.Open.{recovered_home, FollowsEntry}
 use Rattle.jb_book.specs.Origin.{Begun, own_on}
 use Rattle.jb_disk.specs.declared.disk.Disk.{Ghosts}
 
--- the disk as it was given: its homes as recovery leaves them, with any words that a handle may stop with; of what a crash left before it was given nothing is said
+-- the disk as it was given: its homes as recovery leaves them, with any words that a handle may stop with; of what a
+-- crash left before it was given nothing is said
 abbrev pub started_on : {D : Type 0} → Ghosts D → D → Begun
 started_on G disk = record {
   is_known = Unit {0};

@@ -8,7 +8,7 @@ ghost use Rattle.jb_desk.specs.Desks.{desk_id, shape_in};
 ghost use Rattle.jb_desk.specs.Seats.{changes, made_by, desk_of, view_of};
 ghost use Rattle.jb_handle.specs.Handle.{holder, changes_of};
 ghost use Rattle.jb_handle.specs.Word.{WordMap};
-ghost use Rattle.jb_journal.specs.Change.{AnswersChange, SeesChange, Stops};
+ghost use Rattle.jb_journal.specs.Change.{AnswersChange, SeesChange, StopsWith};
 ghost use Rattle.jb_journal.specs.Notes.{changed_by};
 
 use crate::counted::CountedSeat;
@@ -84,7 +84,8 @@ fn stop<D: Disk, C: Clock, R: Wait, H: Origin, N: Ledger, T: Drop, E>(
     requires counted { changes (holder handle) ≡ sum_by changed_by (made_by (holder handle)) }
     requires any { (words : WordMap) → H.begun.stops words }
     ensures desk { desk_of result.0.seat ≡ desk_id desk.now }
-    ensures answer { Stops answer (changes_of handle).words (made_by (holder handle)) (made_by result.0.seat) result.1 }
+    ensures answer { StopsWith answer (changes_of handle).words (made_by (holder handle))
+        (made_by result.0.seat) result.1 }
     ensures stopped { IfOk result.1 (λ given. given.1 < (view_of result.0.seat).stopped) }
     ensures sees { SeesChange (made_by (holder handle)) (made_by result.0.seat) seen.old seen.new result.1 }
 {

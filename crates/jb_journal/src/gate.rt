@@ -13,13 +13,13 @@ const PATIENCE: u64 = 10;
 /// A gate that opens once this many threads have come to it, unless it was given up before.
 #[derive(Drop)]
 pub(crate) struct Gate {
-    came: Mutex<Came>,
+    came: Mutex<GateArrivals>,
     moved: Condvar,
 }
 
 /// Who has come to a gate.
 #[derive(Drop)]
-struct Came {
+struct GateArrivals {
     /// how many threads have yet to come
     missing: usize,
     /// whether it was waited for in vain
@@ -30,7 +30,7 @@ impl Gate {
     /// A gate for this many threads.
     pub(crate) fn new(threads: usize) -> Gate {
         Gate {
-            came: Mutex::new(Came {
+            came: Mutex::new(GateArrivals {
                 missing: threads,
                 given_up: false,
             }),
@@ -68,7 +68,7 @@ impl Gate {
     }
 }
 
-impl Came {
+impl GateArrivals {
     /// Whether all have come; `None` while that is waited for. Where no time is left they are given up.
     fn have_all(&mut self, left: Duration) -> Option<bool> {
         if self.missing > 0 && left.is_zero() {

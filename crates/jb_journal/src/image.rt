@@ -2,7 +2,7 @@
 ghost use Rattle.std.specs.Prelude.{◌≡◌, ◌↔◌, IfErr, IfOk, OnOk, Err, length};
 ghost use Rattle.jb_block.specs.Size.{bytes_of};
 ghost use Rattle.jb_disk.specs.File.{size_of_blocks};
-ghost use Rattle.jb_disk.specs.Image.{Same};
+ghost use Rattle.jb_disk.specs.Image.{ChangesNothing};
 ghost use Rattle.jb_disk.specs.KeptOn.{KeptOn};
 ghost use Rattle.jb_disk.specs.Time.{Goes};
 ghost use Rattle.jb_recover.specs.Peeks.{IsRecoveredHome};
@@ -158,7 +158,7 @@ pub fn read_home<D: Disk>(disk: &mut D, home: u64, buf: &mut [u8]) -> Result<(),
     ensures untouched { result ≡ Err Length → disk.new ≡ disk.old }
     ensures buffer { result ≡ Err Length → buf.new ≡ buf.old }
     ensures newest { D.honest disk.new → D.newest disk.new ≡ D.newest disk.old }
-    ensures idle { D.honest disk.new → Goes D.may_leave D.moment D.left_since Same disk.old disk.new }
+    ensures idle { D.honest disk.new → Goes D.may_leave D.moment D.left_since ChangesNothing disk.old disk.new }
     /// With `ends`: A home that is read while no journal runs is as recovery leaves it; the refusals are those of a
     /// peek, but that of a buffer of another length.
     ensures reads { D.honest disk.new → ReadsWhole (D.size disk.old) (D.count disk.old) (D.newest disk.old) home buf.old

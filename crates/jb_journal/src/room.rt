@@ -3,7 +3,7 @@ ghost use Rattle.std.specs.Prelude.{◌≡◌, ◌+◌, ◌≤◌, All, IfOk, ve
 ghost use Rattle.jb_journal.specs.Gather.{IsFree};
 ghost use Rattle.jb_journal.specs.Run.{HasNotWorked};
 
-use crate::threads::Worked;
+use crate::threads::WorkerResult;
 use jb_block::Memory;
 use jb_desk::{Desk, Left, Origin};
 use jb_disk::{Clock, Disk};
@@ -16,7 +16,7 @@ use std::sync::ledger::Ledger;
 #[derive(Drop)]
 pub(crate) struct Room<T, D: Disk, H: Origin, N: Ledger> {
     /// For what each worker leaves.
-    pub places: Vec<Worked<T, D, H, N>>,
+    pub places: Vec<WorkerResult<T, D, H, N>>,
     /// For what their seats and the committer's leave.
     pub lefts: Vec<Left<H, N>>,
     /// For what they answer.
@@ -50,15 +50,15 @@ pub(crate) fn places_of<T: Drop, D: Disk, C: Clock, R: Wait, H: Origin, N: Ledge
     rt: &R,
     desk: &Desk<D, C, H, N>,
     workers: usize,
-    room: Vec<Worked<T, D, H, N>>,
-) -> Vec<Worked<T, D, H, N>>
+    room: Vec<WorkerResult<T, D, H, N>>,
+) -> Vec<WorkerResult<T, D, H, N>>
     requires { IsFree workers room }
     ensures number { vec_len result ≡ workers }
     ensures none { All HasNotWorked result.items }
 {
     let mut places = room;
     for _ in 0..workers {
-        places.push_reserved(Worked::none(desk.sights(rt)));
+        places.push_reserved(WorkerResult::none(desk.sights(rt)));
     }
     places
 }

@@ -20,7 +20,7 @@ use crate::room::{Room, places_of};
 use crate::thread_results::ThreadResults;
 use crate::threads::run_all;
 use crate::worker::Worker;
-use jb_board::Opened;
+use jb_board::NewHistory;
 use jb_deck::Deck;
 use jb_desk::{Desk, Origin, StopLedger};
 use jb_disk::{Clock, Disk};
@@ -184,11 +184,11 @@ fn run_deck<
 
 /// A new ledger of handles, with its history, and a new history of a journal's commits; `None` where there is no memory
 /// for them.
-fn histories<D: Disk>(alloc: Global) -> Option<(StopLedger, Opened<Deck<D>>)>
+fn histories<D: Disk>(alloc: Global) -> Option<(StopLedger, NewHistory<Deck<D>>)>
     ensures { IfSome result (λ made. made.0.tickets.parts ≡ 2 ^ 61 + 1) }
 {
     let handles = StopLedger::new(alloc, PARTS).ok()?;
-    let marks = Opened::new(alloc).ok()?;
+    let marks = NewHistory::new(alloc).ok()?;
     Some((handles, marks))
 }
 
@@ -207,7 +207,7 @@ fn run_open<
     alloc: Global,
     handles: StopLedger,
     changes: Blank,
-    marks: Opened<Deck<D>>,
+    marks: NewHistory<Deck<D>>,
     deck: Deck<D>,
     shape: Shape,
     clock: C,
@@ -243,7 +243,7 @@ fn start<D: Disk + Drop, C: Clock + Drop, H: Origin, N: Ledger>(
     alloc: Global,
     handles: StopLedger,
     changes: Blank,
-    marks: Opened<Deck<D>>,
+    marks: NewHistory<Deck<D>>,
     deck: Deck<D>,
     clock: C,
 ) -> Result<Desk<D, C, H, N>, D>

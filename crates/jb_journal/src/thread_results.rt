@@ -6,7 +6,7 @@ ghost use Rattle.jb_desk.specs.Seats.{changes_left, made_left};
 ghost use Rattle.jb_journal.specs.Notes.{changed_by};
 
 use crate::counted::CountedLeft;
-use crate::threads::{Ends, Threaded, Worked};
+use crate::threads::{Ends, Threaded, WorkerResult};
 use jb_desk::{Desk, Left, Origin, Sights};
 use jb_disk::{Clock, Disk};
 use std::sync::Wait;
@@ -70,7 +70,7 @@ impl<T: Drop, D: Disk, H: Origin, N: Ledger> ThreadResults<T, D, H, N> {
     }
 
     /// Adds what a worker leaves.
-    fn add<C: Clock>(&mut self, desk: &Desk<D, C, H, N>, worked: Worked<T, D, H, N>)
+    fn add<C: Clock>(&mut self, desk: &Desk<D, C, H, N>, worked: WorkerResult<T, D, H, N>)
         requires lefts { vec_len self.old.lefts < vec_capacity self.old.lefts }
         requires answers { vec_len self.old.answers < vec_capacity self.old.answers }
         ensures answers { self.new.answers.items ≡ self.old.answers.items ++ answers_of worked }
@@ -82,7 +82,7 @@ impl<T: Drop, D: Disk, H: Origin, N: Ledger> ThreadResults<T, D, H, N> {
         ensures answers_room { (vec_capacity self.new.answers ≡ vec_capacity self.old.answers)
             × (vec_len self.new.answers ≤ vec_len self.old.answers + 1) }
     {
-        let Worked {
+        let WorkerResult {
             left,
             mut seen,
             answer,
@@ -93,7 +93,7 @@ impl<T: Drop, D: Disk, H: Origin, N: Ledger> ThreadResults<T, D, H, N> {
     }
 
     /// Adds what all workers leave.
-    fn add_all<C: Clock>(&mut self, desk: &Desk<D, C, H, N>, workers: Vec<Worked<T, D, H, N>>)
+    fn add_all<C: Clock>(&mut self, desk: &Desk<D, C, H, N>, workers: Vec<WorkerResult<T, D, H, N>>)
         requires lefts { vec_len self.old.lefts + vec_len workers ≤ vec_capacity self.old.lefts }
         requires answers { IsFree (vec_len workers) self.old.answers }
         ensures answers { self.new.answers.items ≡ joined (map answers_of workers.items) }

@@ -21,7 +21,7 @@ use std::{thread, time};
 
 /// What a worker leaves.
 #[derive(Drop)]
-pub(crate) struct Worked<T, D: Disk, H: Origin, N: Ledger> {
+pub(crate) struct WorkerResult<T, D: Disk, H: Origin, N: Ledger> {
     /// What its seat left; `None` where it had none.
     pub left: Option<CountedLeft<H, N>>,
     /// What its client had seen of the handles that stopped and of the journal.
@@ -30,12 +30,12 @@ pub(crate) struct Worked<T, D: Disk, H: Origin, N: Ledger> {
     pub answer: Option<T>,
 }
 
-impl<T, D: Disk, H: Origin, N: Ledger> Worked<T, D, H, N> {
+impl<T, D: Disk, H: Origin, N: Ledger> WorkerResult<T, D, H, N> {
     /// What one leaves that was not called.
-    pub fn none(seen: Sights<D, H>) -> Worked<T, D, H, N>
+    pub fn none(seen: Sights<D, H>) -> WorkerResult<T, D, H, N>
         ensures { HasNotWorked result }
     {
-        Worked {
+        WorkerResult {
             left: None,
             seen,
             answer: None,
@@ -47,7 +47,7 @@ impl<T, D: Disk, H: Origin, N: Ledger> Worked<T, D, H, N> {
 #[derive(Drop)]
 pub(crate) struct Threaded<T, D: Disk, H: Origin, N: Ledger> {
     /// What the workers leave.
-    pub workers: Vec<Worked<T, D, H, N>>,
+    pub workers: Vec<WorkerResult<T, D, H, N>>,
     /// What the committer's seat left; `None` where it had none.
     pub committer: Option<CountedLeft<H, N>>,
     /// How the threads ended.
@@ -82,7 +82,7 @@ pub(crate) fn run_all<
     shape: Shape,
     options: Options,
     worker: &W,
-    places: Vec<Worked<T, D, H, N>>,
+    places: Vec<WorkerResult<T, D, H, N>>,
 ) -> Threaded<T, D, H, N>
     requires shape { shape ≡ shape_in desk.now }
     requires needs { W.needs worker.now options.commits }
@@ -151,7 +151,7 @@ fn run_workers<
     gate: &Gate,
     options: Options,
     worker: &W,
-    places: Vec<Worked<T, D, H, N>>,
+    places: Vec<WorkerResult<T, D, H, N>>,
 ) -> Threaded<T, D, H, N>
     requires shape { shape ≡ shape_in desk.now }
     requires needs { W.needs worker.now options.commits }
@@ -175,7 +175,7 @@ fn run_workers<
     let (committed, places) = thread::join(
         rt,
         || commit_from(rt, desk, gate, delay, &mut place),
-        || -> Vec<Worked<T, D, H, N>>
+        || -> Vec<WorkerResult<T, D, H, N>>
             requires { (shape ≡ shape_in desk.now) × (1 ≤ vec_len places) × (vec_len places ≤ 64)
                 × ((words : WordMap) → H.begun.stops words) × W.needs worker.now options.commits }
         { work(rt, desk, shape, gate, options.commits, worker, places) },
@@ -192,7 +192,7 @@ impl<T, D: Disk, H: Origin, N: Ledger> Threaded<T, D, H, N> {
 
     /// What the threads leave, where there was no checkpointer.
     fn of(
-        workers: Vec<Worked<T, D, H, N>>,
+        workers: Vec<WorkerResult<T, D, H, N>>,
         committed: Option<(CountedLeft<H, N>, Ended)>,
         given_up: bool,
     ) -> Threaded<T, D, H, N>

@@ -8,7 +8,7 @@ use crate::client::Client;
 use crate::counted::CountedSeat;
 use crate::gate::Gate;
 use crate::options::Commits;
-use crate::threads::Worked;
+use crate::threads::WorkerResult;
 use crate::worker::Worker;
 use jb_desk::{Desk, Origin};
 use jb_disk::{Clock, Disk};
@@ -34,8 +34,8 @@ pub(crate) fn work<
     gate: &Gate,
     commits: Commits,
     worker: &W,
-    places: Vec<Worked<T, D, H, N>>,
-) -> Vec<Worked<T, D, H, N>>
+    places: Vec<WorkerResult<T, D, H, N>>,
+) -> Vec<WorkerResult<T, D, H, N>>
     requires shape { shape ≡ shape_in desk.now }
     requires needs { W.needs worker.now commits }
     requires work { (1 ≤ vec_len places) × (vec_len places ≤ 64) × ((words : WordMap) → H.begun.stops words) }
@@ -71,7 +71,7 @@ fn work_each<
     gate: &Gate,
     commits: Commits,
     worker: &W,
-    places: &mut [Worked<T, D, H, N>],
+    places: &mut [WorkerResult<T, D, H, N>],
 )
     requires shape { shape ≡ shape_in desk.now }
     requires needs { W.needs worker.now commits }
@@ -84,7 +84,7 @@ fn work_each<
         rt,
         places,
         workers,
-        &|at: usize, place: &mut Worked<T, D, H, N>|
+        &|at: usize, place: &mut WorkerResult<T, D, H, N>|
             requires { (shape ≡ shape_in desk.now) × (1 ≤ workers) × (workers ≤ 64)
                 × ((words : WordMap) → H.begun.stops words) × W.needs worker.entry.now commits }
             ensures { HasWorked D.Disk (W.answers worker.entry.now H.begun shape) workers at place.exit.now }
@@ -102,17 +102,17 @@ fn work_at<T, W: Worker<T>, D: Disk, C: Clock, R: Wait + time::Clock, H: Origin,
     workers: usize,
     worker: &W,
     at: usize,
-) -> Worked<T, D, H, N>
+) -> WorkerResult<T, D, H, N>
     requires shape { shape ≡ shape_in desk.now }
     requires needs { W.needs worker.now commits }
     requires work { (1 ≤ workers) × (workers ≤ 64) × ((words : WordMap) → H.begun.stops words) }
     ensures { HasWorked D.Disk (W.answers worker.now H.begun shape) workers at result }
 {
     if !gate.wait(rt) {
-        return Worked::none(desk.sights(rt));
+        return WorkerResult::none(desk.sights(rt));
     }
     let Some(seat) = CountedSeat::at(rt, desk) else {
-        return Worked::none(desk.sights(rt));
+        return WorkerResult::none(desk.sights(rt));
     };
     let mut client = Client::new(rt, desk, shape, commits, seat);
     let answer = worker.work(&mut client, workers, at);
@@ -121,7 +121,7 @@ fn work_at<T, W: Worker<T>, D: Disk, C: Clock, R: Wait + time::Clock, H: Origin,
         Some(seat) => Some(seat.leave(rt, desk)),
         None => None,
     };
-    Worked {
+    WorkerResult {
         left,
         seen,
         answer: Some(answer),

@@ -65,7 +65,8 @@ abbrev pub AreWithin : (ℕ → ℕ) → List (Option ℕ) → Type 0
 AreWithin w ps = (j p : ℕ) → j < length ps → price ps j ≡ Some p → p ≤ w j
 
 -- the table of the best steps to the ends up to n
-pub record IsTable (c : ℕ → ℕ → ℕ) (limit : ℕ) (w : ℕ → ℕ) (n : ℕ) (ps : List (Option ℕ)) (froms : List ℕ) : Type 0 where
+pub record IsTable (c : ℕ → ℕ → ℕ) (limit : ℕ) (w : ℕ → ℕ) (n : ℕ) (ps : List (Option ℕ)) (froms : List ℕ)
+    : Type 0 where
   pub steps : AreSteps c limit ps froms n
   pub number : length ps ≡ n + 1
   pub starts : length froms ≡ n + 1

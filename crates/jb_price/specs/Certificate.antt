@@ -16,7 +16,8 @@ prices_line prices = codes "prices" ++ (spaced (map price_text prices) ++ codes 
 
 -- the line of the cut, and that of its total; where there is no cut, the one line that says so
 abbrev pub answer_lines : CertAnswer → List ℕ
-answer_lines (Cut bounds total) = codes "cut" ++ (spaced (map decimal bounds.items) ++ (codes "\ntotal " ++ (decimal total ++ codes "\n")))
+answer_lines (Cut bounds total) =
+    codes "cut" ++ (spaced (map decimal bounds.items) ++ (codes "\ntotal " ++ (decimal total ++ codes "\n")))
 answer_lines NoCut = codes "cut none\n"
 
 -- the text of a certificate

@@ -1,5 +1,6 @@
 -- What the text of a certificate claims, line by line, or its first fault.
-use Rattle.std.specs.Prelude.{◌≡◌, ℕ, ◌+◌, ◌==◌, if◌then◌else◌, List, [], ◌∷◌, ◌++◌, length, codes, Option, option_map, IsSome, Some, None, Result, Ok, Err}
+use Rattle.std.specs.Prelude.{◌≡◌, ℕ, ◌+◌, ◌==◌, if◌then◌else◌, List, [], ◌∷◌, ◌++◌, length, codes, Option, option_map}
+use Rattle.std.specs.Prelude.{IsSome, Some, None, Result, Ok, Err}
 use Rattle.std.specs.Option.{option_and_then}
 use Rattle.std.specs.Str.{bytes_eq}
 use Rattle.jb_text.specs.Parts.{◌>>=◌, lines, words, behind_word, read_first, number_of}
@@ -38,7 +39,8 @@ prices_in line = option_and_then (λ text. after_each price_in_word [] (words te
 
 -- the bounds that a text says, or `none`
 abbrev pub bounds_in : List ℕ → Option (Option (List ℕ))
-bounds_in text = if bytes_eq text (codes "none") then Some None else option_map Some (after_each number_of [] (words text))
+bounds_in text =
+    if bytes_eq text (codes "none") then Some None else option_map Some (after_each number_of [] (words text))
 
 -- the line of the cut
 abbrev pub cut_in : List ℕ → Option (Option (List ℕ))

@@ -1,4 +1,5 @@
--- The first fault of a certificate's text in the words of its grammar: what is of the form before it, and what is not there.
+-- The first fault of a certificate's text in the words of its grammar: what is of the form before it, and what is not
+-- there.
 use Rattle.std.specs.Prelude.{◌≡◌, ℕ, ◌+◌, ◌<◌, ◌⊎◌, List, ◌∷◌, ◌++◌, length, map, codes, decimal, Option}
 use Rattle.std.specs.List.{AllByRecursion}
 use Rattle.jb_text.specs.Parts.{lines, spaced}
@@ -65,7 +66,8 @@ pub record BoundsFault (all : List (List ℕ)) (fault : CertFault) : Type 0 wher
 
 -- what is wrong with the lines after that of the prices: the second line of the text, or one after it
 abbrev pub CutFault : List (List ℕ) → CertFault → Type 0
-CutFault all fault = ((fault ≡ Syntax 2) × HasNoCut all) ⊎ (((fault ≡ Syntax 3) × GoesOnAfterNone all) ⊎ BoundsFault all fault)
+CutFault all fault =
+    ((fault ≡ Syntax 2) × HasNoCut all) ⊎ (((fault ≡ Syntax 3) × GoesOnAfterNone all) ⊎ BoundsFault all fault)
 
 -- the first of some lines is one of prices, and something after it is wrong
 pub record PricesFault (all : List (List ℕ)) (fault : CertFault) : Type 0 where
@@ -88,4 +90,5 @@ pub record LengthFault (handles : ℕ) (all : List (List ℕ)) : Type 0 where
 
 -- the first fault of a certificate's text for this many handles
 abbrev pub FirstCertFault : ℕ → List ℕ → CertFault → Type 0
-FirstCertFault handles text fault = SyntaxFault (lines text) fault ⊎ ((fault ≡ Length) × LengthFault handles (lines text))
+FirstCertFault handles text fault =
+    SyntaxFault (lines text) fault ⊎ ((fault ≡ Length) × LengthFault handles (lines text))

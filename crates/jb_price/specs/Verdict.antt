@@ -6,7 +6,8 @@ use Rattle.jb_price.specs.declared.certificate.CertAnswer.{CertAnswer}
 use Rattle.jb_price.specs.declared.certificate.CertAnswer.TheVariants.{Cut, NoCut}
 use Rattle.jb_price.specs.declared.verdict.Verdict.{Verdict}
 use Rattle.jb_price.specs.declared.verdict.Verdict.TheVariants.{Accepted, Refused}
-use Rattle.jb_price.specs.declared.verdict.Reason.TheVariants.{OpeningPrice, Undercut, NotACut, OverLimit, TotalDiffers, EndPrice}
+use Rattle.jb_price.specs.declared.verdict.Reason.TheVariants.{OpeningPrice, Undercut, NotACut, OverLimit, TotalDiffers}
+use Rattle.jb_price.specs.declared.verdict.Reason.TheVariants.{EndPrice}
 
 -- the price is none, or more than p
 abbrev pub IsDearer : Option ℕ → ℕ → Type 0
@@ -93,4 +94,7 @@ module _ (c : ℕ → ℕ → ℕ) (limit n : ℕ) where
 
 -- a right answer with prices that are least totals has none of the six faults, so no verdict but one fits it
 abbrev pub PlannedIsAccepted : Type 0
-PlannedIsAccepted = (c : ℕ → ℕ → ℕ) (limit n : ℕ) (ps : List (Option ℕ)) (answer : CertAnswer) → ArePrices c limit n ps → IsRight c limit n answer → Says c limit n ps answer Accepted × ((verdict : Verdict) → Says c limit n ps answer verdict → verdict ≡ Accepted)
+PlannedIsAccepted =
+    (c : ℕ → ℕ → ℕ) (limit n : ℕ) (ps : List (Option ℕ)) (answer : CertAnswer) → ArePrices c limit n ps
+    → IsRight c limit n answer
+    → Says c limit n ps answer Accepted × ((verdict : Verdict) → Says c limit n ps answer verdict → verdict ≡ Accepted)

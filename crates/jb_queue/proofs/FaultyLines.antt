@@ -12,7 +12,7 @@ use Rattle.jb_queue.specs.declared.fault.Cause.{Cause}
 use Rattle.jb_queue.specs.declared.fault.Cause.TheVariants.{HandleLine, OpWord, DataWord}
 use Rattle.jb_text.specs.Parts.{words, spaced}
 use Rattle.jb_queue.specs.Queue.{op_of, after_ops, behind_h, handle_of, after_lines}
-use Rattle.jb_queue.specs.Grammar.{Entry, SpellsOp, SpellsHandle, last_op}
+use Rattle.jb_queue.specs.Grammar.{HomeWord, SpellsOp, SpellsHandle, last_op}
 use Rattle.jb_handle.specs.Word.{WordMap}
 use Rattle.jb_handle.proofs.Options.{or-assoc, or-nothing}
 use Rattle.jb_text.proofs.Grammar.{spaced-words}
@@ -29,20 +29,20 @@ use Rattle.std.specs.FinMap as map
 -- ---- A handle's line is read exactly where it spells its words, and else something is wrong with it
 
 -- what a map has after an op, and after all
-insert-last : (had : WordMap) (op : Entry) (b : ℕ) → map.get (map.insert had op.0 op.1) b ≡ option_or (if op.0 == b then Some op.1 else None) (map.get had b)
+insert-last : (had : WordMap) (op : HomeWord) (b : ℕ) → map.get (map.insert had op.0 op.1) b ≡ option_or (if op.0 == b then Some op.1 else None) (map.get had b)
 insert-last had op b =
     let order : eq_by_cmp nat_cmp b op.0 ≡ (op.0 == b) = grind (arith, nat_tests) in
     map.get-insert nat_cmp_total had op.0 op.1 b ∙ ap (λ test. cond test (Some op.1) (map.get had b)) order
     ∙ elim (op.0 == b) as (λ test. cond test (Some op.1) (map.get had b) ≡ option_or (if test then Some op.1 else None) (map.get had b)) [ true ↦ refl | false ↦ refl ]
 
 -- what a map has after all is known by the last op on each block
-put-last : (had : WordMap) (ops : List Entry) (b : ℕ) → map.get (fold put_op had ops) b ≡ option_or (last_op ops b) (map.get had b)
+put-last : (had : WordMap) (ops : List HomeWord) (b : ℕ) → map.get (fold put_op had ops) b ≡ option_or (last_op ops b) (map.get had b)
 put-last had [] b = refl
 put-last had (op ∷ ops) b =
     put-last (put_op had op) ops b ∙ ap (option_or (last_op ops b)) (insert-last had op b)
     ∙ or-assoc (last_op ops b) (if op.0 == b then Some op.1 else None) (map.get had b)
 
-ops-left : (ops : List Entry) (b : ℕ) → map.get (fold put_op map.empty ops) b ≡ last_op ops b
+ops-left : (ops : List HomeWord) (b : ℕ) → map.get (fold put_op map.empty ops) b ≡ last_op ops b
 ops-left ops b = put-last map.empty ops b ∙ ap (option_or (last_op ops b)) (map.get-empty nat_cmp b) ∙ or-nothing (last_op ops b)
 
 -- the line of a handle, and what is wrong with another
@@ -78,13 +78,13 @@ pub handle-is : (size : ℕ) (line : List ℕ) (now : WordMap) → handle_of siz
 handle-is size line now is = MatchResult-at_ok (SpellsHandle size line) (IsFaultyLine size line) now is (handle-says size line)
 
 -- and back
-same-words : (ops : List Entry) (now : WordMap) → ((b : ℕ) → map.get now b ≡ last_op ops b) → fold put_op map.empty ops ≡ now
+same-words : (ops : List HomeWord) (now : WordMap) → ((b : ℕ) → map.get now b ≡ last_op ops b) → fold put_op map.empty ops ≡ now
 same-words ops now left = map.same_map nat_cmp_total nat_cmp-IsAntisymmetric (fold put_op map.empty ops) now (λ b. ops-left ops b ∙ sym (left b))
 
 pub handle-from : (size : ℕ) (line : List ℕ) (now : WordMap) → SpellsHandle size line now → handle_of size line ≡ Ok now
 handle-from size line now spells = ap (handle_of size) spells.spelled ∙ from spells.texts spells.ops spells.each ∙ ap Ok (same-words spells.ops now spells.left)
   where
-    from : (texts : List (List ℕ)) (ops : List Entry) → AllZip (SpellsOp size) texts ops → handle_of size (codes "h" ++ spaced texts) ≡ Ok (fold put_op map.empty ops)
+    from : (texts : List (List ℕ)) (ops : List HomeWord) → AllZip (SpellsOp size) texts ops → handle_of size (codes "h" ++ spaced texts) ≡ Ok (fold put_op map.empty ops)
     from [] [] each = refl
     from [] (op ∷ ops) each = absurd each
     from (text ∷ texts) ops each =

@@ -14,7 +14,7 @@ use Rattle.jb_handle.specs.declared.word.Word.TheVariants.{Copy, Free}
 use Rattle.jb_block.specs.Fields.{padded}
 use Rattle.jb_text.specs.Parts.{◌>>=◌, before, onward}
 use Rattle.jb_queue.specs.Queue.{home_named, or_cause, data_in_word, decoded_block, op_of, after_ops}
-use Rattle.jb_queue.specs.Grammar.{Entry, SpellsOp}
+use Rattle.jb_queue.specs.Grammar.{HomeWord, SpellsOp}
 use Rattle.jb_queue.specs.Faults.{HasNoData, IsNoOp, IsWrongWord, FirstWrongWord}
 use Rattle.jb_text.proofs.ReadSteps.{then-says, if-says, wrong-is, read-by, number-form}
 use Rattle.jb_text.proofs.Joins.{Without, is_clear, literal-without, without-append, test-without, Begins, onward-begins, parts-put, decimal-without}
@@ -51,7 +51,7 @@ zeros-from size home fits = ap (λ bs. op_of size (119 ∷ bs)) (sym (append-nil
 free-from : (size home : ℕ) → home < 2 ^ 64 → op_of size (codes "r" ++ decimal home) ≡ Ok (home, Free)
 free-from size home fits = rw (home-from home fits) refl
 
-pub op-from : (size : ℕ) (text : List ℕ) (op : Entry) → SpellsOp size text op → op_of size text ≡ Ok op
+pub op-from : (size : ℕ) (text : List ℕ) (op : HomeWord) → SpellsOp size text op → op_of size text ≡ Ok op
 op-from size text op spells = elim spells.form [
   | inl zeros ↦ ap (op_of size) zeros.0 ∙ zeros-from size op.0 spells.home ∙ ap (λ word. Ok (op.0, word)) (sym zeros.1)
   | inr (inl has) ↦
@@ -124,7 +124,7 @@ op-says size (letter ∷ rest) =
     (λ free. rw (eqb-true letter 114 free) (free-says size rest))
     (λ _. inl refl))
 
-pub op-is : (size : ℕ) (text : List ℕ) (op : Entry) → op_of size text ≡ Ok op → SpellsOp size text op
+pub op-is : (size : ℕ) (text : List ℕ) (op : HomeWord) → op_of size text ≡ Ok op → SpellsOp size text op
 op-is size text op is = MatchResult-at_ok (SpellsOp size text) (IsFaulty size text) op is (op-says size text)
 
 -- a byte that no word has
@@ -139,7 +139,7 @@ space-delimits = record { digit = refl; hex = refl; letters = refl }
 pub feed-delimits : IsDelimiter 10
 feed-delimits = record { digit = refl; hex = refl; letters = refl }
 
-pub op-clear : (size delimiter : ℕ) → IsDelimiter delimiter → (text : List ℕ) (op : Entry) → SpellsOp size text op → Without delimiter text
+pub op-clear : (size delimiter : ℕ) → IsDelimiter delimiter → (text : List ℕ) (op : HomeWord) → SpellsOp size text op → Without delimiter text
 op-clear size delimiter is text op spells =
     let letters = literal-without delimiter (codes "wr=") is.letters in
     let number = decimal-without delimiter op.0 is.digit spells.home in
@@ -166,7 +166,7 @@ no-op size text is = record {
   free = λ home fits same. ok-err (sym (free-from size home fits) ∙ ap (op_of size) (sym same) ∙ is);
 }
   where
-    ok-err : {op : Entry} → ◌≡◌ {A = Result Entry Cause} (Ok op) (Err OpWord) → ⊥
+    ok-err : {op : HomeWord} → ◌≡◌ {A = Result HomeWord Cause} (Ok op) (Err OpWord) → ⊥
     ok-err same = cc
 
 pub op-fault : (size : ℕ) (text : List ℕ) (cause : Cause) → op_of size text ≡ Err cause → IsWrongWord size text cause
@@ -176,7 +176,7 @@ op-fault size text cause is = elim (MatchResult-at_err (SpellsOp size text) (IsF
 ]
 
 -- and back
-no-op-spelled : (size : ℕ) (text : List ℕ) (op : Entry) → SpellsOp size text op → IsNoOp text → ⊥
+no-op-spelled : (size : ℕ) (text : List ℕ) (op : HomeWord) → SpellsOp size text op → IsNoOp text → ⊥
 no-op-spelled size text op spells none = elim spells.form [
   | inl zeros ↦ none.zeros op.0 spells.home zeros.0
   | inr (inl has) ↦ none.bytes op.0 has.digits spells.home has.spelled

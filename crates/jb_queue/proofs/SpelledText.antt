@@ -20,7 +20,7 @@ use Rattle.jb_queue.specs.Grammar.{width_text, format_line, SpellsOp, SpellsHand
 use Rattle.jb_handle.specs.Tickets.{TicketsFrom}
 use Rattle.jb_handle.specs.Word.{WordMap}
 use Rattle.jb_text.proofs.ReadSteps.{IsForm, first-by, known, then-says, behind-read, first-none, wrong-is}
-use Rattle.jb_queue.specs.Faults.{HandleFault, FirstFaultOf, HasNoFormat, FirstFault}
+use Rattle.jb_queue.specs.Faults.{IsHandleFault, FirstFaultOf, HasNoFormat, FirstFault}
 use Rattle.jb_queue.proofs.Walks.{each-map, each-all}
 use Rattle.jb_queue.proofs.FaultyLines.{lines-fault, handle-is, handle-from, lines-wrong}
 use Rattle.jb_queue.proofs.Weights.{lines-walk, handles-are}
@@ -137,7 +137,7 @@ pub record SpellsLines (all : List (List ℕ)) (queue : Queue) : Type 0 where
   pub tickets : TicketsFrom 0 queue.handles
 
 handles-say : (all : List (List ℕ)) (format : BlockSize × Width) (limit : ℕ) (more : List (List ℕ)) → all ≡ format_line format.0 format.1 ∷ (codes "limit " ++ decimal limit) ∷ more → 3 ≤ limit → limit ≤ 2147483646
-    → MatchResult (behind_limit format limit more) (SpellsLines all) (HandleFault all)
+    → MatchResult (behind_limit format limit more) (SpellsLines all) (IsHandleFault all)
 handles-say all format limit more parts least most =
     let size = bytes_of format.0 in
     then-says _ _ (after_lines size [] more) (λ handles. Ok (record { size = format.0; limit = limit; width = format.1; handles = handles })) (known (after_lines size [] more))

@@ -10,12 +10,13 @@ use Rattle.jb_text.specs.Parts.{lines, words}
 use Rattle.jb_queue.specs.declared.fault.Cause.{Cause}
 use Rattle.jb_queue.specs.declared.fault.Cause.TheVariants.{BlockSizeLine, LimitLine, HandleLine, OpWord, DataWord}
 use Rattle.jb_queue.specs.declared.fault.QueueFault.{QueueFault}
-use Rattle.jb_queue.specs.Grammar.{Entry, SpellsOp, SpellsHandle, format_line}
+use Rattle.jb_queue.specs.Grammar.{HomeWord, SpellsOp, SpellsHandle, format_line}
 
 -- up to its first `=`, a word is not `w` or `r` and the number of a home block; or it is an `r` word with an `=`
 pub record IsNoOp (text : List ℕ) : Type 0 where
   pub zeros : (home : ℕ) → home < 2 ^ 64 → text ≡ codes "w" ++ decimal home → ⊥
-  pub bytes : (home : ℕ) (digits : List ℕ) → home < 2 ^ 64 → text ≡ codes "w" ++ (decimal home ++ (codes "=" ++ digits)) → ⊥
+  pub bytes : (home : ℕ) (digits : List ℕ) → home < 2 ^ 64 → text ≡ codes "w" ++ (decimal home ++ (codes "=" ++ digits))
+      → ⊥
   pub free : (home : ℕ) → home < 2 ^ 64 → text ≡ codes "r" ++ decimal home → ⊥
 
 -- what follows the `=` of a `w` word is not the hexadecimal text of one byte up to a block's
@@ -33,7 +34,7 @@ IsWrongWord size text cause = ((cause ≡ OpWord) × IsNoOp text) ⊎ ((cause �
 -- the first wrong word of a handle's words: those before it spell changes
 pub record FirstWrongWord (size : ℕ) (texts : List (List ℕ)) (cause : Cause) : Type 0 where
   pub earlier : List (List ℕ)
-  pub ops : List Entry
+  pub ops : List HomeWord
   pub word : List ℕ
   pub later : List (List ℕ)
   pub parts : texts ≡ earlier ++ word ∷ later
@@ -72,7 +73,9 @@ HasNoFormat all = (size : BlockSize) (width : Width) (more : List (List ℕ)) �
 
 -- the first of some lines gives no limit
 abbrev pub HasNoLimit : List (List ℕ) → Type 0
-HasNoLimit all = (limit : ℕ) (more : List (List ℕ)) → 3 ≤ limit → limit ≤ 2147483646 → all ≡ (codes "limit " ++ decimal limit) ∷ more → ⊥
+HasNoLimit all =
+    (limit : ℕ) (more : List (List ℕ)) → 3 ≤ limit → limit ≤ 2147483646 → all ≡ (codes "limit " ++ decimal limit) ∷ more
+    → ⊥
 
 -- the first line is of the form, and the second is not
 pub record LimitFault (all : List (List ℕ)) : Type 0 where
@@ -83,7 +86,7 @@ pub record LimitFault (all : List (List ℕ)) : Type 0 where
   pub none : HasNoLimit more
 
 -- the first two lines are of the form, and one of the others is not
-pub record HandleFault (all : List (List ℕ)) (fault : QueueFault) : Type 0 where
+pub record IsHandleFault (all : List (List ℕ)) (fault : QueueFault) : Type 0 where
   pub size : BlockSize
   pub width : Width
   pub limit : ℕ
@@ -97,7 +100,7 @@ pub record HandleFault (all : List (List ℕ)) (fault : QueueFault) : Type 0 whe
 abbrev pub FirstFaultOf : List (List ℕ) → QueueFault → Type 0
 FirstFaultOf all fault =
     ((fault ≡ record { line = 1; cause = BlockSizeLine }) × HasNoFormat all)
-    ⊎ (((fault ≡ record { line = 2; cause = LimitLine }) × LimitFault all) ⊎ HandleFault all fault)
+    ⊎ (((fault ≡ record { line = 2; cause = LimitLine }) × LimitFault all) ⊎ IsHandleFault all fault)
 
 -- the first fault of a queue text
 abbrev pub FirstFault : List ℕ → QueueFault → Type 0

@@ -1,5 +1,6 @@
 -- The grammar of a queue text in its own words: which text spells which queue.
-use Rattle.std.specs.Prelude.{◌≡◌, ℕ, ◌^◌, ◌<◌, ◌≤◌, ◌==◌, ◌⊎◌, if◌then◌else◌, List, [], ◌∷◌, ◌++◌, length, codes, decimal, Option, Some, None, Ok}
+use Rattle.std.specs.Prelude.{◌≡◌, ℕ, ◌^◌, ◌<◌, ◌≤◌, ◌==◌, ◌⊎◌, if◌then◌else◌, List, [], ◌∷◌, ◌++◌, length, codes}
+use Rattle.std.specs.Prelude.{decimal, Option, Some, None, Ok}
 use Rattle.std.specs.List.{AllZip}
 use Rattle.std.specs.Option.{option_or}
 use Rattle.std.specs.FinMap as map
@@ -18,15 +19,15 @@ use Rattle.jb_handle.specs.Tickets.{TicketsFrom}
 use Rattle.jb_handle.specs.Word.{WordMap}
 
 -- a home block, and the word that is left at it
-abbrev pub Entry : Type 0
-Entry = ℕ × Word
+abbrev pub HomeWord : Type 0
+HomeWord = ℕ × Word
 
 -- `w5`: a block of zeros
-abbrev pub SpellsZeros : ℕ → List ℕ → Entry → Type 0
+abbrev pub SpellsZeros : ℕ → List ℕ → HomeWord → Type 0
 SpellsZeros size text op = (text ≡ codes "w" ++ decimal op.0) × (op.1 ≡ Copy (padded size []))
 
 -- `w5=c03b`: a block that begins with the bytes of hexadecimal digits, one byte at least
-pub record SpellsBytes (size : ℕ) (text : List ℕ) (op : Entry) : Type 0 where
+pub record SpellsBytes (size : ℕ) (text : List ℕ) (op : HomeWord) : Type 0 where
   pub digits : List ℕ
   pub bytes : List ℕ
   pub spelled : text ≡ codes "w" ++ (decimal op.0 ++ (codes "=" ++ digits))
@@ -36,23 +37,23 @@ pub record SpellsBytes (size : ℕ) (text : List ℕ) (op : Entry) : Type 0 wher
   pub left : op.1 ≡ Copy (padded size bytes)
 
 -- `r5`: the block is free
-abbrev pub SpellsFree : List ℕ → Entry → Type 0
+abbrev pub SpellsFree : List ℕ → HomeWord → Type 0
 SpellsFree text op = (text ≡ codes "r" ++ decimal op.0) × (op.1 ≡ Free)
 
 -- a word of a handle's line
-pub record SpellsOp (size : ℕ) (text : List ℕ) (op : Entry) : Type 0 where
+pub record SpellsOp (size : ℕ) (text : List ℕ) (op : HomeWord) : Type 0 where
   pub home : op.0 < 2 ^ 64
   pub form : SpellsZeros size text op ⊎ (SpellsBytes size text op ⊎ SpellsFree text op)
 
 -- the word of the last op on home b
-abbrev pub last_op : List Entry → ℕ → Option Word
+abbrev pub last_op : List HomeWord → ℕ → Option Word
 last_op [] b = None
 last_op (op ∷ ops) b = option_or (last_op ops b) (if op.0 == b then Some op.1 else None)
 
 -- a handle's line: `h`, and its words, each after a space; the last one on a block counts
 pub record SpellsHandle (size : ℕ) (line : List ℕ) (words : WordMap) : Type 0 where
   pub texts : List (List ℕ)
-  pub ops : List Entry
+  pub ops : List HomeWord
   pub spelled : line ≡ codes "h" ++ spaced texts
   pub each : AllZip (SpellsOp size) texts ops
   pub left : (b : ℕ) → map.get words b ≡ last_op ops b
@@ -69,7 +70,8 @@ format_line size width = codes "bs " ++ (decimal (bytes_of size) ++ width_text w
 -- a queue text: a line of the block size and the width, a line of the limit, and a line for each handle
 pub record Spells (text : List ℕ) (queue : Queue) : Type 0 where
   pub handle_lines : List (List ℕ)
-  pub spelled : AreLines (format_line queue.size queue.width ∷ (codes "limit " ++ decimal queue.limit) ∷ handle_lines) text
+  pub spelled : AreLines (format_line queue.size queue.width ∷ (codes "limit " ++ decimal queue.limit) ∷ handle_lines)
+      text
   pub least : 3 ≤ queue.limit
   pub most : queue.limit ≤ 2147483646
   pub each : AllZip (λ line handle. SpellsHandle (bytes_of queue.size) line handle.words) handle_lines queue.handles

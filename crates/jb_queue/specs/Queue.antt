@@ -1,5 +1,6 @@
 -- What the text of a queue says, step by step: its lines from the first on, and the words of a line from the left.
-use Rattle.std.specs.Prelude.{◌≡◌, ℕ, ◌+◌, ◌≤◌, ◌==◌, ◌&&◌, nat_lt, nat_le, Bool, if◌then◌else◌, List, [], ◌∷◌, ◌++◌, length, drop, codes, Option, Some, None, Result, Ok, Err, IsOk}
+use Rattle.std.specs.Prelude.{◌≡◌, ℕ, ◌+◌, ◌≤◌, ◌==◌, ◌&&◌, nat_lt, nat_le, Bool, if◌then◌else◌, List, [], ◌∷◌, ◌++◌}
+use Rattle.std.specs.Prelude.{length, drop, codes, Option, Some, None, Result, Ok, Err, IsOk}
 use Rattle.std.specs.Option.{option_and_then}
 use Rattle.std.specs.Str.{bytes_eq}
 use Rattle.std.specs.FinMap as map
@@ -11,7 +12,8 @@ use Rattle.jb_block.specs.declared.width.Width.{Width}
 use Rattle.jb_block.specs.declared.width.Width.TheVariants.{Narrow, Wide}
 use Rattle.jb_block.specs.Size.{bytes_of}
 use Rattle.jb_queue.specs.declared.fault.Cause.{Cause}
-use Rattle.jb_queue.specs.declared.fault.Cause.TheVariants.{BlockSizeLine, LimitLine, HandleLine, OpWord, DataWord, Memory}
+use Rattle.jb_queue.specs.declared.fault.Cause.TheVariants.{BlockSizeLine, LimitLine, HandleLine, OpWord, DataWord}
+use Rattle.jb_queue.specs.declared.fault.Cause.TheVariants.{Memory}
 use Rattle.jb_queue.specs.declared.fault.QueueFault.{QueueFault}
 use Rattle.jb_handle.specs.declared.stopped.Stopped.{Stopped}
 use Rattle.jb_handle.specs.declared.word.Word.{Word}
@@ -40,7 +42,8 @@ home_named digits = or_cause OpWord (number_of digits)
 
 -- a block that begins with decoded bytes: one at least, and no more than a block has
 abbrev pub decoded_block : ℕ → Result (List ℕ) FromHexError → Result (List ℕ) Cause
-decoded_block size (Ok bytes) = if nat_lt 0 (length bytes) && nat_le (length bytes) size then Ok (padded size bytes) else Err DataWord
+decoded_block size (Ok bytes) =
+    if nat_lt 0 (length bytes) && nat_le (length bytes) size then Ok (padded size bytes) else Err DataWord
 decoded_block size (Err fault) = Err DataWord
 
 -- the block that a word writes, from its `=` on; zeros where there is none
@@ -103,7 +106,8 @@ IsCount (Err fault) count = ⊥
 
 -- the size of a block in bytes
 abbrev pub size_of_bytes : ℕ → Option BlockSize
-size_of_bytes n = if n == 1024 then Some OneKib else if n == 2048 then Some TwoKib else if n == 4096 then Some FourKib else None
+size_of_bytes n =
+    if n == 1024 then Some OneKib else if n == 2048 then Some TwoKib else if n == 4096 then Some FourKib else None
 
 -- the number after a word that a line begins with
 abbrev pub number_behind_word : List ℕ → List ℕ → Option ℕ
@@ -122,7 +126,8 @@ both_of (Some size) (Some width) = Some (size, width)
 
 -- what follows `bs `: the number up to the first space (32), and the width from there on
 abbrev pub format_behind : List ℕ → Option (BlockSize × Width)
-format_behind text = both_of (option_and_then size_of_bytes (number_of (before 32 text))) (width_behind (onward 32 text))
+format_behind text =
+    both_of (option_and_then size_of_bytes (number_of (before 32 text))) (width_behind (onward 32 text))
 
 -- the block size and the width of block numbers that a line gives
 abbrev pub format_of : List ℕ → Option (BlockSize × Width)
@@ -130,7 +135,9 @@ format_of line = option_and_then format_behind (behind_word (codes "bs ") line)
 
 -- the limit that a line gives: the most log blocks that a group may take
 abbrev pub limit_in_line : List ℕ → Option ℕ
-limit_in_line line = and_then (number_behind_word (codes "limit ") line) (λ limit. where_true (nat_le 3 limit && nat_le limit 2147483646) limit)
+limit_in_line line =
+    and_then (number_behind_word (codes "limit ") line)
+    (λ limit. where_true (nat_le 3 limit && nat_le limit 2147483646) limit)
 
 -- a queue as a value
 pub record Queue : Type 0 where

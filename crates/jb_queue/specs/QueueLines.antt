@@ -23,8 +23,10 @@ pub record StandsAfter (reader : HandleReader) (all : List Stopped) (at : ℕ) :
   pub number : length had ≡ at
   pub reads : after_lines (bytes_of reader.bs) had (lines reader.rest.now) ≡ Ok all
 
--- what a reader gave at a place of a queue, and where it is then: the words of the handle there, if there is one, and it is after that handle
+-- what a reader gave at a place of a queue, and where it is then: the words of the handle there, if there is one, and
+-- it is after that handle
 abbrev pub HasRead : List Stopped → ℕ → HandleReader → Result (Option WordMap) AllocError → Type 0
 HasRead all at reader (Ok None) = (length all ≤ at) × StandsAfter reader all (length all)
-HasRead all at reader (Ok (Some words)) = (at < length all) × ((d : Stopped) → words ≡ (get_or all at d).words) × StandsAfter reader all (at + 1)
+HasRead all at reader (Ok (Some words)) =
+    (at < length all) × ((d : Stopped) → words ≡ (get_or all at d).words) × StandsAfter reader all (at + 1)
 HasRead all at reader (Err refused) = (at < length all) × StandsAfter reader all (at + 1)

@@ -1,5 +1,6 @@
 -- The parts of a text, which is a list of bytes: its lines, its words, and the numbers in them.
-use Rattle.std.specs.Prelude.{◌≡◌, ℕ, ◌<◌, ◌≤◌, ◌+◌, ◌-◌, ◌*◌, ◌^◌, ◌==◌, ◌&&◌, nat_lt, if◌then◌else◌, List, [], ◌∷◌, ◌++◌, length, take, drop, slice_index, Option, option_map, Some, None, Result, Ok, Err}
+use Rattle.std.specs.Prelude.{◌≡◌, ℕ, ◌<◌, ◌≤◌, ◌+◌, ◌-◌, ◌*◌, ◌^◌, ◌==◌, ◌&&◌, nat_lt, if◌then◌else◌, List, [], ◌∷◌}
+use Rattle.std.specs.Prelude.{◌++◌, length, take, drop, slice_index, Option, option_map, Some, None, Result, Ok, Err}
 use Rattle.std.specs.Char.{is_ascii_digit}
 use Rattle.std.specs.Str.{bytes_eq}
 
@@ -62,7 +63,9 @@ read_first read (line ∷ more) = option_map (λ x. (x, more)) (read line)
 -- a number of at most 64 bits with one more digit after it
 abbrev pub with_digit : ℕ → ℕ → Option ℕ
 with_digit value digit =
-    if is_ascii_digit digit then (if nat_lt (value * 10 + (digit - 48)) (2 ^ 64) then Some (value * 10 + (digit - 48)) else None) else None
+    if is_ascii_digit digit
+    then (if nat_lt (value * 10 + (digit - 48)) (2 ^ 64) then Some (value * 10 + (digit - 48)) else None)
+    else None
 
 -- a number, and what a step makes of it
 abbrev pub and_then : Option ℕ → (ℕ → Option ℕ) → Option ℕ

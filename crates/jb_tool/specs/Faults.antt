@@ -8,7 +8,9 @@ use Rattle.jb_handle.specs.declared.changes.TouchFault.TheVariants as touch
 use Rattle.jb_book.specs.declared.fault.BeginFault.{BeginFault}
 use Rattle.jb_book.specs.declared.fault.BeginFault.TheVariants as begin
 use Rattle.jb_tool.specs.declared.loading.fault.QueueHandleFault.{QueueHandleFault}
-use Rattle.jb_tool.specs.declared.loading.fault.QueueHandleFault.TheVariants.{Aborted, Closed, Busy, TooManyCredits, Full, NoCredit, OutOfRange, Length, NotOpen, Memory}
+use Rattle.jb_tool.specs.declared.loading.fault.QueueHandleFault.TheVariants.{Aborted, Closed, Busy, TooManyCredits}
+use Rattle.jb_tool.specs.declared.loading.fault.QueueHandleFault.TheVariants.{Full, NoCredit, OutOfRange, Length}
+use Rattle.jb_tool.specs.declared.loading.fault.QueueHandleFault.TheVariants.{NotOpen, Memory}
 use Rattle.jb_tool.specs.declared.loading.fault.LoadFault.{LoadFault}
 use Rattle.jb_tool.specs.declared.loading.fault.LoadFault.TheVariants as load
 
@@ -36,7 +38,8 @@ not_stopped change.Aborted = Aborted
 not_stopped change.NotOpen = NotOpen
 not_stopped change.Memory = Memory
 
--- why a queue was not loaded, where its journal was not run or has no answer; for want of a thread a load has always one
+-- why a queue was not loaded, where its journal was not run or has no answer; for want of a thread a load has always
+-- one
 abbrev pub not_run : RunFault → LoadFault
 not_run (run.Open fault) = load.Open fault
 not_run run.Memory = load.Memory

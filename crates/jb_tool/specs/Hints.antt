@@ -5,7 +5,9 @@ use Rattle.jb_args.specs.declared.hint.Hint.TheVariants as hint
 use Rattle.jb_desk.specs.declared.ended.Ended.{Ended}
 use Rattle.jb_desk.specs.declared.ended.Ended.TheVariants as ended
 use Rattle.jb_tool.specs.declared.loading.fault.QueueHandleFault.{QueueHandleFault}
-use Rattle.jb_tool.specs.declared.loading.fault.QueueHandleFault.TheVariants.{Aborted, Busy, Closed, Full, Length, Memory, NoCredit, NotOpen, OutOfRange, TooManyCredits}
+use Rattle.jb_tool.specs.declared.loading.fault.QueueHandleFault.TheVariants.{Aborted, Busy, Closed, Full, Length}
+use Rattle.jb_tool.specs.declared.loading.fault.QueueHandleFault.TheVariants.{Memory, NoCredit, NotOpen, OutOfRange}
+use Rattle.jb_tool.specs.declared.loading.fault.QueueHandleFault.TheVariants.{TooManyCredits}
 use Rattle.jb_tool.specs.declared.loading.loaded.Loaded.{Loaded}
 use Rattle.jb_tool.specs.declared.loading.loaded.Refused.{Refused}
 
@@ -16,8 +18,8 @@ aborted_hint ended.Memory = hint.CommitMemory
 aborted_hint ended.Aborted = hint.HandleAborted
 aborted_hint (ended.Shut over) = hint.HandleAborted
 
--- a handle that was refused, in an image of this many home blocks, where the committer ended so; the table has no row for a fault that
--- no text has
+-- a handle that was refused, in an image of this many home blocks, where the committer ended so; the table has no row
+-- for a fault that no text has
 abbrev pub handle_hint : ℕ → Ended → QueueHandleFault → Option Hint
 handle_hint homes commit (TooManyCredits most) = Some hint.HandleTooManyCredits
 handle_hint homes commit (OutOfRange home) = Some (hint.HandleOutOfRange homes)
@@ -50,7 +52,7 @@ abbrev pub first_hint : ℕ → Ended → Option Refused → Option Hint → Opt
 first_hint homes commit None ends = ends
 first_hint homes commit (Some refused) ends = handle_hint homes commit refused.fault
 
--- what a second line is about after a load into an image of this many home blocks: the first of its lines that says why, where the table
--- has a row for it
+-- what a second line is about after a load into an image of this many home blocks: the first of its lines that says
+-- why, where the table has a row for it
 abbrev pub load_hint : ℕ → Loaded → Option Hint
 load_hint homes l = first_hint homes l.commit l.refused (commit_hint l.commit l.checkpoint)

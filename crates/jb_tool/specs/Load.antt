@@ -40,7 +40,9 @@ use Rattle.jb_tool.specs.Hints.{load_hint}
 use Rattle.jb_tool.specs.declared.load_report.LoadReport.{LoadReport}
 use Rattle.jb_tool.specs.declared.load_report.LoadReport.TheVariants.{Loaded as ReportsLoaded, Text as ReportsText}
 use Rattle.jb_commands.specs.declared.fault.CommandFault.{CommandFault}
-use Rattle.jb_commands.specs.declared.fault.CommandFault.TheVariants.{Accounts, BlockSize, DeviceFault, Extents, Memory, NeedsRecovery, NumbersSpent, Super, WriteFault as CommandWriteFault}
+use Rattle.jb_commands.specs.declared.fault.CommandFault.TheVariants.{Accounts, BlockSize, DeviceFault, Extents, Memory}
+use Rattle.jb_commands.specs.declared.fault.CommandFault.TheVariants.{NeedsRecovery, NumbersSpent, Super}
+use Rattle.jb_commands.specs.declared.fault.CommandFault.TheVariants.{WriteFault as CommandWriteFault}
 
 -- as many threads as a load may have
 abbrev pub HasThreads : Loading → Type 0
@@ -75,7 +77,8 @@ end_with_hint hint (Err fault) = Err CommandWriteFault
 -- what a load has to say is told: its lines, or the line of its text's first fault
 abbrev pub TellsLoadReport : LoadReport → Outputs → Outputs → Result ProgramEnd CommandFault → Type 0
 TellsLoadReport (ReportsLoaded loaded homes) old new end =
-    (told : Result ℕ WriteFault) × (end ≡ end_with_hint (load_hint homes loaded) told) × TellsLoad loaded old.out new.out old.err new.err told
+    (told : Result ℕ WriteFault) × (end ≡ end_with_hint (load_hint homes loaded) told)
+    × TellsLoad loaded old.out new.out old.err new.err told
 TellsLoadReport (ReportsText answer) old new end = Tells (said answer) old new end
 
 -- what a load ended with is told, or it ended with a fault, and then nothing is written
@@ -84,41 +87,52 @@ TellsLoadEnd (Ok report) old new end = TellsLoadReport report old new end
 TellsLoadEnd (Err fault) old new end = (end ≡ Err fault) × (new ≡ old)
 
 module _ {S T : Type 0} {start : Starts S} {other : Starts T} where
-  -- a queue was loaded into an open image, and this is the image then: the groups that the load counts are in its journal, if its files
-  -- are honest
-  pub record LoadsOn (options : LoadOptions) (homes : ℕ) (disk : ImageDisk (FileDisk S start) (FileDisk T other)) (queue : Queue)
+  -- a queue was loaded into an open image, and this is the image then: the groups that the load counts are in its
+  -- journal, if its files are honest
+  pub record LoadsOn (options : LoadOptions) (homes : ℕ) (disk : ImageDisk (FileDisk S start) (FileDisk T other))
+      (queue : Queue)
       (new : ImageDisk (FileDisk S start) (FileDisk T other)) (end : Result LoadReport CommandFault) : Type 0 where
     pub loaded : Loaded
-    pub answers : AnswersLoad as_files (started_on as_files disk) disk queue.size queue.handles options (Ok (loaded, new))
+    pub answers : AnswersLoad as_files (started_on as_files disk) disk queue.size queue.handles options
+        (Ok (loaded, new))
     pub told : end ≡ Ok (ReportsLoaded loaded homes)
 
   -- a queue was loaded into an open image; or there is no answer, for this, and the image is lost
-  abbrev pub LoadsQueue : LoadOptions → ℕ → ImageDisk (FileDisk S start) (FileDisk T other) → Queue → Option (ImageDisk (FileDisk S start) (FileDisk T other)) → Result LoadReport CommandFault → Type 0
+  abbrev pub LoadsQueue : LoadOptions → ℕ → ImageDisk (FileDisk S start) (FileDisk T other) → Queue
+      → Option (ImageDisk (FileDisk S start) (FileDisk T other)) → Result LoadReport CommandFault → Type 0
   LoadsQueue options homes disk queue None end =
-      (fault : LoadFault) × AnswersLoad as_files (started_on as_files disk) disk queue.size queue.handles options (Err fault) × (end ≡ Err (load_fault fault))
+      (fault : LoadFault) × AnswersLoad as_files (started_on as_files disk) disk queue.size queue.handles options
+      (Err fault)
+      × (end ≡ Err (load_fault fault))
   LoadsQueue options homes disk queue (Some new) end = LoadsOn options homes disk queue new end
 
-  -- a queue was loaded, unless this home block that a handle of it touches is the journal's own: then the image is as it was opened
-  abbrev pub LoadsUnless : Option ℕ → LoadOptions → ℕ → ImageDisk (FileDisk S start) (FileDisk T other) → Queue → Option (ImageDisk (FileDisk S start) (FileDisk T other)) → Result LoadReport CommandFault → Type 0
+  -- a queue was loaded, unless this home block that a handle of it touches is the journal's own: then the image is as
+  -- it was opened
+  abbrev pub LoadsUnless : Option ℕ → LoadOptions → ℕ → ImageDisk (FileDisk S start) (FileDisk T other) → Queue
+      → Option (ImageDisk (FileDisk S start) (FileDisk T other)) → Result LoadReport CommandFault → Type 0
   LoadsUnless None options homes disk queue image end = LoadsQueue options homes disk queue image end
   LoadsUnless (Some home) options homes disk queue image end = (image ≡ Some disk) × (end ≡ Err (Extents (Home home)))
 
-  -- the same of the first such home block; or, where the journal is within the image, there was no memory to read the handles, and the
-  -- image is as it was opened
-  abbrev pub LoadsApart : LoadOptions → ℕ → ImageDisk (FileDisk S start) (FileDisk T other) → Queue → Option (ImageDisk (FileDisk S start) (FileDisk T other)) → Result LoadReport CommandFault → Type 0
+  -- the same of the first such home block; or, where the journal is within the image, there was no memory to read the
+  -- handles, and the image is as it was opened
+  abbrev pub LoadsApart : LoadOptions → ℕ → ImageDisk (FileDisk S start) (FileDisk T other) → Queue
+      → Option (ImageDisk (FileDisk S start) (FileDisk T other)) → Result LoadReport CommandFault → Type 0
   LoadsApart options homes disk queue image end =
       LoadsUnless (own_touched disk queue.handles) options homes disk queue image end
       ⊎ ((is_within disk ≡ true) × (image ≡ Some disk) × (end ≡ Err Memory))
 
   -- the queue of a text was loaded; or the text's first fault is told, and the image is as it was opened
-  abbrev pub LoadsRead : LoadOptions → ℕ → ImageDisk (FileDisk S start) (FileDisk T other) → Result Queue QueueFault → Option (ImageDisk (FileDisk S start) (FileDisk T other)) → Result LoadReport CommandFault → Type 0
+  abbrev pub LoadsRead : LoadOptions → ℕ → ImageDisk (FileDisk S start) (FileDisk T other) → Result Queue QueueFault
+      → Option (ImageDisk (FileDisk S start) (FileDisk T other)) → Result LoadReport CommandFault → Type 0
   LoadsRead options homes disk (Ok queue) image end = LoadsApart options homes disk queue image end
   LoadsRead options homes disk (Err fault) image end =
-      (image ≡ Some disk) × ((answer : CommandOutput) × (queue_fault fault ≡ Some (said answer)) × (end ≡ Ok (ReportsText answer)))
+      (image ≡ Some disk) × ((answer : CommandOutput) × (queue_fault fault ≡ Some (said answer))
+      × (end ≡ Ok (ReportsText answer)))
 
-  -- the text of the file of this name was not had, or there was no memory for its fault, and the image is as it was opened; or it was had,
-  -- and what it holds is loaded or refused
-  abbrev pub LoadsText : List ℕ → LoadOptions → ℕ → ImageDisk (FileDisk S start) (FileDisk T other) → Option (ImageDisk (FileDisk S start) (FileDisk T other)) → Result LoadReport CommandFault → Type 0
+  -- the text of the file of this name was not had, or there was no memory for its fault, and the image is as it was
+  -- opened; or it was had, and what it holds is loaded or refused
+  abbrev pub LoadsText : List ℕ → LoadOptions → ℕ → ImageDisk (FileDisk S start) (FileDisk T other)
+      → Option (ImageDisk (FileDisk S start) (FileDisk T other)) → Result LoadReport CommandFault → Type 0
   LoadsText name options homes disk image end =
       ((fault : CommandFault) × (image ≡ Some disk) × (end ≡ Err fault) × HasNoText name None fault)
       ⊎ ((text : List ℕ) × IsText None text × LoadsRead options homes disk (queue_of text) image end)
@@ -126,7 +140,8 @@ module _ {S T : Type 0} {start : Starts S} {other : Starts T} where
 -- the image was not opened: the number of threads is bad, or it is not, and the image was not opened for this
 abbrev pub IsLoadUnopened : {S T : Type 0} → Starts S → Starts T → Loading → Option (List ℕ) → CommandFault → Type 0
 IsLoadUnopened start other load input fault =
-    (IsBadOption Threads fault × (HasThreads load → ⊥)) ⊎ (HasThreads load × IsShutAt Refused start other load.image input load.journal load.extents fault)
+    (IsBadOption Threads fault × (HasThreads load → ⊥))
+    ⊎ (HasThreads load × IsShutAt Refused start other load.image input load.journal load.extents fault)
 
 -- what the journal is that is to be loaded: in a file of its own it was copied out of the image
 abbrev pub load_use : Option (List ℕ) → JournalUse
@@ -135,25 +150,33 @@ load_use (Some journal) = LoadCopy
 
 -- a journal that is beside its home blocks was judged by them
 abbrev pub JudgesLoad : {D : Type 0} → Disks D → Option (List ℕ) → Bool → D → D → Result Unit CommandFault → Type 0
-JudgesLoad G journal within old new judged = JudgesBeside Refused G (is_beside journal within) (load_use journal) false old new judged
+JudgesLoad G journal within old new judged =
+    JudgesBeside Refused G (is_beside journal within) (load_use journal) false old new judged
 
 module _ {S T : Type 0} {start : Starts S} {other : Starts T} where
   -- the text came next; or the image is not the journal's own, and stays as it was judged
-  abbrev pub LoadsJudged : Loading → LoadOptions → ℕ → Result Unit CommandFault → ImageDisk (FileDisk S start) (FileDisk T other) → Option (ImageDisk (FileDisk S start) (FileDisk T other)) → Result LoadReport CommandFault → Type 0
+  abbrev pub LoadsJudged : Loading → LoadOptions → ℕ → Result Unit CommandFault
+      → ImageDisk (FileDisk S start) (FileDisk T other) → Option (ImageDisk (FileDisk S start) (FileDisk T other))
+      → Result LoadReport CommandFault → Type 0
   LoadsJudged load options homes (Ok done) disk image end = LoadsText load.file options homes disk image end
   LoadsJudged load options homes (Err fault) disk image end = (image ≡ Some disk) × (end ≡ Err fault)
 
   -- an open image was judged, and then loaded
-  abbrev pub LoadsOpened : Loading → LoadOptions → ℕ → ImageDisk (FileDisk S start) (FileDisk T other) → Option (ImageDisk (FileDisk S start) (FileDisk T other)) → Result LoadReport CommandFault → Type 0
+  abbrev pub LoadsOpened : Loading → LoadOptions → ℕ → ImageDisk (FileDisk S start) (FileDisk T other)
+      → Option (ImageDisk (FileDisk S start) (FileDisk T other)) → Result LoadReport CommandFault → Type 0
   LoadsOpened load options homes disk image end =
-      (mid : ImageDisk (FileDisk S start) (FileDisk T other)) × (judged : Result Unit CommandFault) × JudgesLoad as_files load.journal (is_within disk) disk mid judged × LoadsJudged load options homes judged mid image end
+      (mid : ImageDisk (FileDisk S start) (FileDisk T other)) × (judged : Result Unit CommandFault)
+      × JudgesLoad as_files load.journal (is_within disk) disk mid judged
+      × LoadsJudged load options homes judged mid image end
 
-  -- the image was not opened, and nothing was done; or it was, wherever its journal is, in blocks of the size that its first bytes say, with
-  -- this many home blocks, and it was judged, and then the text came
-  abbrev pub EndsOfLoad : Loading → Option (List ℕ) → Option (ImageDisk (FileDisk S start) (FileDisk T other)) → Result LoadReport CommandFault → Type 0
+  -- the image was not opened, and nothing was done; or it was, wherever its journal is, in blocks of the size that its
+  -- first bytes say, with this many home blocks, and it was judged, and then the text came
+  abbrev pub EndsOfLoad : Loading → Option (List ℕ) → Option (ImageDisk (FileDisk S start) (FileDisk T other))
+      → Result LoadReport CommandFault → Type 0
   EndsOfLoad load input image end =
       ((fault : CommandFault) × (image ≡ None) × (end ≡ Err fault) × IsLoadUnopened start other load input fault)
-      ⊎ (HasThreads load × ((disk : ImageDisk (FileDisk S start) (FileDisk T other)) × (homes : ℕ) × (found : Option MapSource)
+      ⊎ (HasThreads load × ((disk : ImageDisk (FileDisk S start) (FileDisk T other)) × (homes : ℕ)
+      × (found : Option MapSource)
       × IsOpenedAt Refused input load.journal load.extents disk homes found
       × ((options : LoadOptions) × AreOptionsOf load options × LoadsOpened load options homes disk image end)))
 
@@ -161,4 +184,5 @@ module _ {S T : Type 0} {start : Starts S} {other : Starts T} where
 abbrev pub RunsLoad : Loading → Option (List ℕ) → Outputs → Outputs → ProgramEnd → Type 0
 RunsLoad load input old new ended =
     (image : Option FileImage) × (end : Result LoadReport CommandFault) × EndsOfLoad load input image end
-    × ((told : Result ProgramEnd CommandFault) × (mid : Outputs) × TellsLoadEnd end old mid told × Closes (names_with load.image load.journal) told mid new ended)
+    × ((told : Result ProgramEnd CommandFault) × (mid : Outputs) × TellsLoadEnd end old mid told
+    × Closes (names_with load.image load.journal) told mid new ended)

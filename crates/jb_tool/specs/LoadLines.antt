@@ -1,5 +1,6 @@
 -- The lines and the status of a load.
-use Rattle.std.specs.Prelude.{◌≡◌, ℕ, Bool, true, false, ◌&&◌, ◌==◌, is_none, List, [], ◌∷◌, ◌++◌, Option, Some, None, Result, Ok, Err, codes, decimal}
+use Rattle.std.specs.Prelude.{◌≡◌, ℕ, Bool, true, false, ◌&&◌, ◌==◌, is_none, List, [], ◌∷◌, ◌++◌, Option, Some, None}
+use Rattle.std.specs.Prelude.{Result, Ok, Err, codes, decimal}
 use Rattle.std.specs.Io.KnownBytes.{Appends}
 use Rattle.jb_text.specs.TextParts.{spelled}
 use Rattle.jb_text.specs.Puts.{PutsPart}
@@ -8,7 +9,9 @@ use Rattle.jb_desk.specs.Ends.{is_shut}
 use Rattle.jb_desk.specs.declared.ended.Ended.{Ended}
 use Rattle.jb_desk.specs.declared.ended.Ended.TheVariants as ended
 use Rattle.jb_tool.specs.declared.loading.fault.QueueHandleFault.{QueueHandleFault}
-use Rattle.jb_tool.specs.declared.loading.fault.QueueHandleFault.TheVariants.{Aborted, Closed, Busy, TooManyCredits, Full, NoCredit, OutOfRange, Length, NotOpen, Memory}
+use Rattle.jb_tool.specs.declared.loading.fault.QueueHandleFault.TheVariants.{Aborted, Closed, Busy, TooManyCredits}
+use Rattle.jb_tool.specs.declared.loading.fault.QueueHandleFault.TheVariants.{Full, NoCredit, OutOfRange, Length}
+use Rattle.jb_tool.specs.declared.loading.fault.QueueHandleFault.TheVariants.{NotOpen, Memory}
 use Rattle.jb_tool.specs.declared.loading.loaded.Refused.{Refused}
 use Rattle.jb_tool.specs.declared.loading.loaded.Loaded.{Loaded}
 
@@ -47,7 +50,8 @@ number_named Memory = None
 -- the line of a refused handle, from its place, the name of the fault and its number, where it has one
 abbrev pub refused_parts : List ℕ → List ℕ → Option ℕ → List ℕ
 refused_parts place name None = spelled (codes "jb: handle " ∷ place ∷ codes ": " ∷ name ∷ codes "\n" ∷ [])
-refused_parts place name (Some n) = spelled (codes "jb: handle " ∷ place ∷ codes ": " ∷ name ∷ codes " " ∷ decimal n ∷ codes "\n" ∷ [])
+refused_parts place name (Some n) =
+    spelled (codes "jb: handle " ∷ place ∷ codes ": " ∷ name ∷ codes " " ∷ decimal n ∷ codes "\n" ∷ [])
 
 -- the line of a handle that was refused: its place in the queue, and the fault's name and number
 abbrev pub refused_line : Refused → List ℕ
@@ -75,7 +79,9 @@ refused_text (Some r) = refused_line r
 
 -- the lines of the threads that did not end Shut
 unfoldable pub ends_text : Loaded → List ℕ
-ends_text l = thread_end_line (codes "jb: commit ") (codes "Aborted\n") (Some l.commit) ++ thread_end_line (codes "jb: checkpoint ") (aborted_word l.commit) l.checkpoint
+ends_text l =
+    thread_end_line (codes "jb: commit ") (codes "Aborted\n") (Some l.commit)
+    ++ thread_end_line (codes "jb: checkpoint ") (aborted_word l.commit) l.checkpoint
 
 -- the lines of what did not end well
 unfoldable pub faults_text : Loaded → List ℕ
@@ -95,8 +101,11 @@ abbrev pub status_if : Bool → ℕ
 status_if true = 0
 status_if false = 1
 
--- The counts are on standard output, and the lines of what did not end well on standard error as far as that took them; or
--- standard output failed part of the way, and nothing more was written
-abbrev pub TellsLoad : Loaded → Option (List ℕ) → Option (List ℕ) → Option (List ℕ) → Option (List ℕ) → Result ℕ WriteFault → Type 0
-TellsLoad l out_old out_new err_old err_new (Ok status) = Appends out_old out_new (counts_line l) × PutsPart err_old err_new (faults_text l) × (status ≡ status_if (is_whole l))
+-- The counts are on standard output, and the lines of what did not end well on standard error as far as that took them;
+-- or standard output failed part of the way, and nothing more was written
+abbrev pub TellsLoad : Loaded → Option (List ℕ) → Option (List ℕ) → Option (List ℕ) → Option (List ℕ)
+    → Result ℕ WriteFault → Type 0
+TellsLoad l out_old out_new err_old err_new (Ok status) =
+    Appends out_old out_new (counts_line l) × PutsPart err_old err_new (faults_text l)
+    × (status ≡ status_if (is_whole l))
 TellsLoad l out_old out_new err_old err_new (Err fault) = PutsPart out_old out_new (counts_line l) × (err_new ≡ err_old)

@@ -24,12 +24,14 @@ use Rattle.jb_tool.specs.declared.loading.loaded.Loaded.{Loaded}
 use Rattle.jb_tool.specs.declared.loading.loaded.Refused.{Refused}
 use Rattle.jb_tool.specs.declared.loading.options.LoadOptions.{LoadOptions}
 
--- when the handles of a load are committed: after its workers where they are held, and else meanwhile, if the system makes the threads
+-- when the handles of a load are committed: after its workers where they are held, and else meanwhile, if the system
+-- makes the threads
 abbrev pub commits_of : Bool → Commits
 commits_of true = After
 commits_of false = MeanwhileOrAfter
 
--- how the journal of a load is run: no commit is put off, and a group that is written home is so as soon as it is committed
+-- how the journal of a load is run: no commit is put off, and a group that is written home is so as soon as it is
+-- committed
 pub record IsRunBy (options : LoadOptions) (run : Options) : Type 0 where
   pub workers : run.workers ≡ options.threads
   pub commits : run.commits ≡ commits_of options.hold
@@ -38,8 +40,8 @@ pub record IsRunBy (options : LoadOptions) (run : Options) : Type 0 where
   pub time : as_nanos run.delay.time ≡ 0
   pub handles : run.delay.handles ≡ 0
 
--- the counts are those of a run, for a queue of this many handles: the groups are those of its trail, with their blocks, and the refused handle is the earliest of those that its
--- workers have refused
+-- the counts are those of a run, for a queue of this many handles: the groups are those of its trail, with their
+-- blocks, and the refused handle is the earliest of those that its workers have refused
 pub record CountsRun {D : Type 0} (queued : ℕ) (ran : Ran (Option Refused) D) (loaded : Loaded) : Type 0 where
   pub are_queued : loaded.queued ≡ queued
   pub have_stopped : loaded.handles ≡ ran.handles
@@ -52,21 +54,28 @@ pub record CountsRun {D : Type 0} (queued : ℕ) (ran : Ran (Option Refused) D) 
   pub checkpoint : loaded.checkpoint ≡ ran.checkpoint
 
 module _ {D : Type 0} (G : Ghosts D) (b : Begun) where
-  -- The journal on the disk of before was opened, it was run with the handles of the queue, and has left this disk: each worker has answered the first of its handles that was
-  -- refused, and has stopped those before it. No entry was taken from the trail, and the counts are those of the run
-  pub record LoadedSince (before : D) (queue : List Stopped) (options : LoadOptions) (loaded : Loaded) (disk : D) : Type 0 where
+  -- The journal on the disk of before was opened, it was run with the handles of the queue, and has left this disk:
+  -- each worker has answered the first of its handles that was refused, and has stopped those before it. No entry was
+  -- taken from the trail, and the counts are those of the run
+  pub record LoadedSince (before : D) (queue : List Stopped) (options : LoadOptions) (loaded : Loaded) (disk : D)
+      : Type 0 where
     pub ran : Ran (Option Refused) D
-    pub on : RanOn G before b (λ shape sure workers at stops known refused. IsRun shape queue workers at stops refused) options.threads ran
+    pub on : RanOn G before b (λ shape sure workers at stops known refused. IsRun shape queue workers at stops refused)
+        options.threads ran
     pub ends : EndsRun options.checkpoint ran
     pub follows : Follow 0 0 ran.settled ran.trail.items
     pub same_disk : ran.disk ≡ disk
     pub counts : CountsRun (length queue) ran loaded
 
-  -- What a load answers to a queue of blocks of this size. Only where the size is not the disk's does it answer so. Where the journal was not opened, or only opened, some disk that this one
-  -- has become is lost
+  -- What a load answers to a queue of blocks of this size. Only where the size is not the disk's does it answer so.
+  -- Where the journal was not opened, or only opened, some disk that this one has become is lost
   abbrev pub AnswersLoad : D → BlockSize → List Stopped → LoadOptions → Result (Loaded × D) LoadFault → Type 0
   AnswersLoad disk bs queue options (Err fault.BlockSize) = bytes_of bs ≢ G.size disk
-  AnswersLoad disk bs queue options (Err (fault.Open why)) = (bytes_of bs ≡ G.size disk) × ((after : D) × NotOpened G disk after why)
-  AnswersLoad disk bs queue options (Err fault.Memory) = (bytes_of bs ≡ G.size disk) × ((after : D) × IsOpenedOnly G b disk after)
-  AnswersLoad disk bs queue options (Err fault.Accounts) = (bytes_of bs ≡ G.size disk) × ((shape : Shape) × WasOpened G disk shape)
-  AnswersLoad disk bs queue options (Ok ended) = (bytes_of bs ≡ G.size disk) × LoadedSince disk queue options ended.0 ended.1
+  AnswersLoad disk bs queue options (Err (fault.Open why)) =
+      (bytes_of bs ≡ G.size disk) × ((after : D) × NotOpened G disk after why)
+  AnswersLoad disk bs queue options (Err fault.Memory) =
+      (bytes_of bs ≡ G.size disk) × ((after : D) × IsOpenedOnly G b disk after)
+  AnswersLoad disk bs queue options (Err fault.Accounts) =
+      (bytes_of bs ≡ G.size disk) × ((shape : Shape) × WasOpened G disk shape)
+  AnswersLoad disk bs queue options (Ok ended) =
+      (bytes_of bs ≡ G.size disk) × LoadedSince disk queue options ended.0 ended.1

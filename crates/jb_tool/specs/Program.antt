@@ -1,5 +1,6 @@
 -- How the whole program ends.
-use Rattle.std.specs.Prelude.{◌≡◌, ◌≢◌, ◌⊎◌, ℕ, Bool, true, false, List, [], map, Option, Some, None, Err, IfSome, codes}
+use Rattle.std.specs.Prelude.{◌≡◌, ◌≢◌, ◌⊎◌, ℕ, Bool, true, false, List, [], map, Option, Some, None, Err, IfSome}
+use Rattle.std.specs.Prelude.{codes}
 use Rattle.std.specs.declared.io.ErrorKind.{ErrorKind}
 use Rattle.std.specs.declared.io.ErrorKind.TheVariants.{InvalidData}
 use Rattle.jb_args.specs.Advice.{hint_line}
@@ -18,19 +19,23 @@ use Rattle.jb_tool.specs.RefusedWords.{RefusesWords}
 use Rattle.jb_tool.specs.RunWanted.{RunsWanted}
 
 -- what `run` says of a run with these words
-pub record RunsWords {S : Type 0} (text : S → List ℕ) (words : List S) (input : Option (List ℕ)) (old new : Outputs) (ended : ProgramEnd) : Type 0 where
+pub record RunsWords {S : Type 0} (text : S → List ℕ) (words : List S) (input : Option (List ℕ)) (old new : Outputs)
+    (ended : ProgramEnd) : Type 0 where
   pub bare : words ≡ [] → Runs (AsksCost (codes "-")) input old new ended
   pub asked : words ≢ [] → fault_kinds (map text words) ≡ []
-      → IfSome (wanted_in (map text words)) (λ wanted. RunsWanted wanted input old new ended ⊎ Closes None (Err Memory) old new ended)
+      → IfSome (wanted_in (map text words)) (λ wanted. RunsWanted wanted input old new ended
+      ⊎ Closes None (Err Memory) old new ended)
   pub refused : words ≢ [] → (fault_kinds (map text words) ≢ []) ⊎ (wanted_in (map text words) ≡ None)
       → RefusesWords (fault_kinds (map text words)) (wanted_in (map text words)) old new ended
 
 -- the help is on standard error, with status 2, or there was no memory for it
 abbrev pub Helps : Option (List ℕ) → Option (List ℕ) → ProgramEnd → Type 0
-Helps err_old err_new ended = (ended ≡ with_status 2) ⊎ ((ended ≡ of_fault Memory) × PutsPart err_old err_new (line_of None Memory))
+Helps err_old err_new ended =
+    (ended ≡ with_status 2) ⊎ ((ended ≡ of_fault Memory) × PutsPart err_old err_new (line_of None Memory))
 
 -- what the program answers to its words: at a terminal its help where there are none, and else a run with them
-pub record AnswersWords {S : Type 0} (text : S → List ℕ) (words : List S) (at_terminal : Bool) (input : Option (List ℕ)) (old new : Outputs) (ended : ProgramEnd) : Type 0 where
+pub record AnswersWords {S : Type 0} (text : S → List ℕ) (words : List S) (at_terminal : Bool) (input : Option (List ℕ))
+    (old new : Outputs) (ended : ProgramEnd) : Type 0 where
   pub help : words ≡ [] → at_terminal ≡ true → Helps old.err new.err ended × (new.out ≡ old.out)
   pub run : (words ≢ []) ⊎ (at_terminal ≡ false) → RunsWords text words input old new ended
 
@@ -46,7 +51,9 @@ Advises true (Some hint) err_old err_new = (system : List ℕ) × PutsPart err_o
 Advises true None err_old err_new = err_new ≡ err_old
 Advises false hint err_old err_new = err_new ≡ err_old
 
--- the program's status and outputs by what it answered: the status is the answer's, and on a terminal the second line follows
+-- the program's status and outputs by what it answered: the status is the answer's, and on a terminal the second line
+-- follows
 abbrev pub EndsProgram : Bool → (Outputs → Outputs → ProgramEnd → Type 0) → Outputs → Outputs → ℕ → Type 0
 EndsProgram on_terminal Answers old new status =
-    (ended : ProgramEnd) × (mid : Outputs) × Answers old mid ended × (status ≡ ended.status) × (new.out ≡ mid.out) × Advises on_terminal ended.hint mid.err new.err
+    (ended : ProgramEnd) × (mid : Outputs) × Answers old mid ended × (status ≡ ended.status) × (new.out ≡ mid.out)
+    × Advises on_terminal ended.hint mid.err new.err

@@ -1,6 +1,6 @@
 -- What a file was asked by the calls of a deck that was opened in it.
 use Rattle.std.proofs.Common.{◌≡◌, ◌<◌, false, sym, subst, arith}
-use Rattle.jb_disk.specs.Events.{Event, NoneAfter, NoneFailed}
+use Rattle.jb_disk.specs.Events.{SystemCall, NoneAfter, NoneFailed}
 use Rattle.jb_disk.specs.Faults.{most_faults}
 use Rattle.jb_disk.specs.File.{IsMeasured, MayGoOn, IsWellAsked}
 use Rattle.jb_disk.specs.KeptOn.{KeptOn}

@@ -12,7 +12,7 @@ use Rattle.jb_plan.specs.Batch.{gathered}
 use Rattle.jb_deck.specs.declared.done.Entry.{Entry}
 use Rattle.jb_book.specs.declared.fault.BeginFault.{BeginFault}
 use Rattle.jb_book.specs.Account.{Account, failed_of}
-use Rattle.jb_book.specs.Calls.{Call, Opened, Enqueued, Took, Settled, Failed, CallsMake, handles_in, stops_of}
+use Rattle.jb_book.specs.Calls.{BookCall, Opened, Enqueued, Took, Settled, Failed, CallsMake, handles_in, stops_of}
 use Rattle.jb_book.specs.MachineTie.{EveryRun}
 use Rattle.proof_clients.specs.BookClient.{Have, SettlesQueue, Stand, two_stops}
 
@@ -50,11 +50,11 @@ no-map f xs none = nil_from_length xs (sym (length-map xs f) ∙ ap length none)
 -- ---- the calls
 
 -- the calls up to the second stop
-abbrev pub begun : ℕ → ℕ → Result (Unit {0}) BeginFault → Result (Unit {0}) BeginFault → WordMap → WordMap → ℕ → ℕ → List Call
+abbrev pub begun : ℕ → ℕ → Result (Unit {0}) BeginFault → Result (Unit {0}) BeginFault → WordMap → WordMap → ℕ → ℕ → List BookCall
 begun c d r s first second t u = Enqueued 2 second (Ok u) ∷ Enqueued 1 first (Ok t) ∷ Opened 2 d s ∷ Opened 1 c r ∷ []
 
 -- the calls up to the settle
-abbrev pub settled : List Entry → Account → List ℕ → List Call → List Call
+abbrev pub settled : List Entry → Account → List ℕ → List BookCall → List BookCall
 settled entries a cut calls = Settled entries (Ok tt) ∷ Took (gathered a.shadow.taken a.shadow.queue a.shape) cut ∷ calls
 
 module _ (any : Vec Entry) (run : EveryRun) (shape : Shape) (usable : ℕ) (small : usable ≤ 2147483646) (first second : WordMap) (c d t u : ℕ) (r s : Result (Unit {0}) BeginFault) (mid after last : Account) (before later : List Entry)

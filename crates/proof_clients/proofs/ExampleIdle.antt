@@ -16,9 +16,9 @@ use Rattle.jb_plan.specs.Costs.{geometry_of}
 use Rattle.jb_core.specs.declared.event.Event.{Event}
 use Rattle.jb_core.specs.declared.event.Event.TheVariants.{Open, Stop, Take, Settle}
 use Rattle.jb_core.specs.declared.event.Reply.TheVariants.{Plain, Ticket}
-use Rattle.jb_core.specs.Lives.{Log}
+use Rattle.jb_core.specs.Lives.{EventLog}
 use Rattle.jb_core.specs.Machine.{Machine, after_event, after_take}
-use Rattle.jb_core.specs.MachineRuns.{IsNewMachine, Ran}
+use Rattle.jb_core.specs.MachineRuns.{IsNewMachine, RanFromStart}
 use Rattle.jb_deck.specs.Deck.{OpenDeck}
 use Rattle.jb_board.specs.HistoryRule.{StandsIn}
 use Rattle.jb_book.specs.Origin.{unknown}
@@ -114,19 +114,19 @@ abbrev history : List WordMap
 history = map.empty ∷ map.empty ∷ map.empty ∷ []
 
 module _ (bounds : Vec ℕ Global) (are : bounds.items ≡ (0 ∷ 2 ∷ [])) where
-  abbrev opened : Log
+  abbrev opened : EventLog
   opened = (Stop 1, Ok (Ticket 1)) ∷ (Open 1 0, Ok Plain) ∷ (Stop 0, Ok (Ticket 0)) ∷ (Open 0 0, Ok Plain) ∷ []
 
-  abbrev events : Log
+  abbrev events : EventLog
   events = (Stop 0, Ok (Ticket 2)) ∷ (Open 0 0, Ok Plain) ∷ (Settle 1, Ok Plain) ∷ (Take bounds, Ok Plain) ∷ opened
 
-  ran4 : Ran six opened m4
+  ran4 : RanFromStart six opened m4
   ran4 = (_, (_, (_, (m0, new, (refl, tt, refl, refl)), (refl, tt, refl, refl)), (refl, tt, refl, refl)), (refl, tt, refl, refl))
 
-  ran5 : Ran six ((Take bounds, Ok Plain) ∷ opened) m5
+  ran5 : RanFromStart six ((Take bounds, Ok Plain) ∷ opened) m5
   ran5 = (m4, ran4, (refl, subst (IsLeastCut c 6 2) (sym are) least, ap (after_take m4) (sym are), refl))
 
-  ran : Ran six events m8
+  ran : RanFromStart six events m8
   ran = (_, (_, (m5, ran5, (refl, tt, refl, refl)), (refl, tt, refl, refl)), (refl, tt, refl, refl))
 
   run : IsMachineRun six history (idle_group ∷ [])

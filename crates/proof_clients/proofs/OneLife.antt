@@ -2,7 +2,7 @@
 use Rattle.std.proofs.Common.{◌≡◌, ℕ, ◌+◌, ◌%◌, ◌^◌, ◌⊎◌, Bool, true, false, nat_eq, List, [], ◌∷◌, ◌++◌, Ok, inl, inr, ⊎_elim, refl, ap, ap₂, sym, subst, ◌∙◌, arith, add-zero, eq-eqb}
 use Rattle.std.proofs.lemmas.Bool.{false≢true}
 use Rattle.jb_block.specs.Size.{bytes_of}
-use Rattle.jb_disk.specs.History.{History, IsHistorySound, MayLeave, newest_of}
+use Rattle.jb_disk.specs.History.{DiskHistory, IsHistorySound, MayLeave, newest_of}
 use Rattle.jb_disk.specs.declared.disk.Disk.{Ghosts}
 use Rattle.jb_disk.specs.Image.{Image, Only, block}
 use Rattle.jb_disk.specs.Time.{LeavesOnly}
@@ -18,7 +18,7 @@ use Rattle.jb_recover.proofs.RecoveredImage.{own-clean_refusal}
 use Rattle.jb_log.proofs.FrameKeeps.{frame-start}
 use Rattle.jb_log.proofs.OwnSuperblock.{same-then}
 use Rattle.jb_deck.specs.Calls.{IsCleanAt, RecoversAt}
-use Rattle.jb_deck.specs.Changes.{Change}
+use Rattle.jb_deck.specs.Changes.{DeckChange}
 use Rattle.jb_deck.specs.Deck.{IsShapeOf}
 use Rattle.jb_deck.specs.GroupsOfBatch.{groups_in}
 use Rattle.jb_deck.specs.Open.{home_by, recovered_home}
@@ -27,12 +27,12 @@ use Rattle.jb_deck.proofs.Lives.{one-super, revoking-twice, same-revoking}
 use Rattle.jb_deck.proofs.OpenedJournal.{revoking-same}
 use Rattle.proof_clients.specs.Lives.{CountsOn, HasLives, HoldsChanges, HoldsLife, IsAtRest, IsBatchOf, IsPartOfLife, LeftByLife, no_life, nothing, of_batch, one_life}
 use Rattle.proof_clients.proofs.Programs.{Left, Runs}
-use Rattle.proof_clients.specs.Programs.{HasChanges, IsPartOf, LeftByProgram, Part, after_batch, all_changes, commits, no_more}
+use Rattle.proof_clients.specs.Programs.{HasChanges, IsPartOf, LeftByProgram, ProgramPart, after_batch, all_changes, commits, no_more}
 
 -- ---- up to the crash
 
 -- a life without a batch
-none-part : (own : Superblock) (count : ℕ) (handles : List Stopped) (changes : List Change) (groups : ℕ) → IsPartOf [] changes groups → IsPartOfLife own count handles changes groups
+none-part : (own : Superblock) (count : ℕ) (handles : List Stopped) (changes : List DeckChange) (groups : ℕ) → IsPartOf [] changes groups → IsPartOfLife own count handles changes groups
 none-part own count handles changes groups (no_more _) = nothing
 
 -- a crash after the life
@@ -54,8 +54,8 @@ module _ {D : Type 0} (G : Ghosts D) (entry : D) (handles : List Stopped) where
   LifeLeft c = G.may_leave entry c ⊎ LeftByLife (G.size entry) (G.count entry) (G.newest entry) handles false c
 
   -- and in a program, each part of which is one of the life
-  pub life-runs : (parts : List Part)
-      → ((own : Superblock) → super_on (G.size entry) (G.count entry) (G.newest entry) ≡ Ok own → (changes : List Change) (groups : ℕ) → IsPartOf parts changes groups → IsPartOfLife own (G.count entry) handles changes groups)
+  pub life-runs : (parts : List ProgramPart)
+      → ((own : Superblock) → super_on (G.size entry) (G.count entry) (G.newest entry) ≡ Ok own → (changes : List DeckChange) (groups : ℕ) → IsPartOf parts changes groups → IsPartOfLife own (G.count entry) handles changes groups)
       → (now : D) → Runs G entry parts now → LeavesOnly G.moment G.left_since entry now LifeLeft
   life-runs parts of now run =
       let left : (c : Image) → LeftByProgram (G.size entry) (G.count entry) (G.newest entry) parts c → LeftByLife (G.size entry) (G.count entry) (G.newest entry) handles false c
@@ -73,7 +73,7 @@ module _ {D : Type 0} (G : Ghosts D) (entry : D) (handles : List Stopped) where
 
 -- ---- to the recovery after it
 
-module _ (on : HoldsOn) (size count : ℕ) (own : Superblock) (last : ℕ) (before : ℕ → List ℕ) (done : List Change) (base : Image) (entry : HoldsChanges own last size count before done base) (still : recovered size count base ≡ base) (handles : List Stopped) (committed : Bool) where
+module _ (on : HoldsOn) (size count : ℕ) (own : Superblock) (last : ℕ) (before : ℕ → List ℕ) (done : List DeckChange) (base : Image) (entry : HoldsChanges own last size count before done base) (still : recovered size count base ≡ base) (handles : List Stopped) (committed : Bool) where
   -- its superblock is the journal's own, with the feature for revoke blocks or without it
   abbrev Own : Superblock → Type 0
   Own sb = SameJournal own sb ⊎ SameJournal (revoking own) sb
@@ -90,7 +90,7 @@ module _ (on : HoldsOn) (size count : ℕ) (own : Superblock) (last : ℕ) (befo
       let at = subst (λ (x : Superblock). IsShapeOf x count batch.batch.shape) (same-journal a is) of.shape in
       record { planned = of.planned; same = of.same; shape = record { size = at.size; homes = at.homes; limit = at.limit; width = at.width } }
 
-  part-own : (a : Superblock) → Own a → (changes : List Change) (groups : ℕ) → IsPartOfLife a count handles changes groups → IsPartOfLife own count handles changes groups
+  part-own : (a : Superblock) → Own a → (changes : List DeckChange) (groups : ℕ) → IsPartOfLife a count handles changes groups → IsPartOfLife own count handles changes groups
   part-own a is changes groups nothing = nothing
   part-own a is changes groups (of_batch batch _ _ of part) = of_batch batch changes groups (batch-own a is batch of) part
 
@@ -180,7 +180,7 @@ module _ (on : HoldsOn) (size count : ℕ) (own : Superblock) (last : ℕ) (befo
       so false (inr l) whole = l
 
 -- a disk in memory that was recovered is at rest
-pub rested : (size count : ℕ) (old : Image) (new : History) → IsHistorySound new → Only (newest_of new) (MayLeave new.first new.steps) → bytes_of new.size ≡ size → new.count ≡ count
+pub rested : (size count : ℕ) (old : Image) (new : DiskHistory) → IsHistorySound new → Only (newest_of new) (MayLeave new.first new.steps) → bytes_of new.size ≡ size → new.count ≡ count
     → newest_of new ≡ recovered size count old → recovered size count (recovered size count old) ≡ recovered size count old → IsAtRest new
 rested size count old new sound only same_size same_count ended once = record {
   sound = sound;

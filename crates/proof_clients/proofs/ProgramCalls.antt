@@ -9,7 +9,7 @@ use Rattle.jb_disk.proofs.KeptOverCalls.{kept_same}
 use Rattle.jb_disk.proofs.CallRuns.{after, weaken}
 use Rattle.jb_handle.specs.declared.shape.Shape.{Shape}
 use Rattle.jb_deck.specs.Calls.{OpeningIsRecovered, at_first, one_more}
-use Rattle.jb_deck.specs.Changes.{Change, fills, settles, torn_by}
+use Rattle.jb_deck.specs.Changes.{DeckChange, fills, settles, torn_by}
 use Rattle.jb_deck.specs.Deck.{IsShapeOf, OpenDeck, on_disk}
 use Rattle.jb_deck.specs.GroupsOfBatch.{groups_in}
 use Rattle.jb_deck.specs.CallsSinceOpen.{CrashKeeps}
@@ -17,13 +17,13 @@ use Rattle.jb_deck.specs.Open.{IsNew}
 use Rattle.jb_deck.specs.Since.{CrashHolds, EndedMakesChanges, IsEnded, IsLeft, SinceIsRecovered}
 use Rattle.jb_deck.specs.GroupByGroup.{handles_to}
 use Rattle.jb_deck.specs.declared.freed.FreeFault.{FreeFault}
-use Rattle.proof_clients.specs.Programs.{LeftByProgram, Part, all_changes, all_groups, commits, in_batch, no_more, writes}
+use Rattle.proof_clients.specs.Programs.{LeftByProgram, ProgramPart, all_changes, all_groups, commits, in_batch, no_more, writes}
 use Rattle.proof_clients.proofs.ProgramParts.{changes-append, groups-append, torn-part}
 use Rattle.proof_clients.proofs.Programs.{Ends, Has, Keeps, Leaving, Left, LeftClosed, LeftIn, LeftInBatch, LeftNow, OpensAs, Opening, Runs, SoFar, Stands, left-has, left-program, opening-runs}
 
 module _ {D : Type 0} {G : Ghosts D} {entry : D} where
   -- the journal was opened
-  pub begun : {parts : List Part} {counts : ℕ → ℕ → Type 0} {opened : OpenDeck D} {shape : Shape}
+  pub begun : {parts : List ProgramPart} {counts : ℕ → ℕ → Type 0} {opened : OpenDeck D} {shape : Shape}
       → OpeningIsRecovered → EndedMakesChanges G.newest → SinceIsRecovered G.newest → CrashHolds G.newest → CrashKeeps G.newest → IsNew opened
       → (G.honest opened.disk → OpensAs G entry opened) → (G.honest opened.disk → Stands G entry opened) → KeptOn G counts entry opened.disk
       → (G.honest opened.disk → Opening G entry opened.disk) → shape ≡ opened.shape → IsShapeOf opened.log.sb (G.count opened.disk) shape
@@ -38,7 +38,7 @@ module _ {D : Type 0} {G : Ghosts D} {entry : D} where
     run = λ honest. opening-runs G entry recovers (run honest);
   }
 
-  module _ {opened now : OpenDeck D} {made rest : List Part} (so : SoFar G entry opened made rest now) where
+  module _ {opened now : OpenDeck D} {made rest : List ProgramPart} (so : SoFar G entry opened made rest now) where
     -- what a crash leaves in the next call, or once the journal is closed after it
     runs : {new closed : D} → closed ≡ new → Keeps G now.disk new → (P : Image → Type 0) → Leaving G now new P
         → (G.honest now.disk → (c : Image) → P c → LeftByProgram (G.size entry) (G.count entry) (G.newest entry) (made ++ rest) c)
@@ -51,7 +51,7 @@ module _ {D : Type 0} {G : Ghosts D} {entry : D} where
         (weaken G.moment G.left_since now.disk new P (Left G entry (made ++ rest)) (λ c has. inr (gives was c has)) (left so.up honest)))
 
     -- a call has ended, and made some parts
-    step : {new : OpenDeck D} (done later : List Part) (changes : List Change) (groups : ℕ) → made ++ rest ≡ done ++ later
+    step : {new : OpenDeck D} (done later : List ProgramPart) (changes : List DeckChange) (groups : ℕ) → made ++ rest ≡ done ++ later
         → all_changes done ≡ all_changes made ++ changes → all_groups done ≡ all_groups made + groups
         → Keeps G now.disk new.disk → Ends G now changes new → new.log.next ≡ now.log.next + groups → new.aborted ≡ false
         → (G.honest new.disk → Runs G entry (made ++ rest) new.disk) → SoFar G entry opened done later new
@@ -116,26 +116,26 @@ module _ {D : Type 0} {G : Ghosts D} {entry : D} where
 
   -- ---- a batch
 
-  module _ {batch : Planned} {opened now : OpenDeck D} {made rest : List Part} (so : SoFar G entry opened made (commits batch ∷ rest) now) where
+  module _ {batch : Planned} {opened now : OpenDeck D} {made rest : List ProgramPart} (so : SoFar G entry opened made (commits batch ∷ rest) now) where
     pub commit-runs : {new closed : D} → closed ≡ new → Keeps G now.disk new → Leaving G now new (LeftInBatch G now batch)
         → G.honest closed → Runs G entry (made ++ commits batch ∷ rest) closed
     commit-runs same kept left =
         runs so same kept (LeftInBatch G now batch) left (λ honest c l.
-        let hs : List Change = map settles (handles_to batch.groups l.groups batch.batch.handles) in
+        let hs : List DeckChange = map settles (handles_to batch.groups l.groups batch.batch.handles) in
         left-program G entry so honest hs l.groups c l.left refl (in_batch batch rest l.groups l.within))
 
     pub commit-on : {new : OpenDeck D} → Keeps G now.disk new.disk → Ends G now (map settles batch.batch.handles) new
         → new.log.next ≡ now.log.next + groups_in batch.groups → new.aborted ≡ false → Leaving G now new.disk (LeftInBatch G now batch)
         → SoFar G entry opened (made ++ commits batch ∷ []) rest new
     commit-on kept ended next up left =
-        let one : List Part = commits batch ∷ [] in
-        let hs : List Change = map settles batch.batch.handles in
+        let one : List ProgramPart = commits batch ∷ [] in
+        let hs : List DeckChange = map settles batch.batch.handles in
         let all : all_changes (made ++ one) ≡ all_changes made ++ hs = changes-append made one ∙ ap (λ cs. all_changes made ++ cs) (append-nil hs) in
         step so (made ++ one) rest hs (groups_in batch.groups) (sym (append_assoc made one rest)) all (rw add-zero at (groups-append made one)) kept ended next up (commit-runs refl kept left)
 
   -- ---- bytes that are written into a free home
 
-  module _ {home : ℕ} {bytes : List ℕ} {opened now : OpenDeck D} {made rest : List Part} (so : SoFar G entry opened made (writes home bytes ∷ rest) now)
+  module _ {home : ℕ} {bytes : List ℕ} {opened now : OpenDeck D} {made rest : List ProgramPart} (so : SoFar G entry opened made (writes home bytes ∷ rest) now)
       (r : Result (Unit {0}) FreeFault) where
     pub write-runs : {new closed : D} → closed ≡ new → Keeps G now.disk new → Leaving G now new (LeftIn G now (torn_by r home bytes) now.log.next)
         → G.honest closed → Runs G entry (made ++ writes home bytes ∷ rest) closed
@@ -148,7 +148,7 @@ module _ {D : Type 0} {G : Ghosts D} {entry : D} where
         → (G.honest new.disk → new.aborted ≡ false → IsEnded G.newest now (fills home bytes ∷ []) new)
         → Leaving G now new.disk (LeftIn G now (torn_by r home bytes) now.log.next) → SoFar G entry opened (made ++ writes home bytes ∷ []) rest new
     write-on {new = new} same kept ended left =
-        let one : List Part = writes home bytes ∷ [] in
+        let one : List ProgramPart = writes home bytes ∷ [] in
         let up : new.aborted ≡ false = ap (λ (d : OpenDeck D). d.aborted) same ∙ so.up in
         let next = ap (λ (d : OpenDeck D). d.log.next) same ∙ sym (add-zero now.log.next) in
         step so (made ++ one) rest (fills home bytes ∷ []) 0 (sym (append_assoc made one rest)) (changes-append made one) (groups-append made one)

@@ -20,10 +20,10 @@ use Rattle.jb_disk.specs.Throughout.{AllHave}
 use Rattle.jb_disk.specs.Time.{LeavesOnly}
 use Rattle.jb_disk.proofs.CallRuns.{weaken}
 use Rattle.jb_recover.specs.Outcomes.{recovered}
-use Rattle.jb_deck.specs.Changes.{Change, settled_in}
+use Rattle.jb_deck.specs.Changes.{DeckChange, settled_in}
 use Rattle.jb_deck.specs.CallsSinceOpen.{CrashKeeps}
 use Rattle.jb_deck.specs.Since.{CrashHolds, EndedMakesChanges, IsEnded, IsLeft, LeftInCommit, MakesChanges, SinceIsRecovered, deck_homes}
-use Rattle.proof_clients.specs.Programs.{HasChanges, IsPartOf, LeftByProgram, Part, all_changes, all_groups, no_more}
+use Rattle.proof_clients.specs.Programs.{HasChanges, IsPartOf, LeftByProgram, ProgramPart, all_changes, all_groups, no_more}
 use Rattle.proof_clients.proofs.ProgramParts.{part-on}
 
 -- ---- the journal that was opened, and the one that the disk had at first
@@ -75,14 +75,14 @@ module _ {D : Type 0} (G : Ghosts D) where
   abbrev pub Keeps : D → D → Type 0
   Keeps old new = KeptOn G CountsAny old new
 
-  abbrev pub Ends : OpenDeck D → List Change → OpenDeck D → Type 0
+  abbrev pub Ends : OpenDeck D → List DeckChange → OpenDeck D → Type 0
   Ends now changes new = G.honest new.disk → IsEnded G.newest now changes new
 
   abbrev pub Leaving : OpenDeck D → D → (Image → Type 0) → Type 0
   Leaving now new P = now.aborted ≡ false → G.honest new → Leaves now.disk new P
 
   -- what a crash leaves in a call that changes something, or nothing, and in a commit
-  abbrev pub LeftIn : OpenDeck D → List Change → ℕ → Image → Type 0
+  abbrev pub LeftIn : OpenDeck D → List DeckChange → ℕ → Image → Type 0
   LeftIn now changes next = IsLeft G.newest (G.size now.disk) (G.count now.disk) now changes next
 
   abbrev pub LeftNow : OpenDeck D → Image → Type 0
@@ -110,20 +110,20 @@ module _ {D : Type 0} (G : Ghosts D) where
     before = recovered_home size count base
 
     -- an image has these changes since the entry, and a crash leaves such ones of a program
-    abbrev pub Has : List Change → ℕ → Image → Type 0
+    abbrev pub Has : List DeckChange → ℕ → Image → Type 0
     Has changes groups c = HasChanges size count base changes groups c
 
-    abbrev pub Left : List Part → Image → Type 0
+    abbrev pub Left : List ProgramPart → Image → Type 0
     Left parts c = G.may_leave entry c ⊎ LeftByProgram size count base parts c
 
-    abbrev pub Runs : List Part → D → Type 0
+    abbrev pub Runs : List ProgramPart → D → Type 0
     Runs parts now = Leaves entry now (Left parts)
 
     -- while the journal is opened
     abbrev pub Opening : D → Type 0
     Opening now = Leaves entry now (λ c. G.may_leave entry c ⊎ FollowsEntry size count base c)
 
-    pub opening-runs : {parts : List Part} {now : D} → OpeningIsRecovered → Opening now → Runs parts now
+    pub opening-runs : {parts : List ProgramPart} {now : D} → OpeningIsRecovered → Opening now → Runs parts now
     opening-runs {parts = parts} {now = now} opening run =
         weaken G.moment G.left_since entry now (λ c. G.may_leave entry c ⊎ FollowsEntry size count base c) (Left parts)
         (λ c. ⊎_elim inl (λ f. inr (record { changes = []; groups = 0; part = no_more parts; has = entry-has opening size count base c f })))
@@ -148,7 +148,7 @@ module _ {D : Type 0} (G : Ghosts D) where
       pub stands : Stands deck
 
     -- Since it was opened these parts were made, and the rest are to come. What it says of the disk holds of an honest one.
-    pub record SoFar (opened : OpenDeck D) (made rest : List Part) (now : OpenDeck D) : Type 0 where
+    pub record SoFar (opened : OpenDeck D) (made rest : List ProgramPart) (now : OpenDeck D) : Type 0 where
       pub next : now.log.next ≡ opened.log.next + all_groups made
       pub up : now.aborted ≡ false
       pub same_size : G.size now.disk ≡ size
@@ -158,8 +158,8 @@ module _ {D : Type 0} (G : Ghosts D) where
       pub run : G.honest now.disk → Runs (made ++ rest) now.disk
 
     -- what a crash left in the next call
-    module _ {opened now : OpenDeck D} {made rest : List Part} (so : SoFar opened made rest now) (honest : G.honest now.disk)
-        (changes : List Change) (more : ℕ) (c : Image) {next : ℕ} (left : LeftIn now changes next c) (sum : next ≡ now.log.next + more) where
+    module _ {opened now : OpenDeck D} {made rest : List ProgramPart} (so : SoFar opened made rest now) (honest : G.honest now.disk)
+        (changes : List DeckChange) (more : ℕ) (c : Image) {next : ℕ} (left : LeftIn now changes next c) (sum : next ≡ now.log.next + more) where
       here : IsLeft G.newest size count now changes next c
       here = subst (λ (x : ℕ × ℕ). IsLeft G.newest x.0 x.1 now changes next c) (λ i. (so.same_size i, so.same_count i)) left
 

@@ -10,11 +10,13 @@ use Rattle.jb_deck.specs.Done.{entries_of}
 use Rattle.jb_deck.specs.declared.done.Done.{Done}
 use Rattle.jb_deck.specs.declared.done.Entry.{Entry}
 use Rattle.jb_book.specs.Account.{Account, CanTake}
-use Rattle.jb_book.specs.Calls.{Call, Took, Settled, CallsMake, AreOfFirst, IsCutOf, handles_in}
+use Rattle.jb_book.specs.Calls.{BookCall, Took, Settled, CallsMake, AreOfFirst, IsCutOf, handles_in}
 
 -- where some calls of a new book led to the account before, these calls and this one lead to the account after
-abbrev pub CallLeads : Call → Account → Account → Type 0
-CallLeads call old new = (shape : Shape) (usable : ℕ) (calls : List Call) → CallsMake shape usable calls old → CallsMake shape usable (call ∷ calls) new
+abbrev pub CallLeads : BookCall → Account → Account → Type 0
+CallLeads call old new =
+    (shape : Shape) (usable : ℕ) (calls : List BookCall) → CallsMake shape usable calls old
+    → CallsMake shape usable (call ∷ calls) new
 
 -- the plan is of the batch
 pub record IsPlanOf (b : Gathered) (p : Planned) : Type 0 where
@@ -25,8 +27,8 @@ pub record IsPlanOf (b : Gathered) (p : Planned) : Type 0 where
 abbrev pub TellsFirstGroups : Planned → Done → Type 0
 TellsFirstGroups p done = AreOfFirst (pieces p.groups p.batch.handles) (entries_of done)
 
--- the whole queue was taken and committed by a least cut, and the groups that the journal has settled are settled in the book;
--- the journal's trail was such before and after
+-- the whole queue was taken and committed by a least cut, and the groups that the journal has settled are settled in
+-- the book; the journal's trail was such before and after
 pub record SettlesQueue (old new : Account) (before after : List Entry) : Type 0 where
   pub could : CanTake old
   pub cut : List ℕ
@@ -34,8 +36,9 @@ pub record SettlesQueue (old new : Account) (before after : List Entry) : Type 0
   pub least : IsCutOf (gathered old.shadow.taken old.shadow.queue old.shape) cut
   pub told : after ≡ before ++ entries
   pub trail : new.trail ≡ old.trail ++ entries
-  pub goes : (shape : Shape) (usable : ℕ) (calls : List Call) → CallsMake shape usable calls old
-      → CallsMake shape usable (Settled entries (Ok tt) ∷ Took (gathered old.shadow.taken old.shadow.queue old.shape) cut ∷ calls) new
+  pub goes : (shape : Shape) (usable : ℕ) (calls : List BookCall) → CallsMake shape usable calls old
+      → CallsMake shape usable (Settled entries (Ok tt)
+      ∷ Took (gathered old.shadow.taken old.shadow.queue old.shape) cut ∷ calls) new
 
 -- ---- two handles
 
@@ -54,5 +57,7 @@ Have one two (g ∷ h ∷ i ∷ groups) = ⊥
 pub record Stand (shape : Shape) (first second : WordMap) (trail : List Entry) : Type 0 where
   pub cut : List ℕ
   pub least : IsCutOf (gathered 0 (two_stops first second) shape) cut
-  pub groups : map (handles_in (two_stops first second)) trail ≡ take (length trail) (pieces cut (two_stops first second))
-  pub have : Have (record { ticket = 0; words = first }) (record { ticket = 1; words = second }) (map (handles_in (two_stops first second)) trail)
+  pub groups : map (handles_in (two_stops first second)) trail
+      ≡ take (length trail) (pieces cut (two_stops first second))
+  pub have : Have (record { ticket = 0; words = first }) (record { ticket = 1; words = second })
+      (map (handles_in (two_stops first second)) trail)

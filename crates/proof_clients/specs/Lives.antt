@@ -2,7 +2,7 @@
 -- crash and a recovery.
 use Rattle.std.specs.Prelude.{◌≡◌, ◌⊎◌, ℕ, ◌+◌, ◌%◌, ◌^◌, Bool, true, List, [], ◌∷◌, ◌++◌, Ok}
 use Rattle.jb_block.specs.Size.{bytes_of}
-use Rattle.jb_disk.specs.History.{History, IsHistorySound, MayLeave, newest_of}
+use Rattle.jb_disk.specs.History.{DiskHistory, IsHistorySound, MayLeave, newest_of}
 use Rattle.jb_disk.specs.Image.{Image, Only, block}
 use Rattle.jb_super.specs.Journal.{SameJournal}
 use Rattle.jb_super.specs.Superblock.{Superblock}
@@ -11,7 +11,7 @@ use Rattle.jb_plan.specs.Prepare.{IsPlanned, Planned}
 use Rattle.jb_format.specs.Front.{super_on}
 use Rattle.jb_format.specs.Ready.{revoking}
 use Rattle.jb_recover.specs.Outcomes.{recovered}
-use Rattle.jb_deck.specs.Changes.{Change, HoldsAfter}
+use Rattle.jb_deck.specs.Changes.{DeckChange, HoldsAfter}
 use Rattle.jb_deck.specs.Deck.{IsShapeOf}
 use Rattle.jb_deck.specs.GroupsOfBatch.{groups_in}
 use Rattle.jb_deck.specs.Open.{recovered_home}
@@ -28,13 +28,13 @@ pub record IsBatchOf (own : Superblock) (count : ℕ) (handles : List Stopped) (
 
 -- a part of what a life changes that commits these handles, with this many groups: nothing, or the first groups of a
 -- batch of them
-pub data IsPartOfLife (own : Superblock) (count : ℕ) (handles : List Stopped) : List Change → ℕ → Type 0 where
+pub data IsPartOfLife (own : Superblock) (count : ℕ) (handles : List Stopped) : List DeckChange → ℕ → Type 0 where
   nothing : IsPartOfLife own count handles [] 0
-  of_batch : (batch : Planned) (changes : List Change) (groups : ℕ) → IsBatchOf own count handles batch
+  of_batch : (batch : Planned) (changes : List DeckChange) (groups : ℕ) → IsBatchOf own count handles batch
       → IsPartOf (commits batch ∷ []) changes groups → IsPartOfLife own count handles changes groups
 
 -- all of it
-pub record IsWholeLife (own : Superblock) (count : ℕ) (handles : List Stopped) (changes : List Change) (groups : ℕ)
+pub record IsWholeLife (own : Superblock) (count : ℕ) (handles : List Stopped) (changes : List DeckChange) (groups : ℕ)
     : Type 0 where
   pub batch : Planned
   pub is : IsBatchOf own count handles batch
@@ -49,10 +49,11 @@ CountsOn last groups now = (now ≡ last + groups) ⊎ (now ≡ (last + 1 + grou
 -- Lives one after another, of a journal whose last number was this one: the handles that each was to commit, whether
 -- that was reported as done, what all of them changed, in order, and the last number after them. Each life changed a
 -- part of what it was to change, and all of it where that was reported.
-pub data AreLives (own : Superblock) (count last : ℕ) : List (List Stopped) → List Bool → List Change → ℕ → Type 0 where
+pub data AreLives (own : Superblock) (count last : ℕ) : List (List Stopped) → List Bool → List DeckChange → ℕ
+    → Type 0 where
   no_life : AreLives own count last [] [] [] last
-  one_life : (lives : List (List Stopped)) (reported : List Bool) (done : List Change) (before : ℕ)
-      (handles : List Stopped) (committed : Bool) (changes : List Change) (groups now : ℕ)
+  one_life : (lives : List (List Stopped)) (reported : List Bool) (done : List DeckChange) (before : ℕ)
+      (handles : List Stopped) (committed : Bool) (changes : List DeckChange) (groups now : ℕ)
       → AreLives own count last lives reported done before
       → IsPartOfLife own count handles changes groups
       → (committed ≡ true → IsWholeLife own count handles changes groups)
@@ -64,7 +65,7 @@ pub data AreLives (own : Superblock) (count last : ℕ) : List (List Stopped) �
 -- A journal that was recovered: there is nothing to recover, its superblock is its own, with the feature for revoke
 -- blocks or without it, and this is the last number; and each home holds what these changes say, counted from how the
 -- homes were at first.
-pub record HoldsChanges (own : Superblock) (last size count : ℕ) (before : ℕ → List ℕ) (changes : List Change)
+pub record HoldsChanges (own : Superblock) (last size count : ℕ) (before : ℕ → List ℕ) (changes : List DeckChange)
     (c : Image) : Type 0 where
   pub sb : Superblock
   pub same : SameJournal own sb ⊎ SameJournal (revoking own) sb
@@ -77,7 +78,7 @@ pub record HoldsChanges (own : Superblock) (last size count : ℕ) (before : ℕ
 -- and all of it once it is reported.
 pub record LeftByLife (size count : ℕ) (base : Image) (handles : List Stopped) (committed : Bool) (c : Image)
     : Type 0 where
-  pub changes : List Change
+  pub changes : List DeckChange
   pub groups : ℕ
   pub has : HasChanges size count base changes groups c
   pub part : IsPartOfLife has.own count handles changes groups
@@ -85,9 +86,9 @@ pub record LeftByLife (size count : ℕ) (base : Image) (handles : List Stopped)
 
 -- After one life more, which was to commit these handles, a journal that had these changes has a part of that besides:
 -- all of it where it was reported. Its numbers count the groups.
-pub record HoldsLife (own : Superblock) (last size count : ℕ) (before : ℕ → List ℕ) (done : List Change)
+pub record HoldsLife (own : Superblock) (last size count : ℕ) (before : ℕ → List ℕ) (done : List DeckChange)
     (handles : List Stopped) (committed : Bool) (c : Image) : Type 0 where
-  pub changes : List Change
+  pub changes : List DeckChange
   pub groups : ℕ
   pub part : IsPartOfLife own count handles changes groups
   pub all : committed ≡ true → IsWholeLife own count handles changes groups
@@ -104,13 +105,13 @@ pub record HasLives (size count : ℕ) (lives : List (List Stopped)) (reported :
   pub was : super_on size count old ≡ Ok own
   pub last : ℕ
   pub begun : HoldsChanges own last size count (recovered_home size count old) [] (recovered size count old)
-  pub changes : List Change
+  pub changes : List DeckChange
   pub now : ℕ
   pub are : AreLives own count last lives reported changes now
   pub holds : HoldsChanges own now size count (recovered_home size count old) changes new
 
 -- a disk in memory that was recovered: a crash leaves its newest content alone, which recovery leaves as it is
-pub record IsAtRest (disk : History) : Type 0 where
+pub record IsAtRest (disk : DiskHistory) : Type 0 where
   pub sound : IsHistorySound disk
   pub only : Only (newest_of disk) (MayLeave disk.first disk.steps)
   pub still : recovered (bytes_of disk.size) disk.count (newest_of disk) ≡ newest_of disk

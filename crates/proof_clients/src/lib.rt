@@ -26,7 +26,7 @@ pub use closed::commit_and_close;
 pub use lives::{Failure, Life, Lived, run_lives};
 pub use recovering::recover_file;
 pub use reuse::reuse_home;
-pub use telling::{Found, Telling};
+pub use telling::{Found, TellingWorkers};
 pub use three::commit_three;
 pub use two::two_handles;
 pub use two_files::recover_files;

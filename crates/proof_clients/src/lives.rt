@@ -9,7 +9,7 @@ ghost use Rattle.jb_disk.specs.Time.{LeavesOnly};
 ghost use Rattle.jb_disk.specs.Throughout.{AllHave};
 ghost use Rattle.jb_recover.specs.Outcomes.{RecoversAs};
 ghost use Rattle.jb_super.specs.Superblock.{Superblock};
-ghost use Rattle.jb_deck.specs.Changes.{Change};
+ghost use Rattle.jb_deck.specs.Changes.{DeckChange};
 ghost use Rattle.proof_clients.specs.Lives.{HasLives, HoldsChanges, HoldsLife, IsAtRest, LeftByLife};
 
 use crate::life::run;
@@ -89,7 +89,7 @@ fn live(alloc: Global, disk: MemoryDisk, life: Life) -> Result<(MemoryDisk, bool
     ensures same { IfOk result (λ lived. (bytes_of lived.0.size ≡ bytes_of disk.size)
         × (lived.0.count ≡ disk.count)) }
     ensures lives { IsAtRest disk → IfOk result (λ lived. (own : Superblock) (last : ℕ) (before : ℕ → List ℕ)
-        (done : List Change)
+        (done : List DeckChange)
         → HoldsChanges own last (bytes_of disk.size) disk.count before done (newest_of disk)
         → HoldsLife own last (bytes_of disk.size) disk.count before done life.handles.items lived.1
         (newest_of lived.0)) }

@@ -35,14 +35,14 @@ enum Told {
 /// Two workers: the first one writes a home of 1,024 bytes, waits until that is committed, and tells the second one,
 /// which reads the home.
 #[derive(Drop)]
-pub struct Telling {
+pub struct TellingWorkers {
     /// What is written.
     pub bytes: [u8; 1024],
     told: Mutex<Told>,
     moved: Condvar,
 }
 
-impl Worker<Found> for Telling {
+impl Worker<Found> for TellingWorkers {
     ghost use Rattle.std.specs.Prelude.{◌≡◌, []};
     ghost use Rattle.jb_journal.specs.Client.{IsClient, client_honest, client_known, client_stops, when_committed};
     ghost use Rattle.jb_journal.specs.declared.options.Commits.TheVariants.{Meanwhile};
@@ -77,15 +77,15 @@ impl Worker<Found> for Telling {
     }
 }
 
-impl Telling {
+impl TellingWorkers {
     ghost use Rattle.std.specs.Prelude.{◌≡◌, []};
     ghost use Rattle.jb_journal.specs.Client.{MayWait, client_honest, client_known, client_stops};
 
     /// Two workers that have told nothing yet.
-    pub fn new(bytes: [u8; 1024]) -> Telling
+    pub fn new(bytes: [u8; 1024]) -> TellingWorkers
         ensures { result.bytes ≡ bytes }
     {
-        Telling {
+        TellingWorkers {
             bytes,
             told: Mutex::new(Told::Nothing),
             moved: Condvar::new(),

@@ -2,7 +2,7 @@
 ghost use Rattle.std.specs.Prelude.{IfOk};
 ghost use Rattle.proof_clients.specs.TwoWorkers.{TwoHaveWorked};
 
-use crate::telling::{Found, Telling};
+use crate::telling::{Found, TellingWorkers};
 use jb_journal::{Clock, Disk, NotRun, Options, Ran, run};
 use std::sync::Wait;
 use std::thread::Threads;
@@ -27,5 +27,11 @@ pub fn two_workers<
     /// other one has read.
     ensures { IfOk result (TwoHaveWorked D.Disk bytes disk) }
 {
-    run(rt, disk, clock, Options::new(2), &Telling::new(bytes))
+    run(
+        rt,
+        disk,
+        clock,
+        Options::new(2),
+        &TellingWorkers::new(bytes),
+    )
 }

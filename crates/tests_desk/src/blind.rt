@@ -4,7 +4,7 @@ ghost use Rattle.jb_desk.specs.History.{history_in};
 ghost use Rattle.jb_board.specs.History.{history_id};
 
 use crate::journal::{CLOCK, PARTS, Small, Still, formatted, opened};
-use jb_board::Opened;
+use jb_board::NewHistory;
 use jb_deck::Deck;
 use jb_desk::{Desk, Origin, StopLedger};
 use jb_disk::{Disk, MemoryDisk};
@@ -20,8 +20,8 @@ pub fn stops(rt: &impl Abort, alloc: Global) -> StopLedger
 }
 
 /// A new history of a journal's marks.
-pub fn marks<D: Disk>(rt: &impl Abort, alloc: Global) -> Opened<Deck<D>> {
-    Opened::new(alloc).expect(rt, "memory")
+pub fn marks<D: Disk>(rt: &impl Abort, alloc: Global) -> NewHistory<Deck<D>> {
+    NewHistory::new(alloc).expect(rt, "memory")
 }
 
 /// Starts a desk over a journal, where nothing is known of the disk at the start, so that any disk will do.
@@ -30,7 +30,7 @@ pub fn start<D: Disk + Drop, H: Origin, N: Ledger>(
     alloc: Global,
     handles: StopLedger,
     changes: Blank,
-    marks: Opened<Deck<D>>,
+    marks: NewHistory<Deck<D>>,
     deck: Deck<D>,
 ) -> Still<D, H, N>
     requires blind { (H.begun.is_known → ⊥) × (H.begun.none_failed → ⊥) }
@@ -51,7 +51,7 @@ pub fn small<H: Origin, N: Ledger>(
     alloc: Global,
     handles: StopLedger,
     changes: Blank,
-    marks: Opened<Deck<MemoryDisk>>,
+    marks: NewHistory<Deck<MemoryDisk>>,
 ) -> Small<H, N>
     requires blind { (H.begun.is_known → ⊥) × (H.begun.none_failed → ⊥) }
     requires handles { (handles.tickets.name ≡ H.name) × (handles.tickets.parts ≡ H.parts) × (H.parts ≡ 2 ^ 61 + 1) }

@@ -12,7 +12,7 @@ use crate::closing::{closed, left};
 use crate::journal::{
     Came, PARTS, Small, Still, commit, formatted, is_one, opened, refused, round_of, seated, write,
 };
-use jb_board::Opened;
+use jb_board::NewHistory;
 use jb_deck::{Checked, CheckpointFault, Deck, ReadHomeFault};
 use jb_desk::{BeginFault, Ended, Origin, RoundFault, Seat, StopLedger, WaitFault};
 use jb_disk::{Disk, MemoryDisk, OneFaultDisk};
@@ -107,7 +107,7 @@ fn failing<R: Abort + Wait, H: Origin, N: Ledger>(
     call: u64,
     handles: StopLedger,
     changes: Blank,
-    marks: Opened<Deck<OneFaultDisk<MemoryDisk>>>,
+    marks: NewHistory<Deck<OneFaultDisk<MemoryDisk>>>,
 ) -> Option<Found>
     requires blind { (H.begun.is_known → ⊥) × (H.begun.none_failed → ⊥) }
     requires any { (words : WordMap) → H.begun.stops words }
@@ -262,7 +262,7 @@ fn ends_with_no_group<
     race: u64,
     handles: StopLedger,
     changes: Blank,
-    marks: Opened<Deck<MemoryDisk>>,
+    marks: NewHistory<Deck<MemoryDisk>>,
 )
     requires blind { (H.begun.is_known → ⊥) × (H.begun.none_failed → ⊥) }
     requires any { (words : WordMap) → H.begun.stops words }

@@ -10,7 +10,7 @@ use crate::blind::{marks, small, stops};
 use crate::checks::check;
 use crate::closing::{check_close, check_close_twice, is_closed, left, over_at};
 use crate::journal::{PARTS, SHAPE, Small, begun, refused, seated, stop};
-use jb_board::{Front, Opened};
+use jb_board::{Front, NewHistory};
 use jb_deck::{CheckpointFault, Deck};
 use jb_desk::{BeginFault, EnqueueFault, Left, Origin, Seat, StopLedger, WaitFault};
 use jb_disk::MemoryDisk;
@@ -199,7 +199,7 @@ fn rows<R: Abort + Wait, H: Origin, N: Ledger>(
     row: Row,
     handles: StopLedger,
     changes: Blank,
-    marks: Opened<Deck<MemoryDisk>>,
+    marks: NewHistory<Deck<MemoryDisk>>,
 )
     requires blind { (H.begun.is_known → ⊥) × (H.begun.none_failed → ⊥) }
     requires any { (words : WordMap) → H.begun.stops words }

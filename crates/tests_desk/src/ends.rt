@@ -10,7 +10,7 @@ use crate::blind::{marks, small, stops};
 use crate::checks::check;
 use crate::closing::{check_close, is_closed, left, over_at};
 use crate::journal::{PARTS, Small, refused, retired, seated, write};
-use jb_board::{Front, Opened};
+use jb_board::{Front, NewHistory};
 use jb_deck::{CheckpointFault, Deck};
 use jb_desk::{Origin, Retired, Seat, StopLedger};
 use jb_disk::MemoryDisk;
@@ -82,7 +82,7 @@ fn desk_ended<R: Abort + Wait + Clock, H: Origin, N: Ledger>(
     alloc: Global,
     handles: StopLedger,
     changes: Blank,
-    marks: Opened<Deck<MemoryDisk>>,
+    marks: NewHistory<Deck<MemoryDisk>>,
 )
     requires blind { (H.begun.is_known → ⊥) × (H.begun.none_failed → ⊥) }
     requires any { (words : WordMap) → H.begun.stops words }

@@ -11,7 +11,7 @@ use crate::journal::{
     Came, PARTS, Still, begun, formatted, home, is_one, opened, refused, retired, round, seated,
     stop, write,
 };
-use jb_board::Opened;
+use jb_board::NewHistory;
 use jb_deck::Deck;
 use jb_desk::{BeginFault, EnqueueFault, Origin, RoundFault, StopLedger};
 use jb_disk::{Disk, MemoryDisk, OneFaultDisk};
@@ -113,7 +113,7 @@ fn failing<R: Abort + Wait, H: Origin, N: Ledger>(
     call: u64,
     handles: StopLedger,
     changes: Blank,
-    marks: Opened<Deck<OneFaultDisk<MemoryDisk>>>,
+    marks: NewHistory<Deck<OneFaultDisk<MemoryDisk>>>,
 ) -> Option<Found>
     requires blind { (H.begun.is_known → ⊥) × (H.begun.none_failed → ⊥) }
     requires any { (words : WordMap) → H.begun.stops words }

@@ -12,7 +12,7 @@ use crate::journal::{
     PARTS, Still, begun, formatted, is_one, opened, retired, round, seated, stop, write,
 };
 use jb_block::BlockSize;
-use jb_board::Opened;
+use jb_board::NewHistory;
 use jb_deck::Deck;
 use jb_desk::{Left, Origin, StopLedger};
 use jb_disk::{Disk, Fault, MemoryDisk};
@@ -238,7 +238,7 @@ fn gated<
     gate: &'a Gate,
     handles: StopLedger,
     changes: Blank,
-    marks: Opened<Deck<GateDisk<'a, MemoryDisk, R>>>,
+    marks: NewHistory<Deck<GateDisk<'a, MemoryDisk, R>>>,
 )
     requires blind { (H.begun.is_known → ⊥) × (H.begun.none_failed → ⊥) }
     requires any { (words : WordMap) → H.begun.stops words }

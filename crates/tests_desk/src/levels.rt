@@ -10,7 +10,7 @@ use crate::blind::{marks, small, stops};
 use crate::checks::{check, check_at, check_in, fail};
 use crate::closing::{closed, left};
 use crate::journal::{PARTS, Small, Still, commit, home, seated};
-use jb_board::Opened;
+use jb_board::NewHistory;
 use jb_deck::{CheckedRun, CheckpointFault, Deck};
 use jb_desk::{CheckpointRound, Origin, Seat, StopLedger};
 use jb_disk::{Disk, MemoryDisk};
@@ -78,7 +78,7 @@ fn level<R: Abort + Wait, H: Origin, N: Ledger>(
     row: &Row,
     handles: StopLedger,
     changes: Blank,
-    marks: Opened<Deck<MemoryDisk>>,
+    marks: NewHistory<Deck<MemoryDisk>>,
 )
     requires blind { (H.begun.is_known → ⊥) × (H.begun.none_failed → ⊥) }
     requires any { (words : WordMap) → H.begun.stops words }
@@ -184,7 +184,7 @@ fn beside<
     R: Abort + Threads + Wait + Clock + Sync,
     H: Origin + Send + Sync,
     N: Ledger + Send + Sync,
->(rt: &R, alloc: Global, handles: StopLedger, changes: Blank, marks: Opened<Deck<MemoryDisk>>)
+>(rt: &R, alloc: Global, handles: StopLedger, changes: Blank, marks: NewHistory<Deck<MemoryDisk>>)
     requires blind { (H.begun.is_known → ⊥) × (H.begun.none_failed → ⊥) }
     requires any { (words : WordMap) → H.begun.stops words }
     requires handles { (handles.tickets.name ≡ H.name) × (handles.tickets.parts ≡ H.parts) × (H.parts ≡ 2 ^ 61 + 1) }

@@ -11,7 +11,7 @@ use crate::checks::check_in;
 use crate::closing::{closed, left};
 use crate::journal::{PARTS, Small, Still, commit, seated};
 use jb_block::Memory;
-use jb_board::Opened;
+use jb_board::NewHistory;
 use jb_deck::{Deck, Entry};
 use jb_desk::{Origin, Seat, StopLedger, WaitFault};
 use jb_disk::{Disk, MemoryDisk};
@@ -183,7 +183,7 @@ fn live<R: Abort + Wait, H: Origin, N: Ledger>(
     row: &(Life, Lived),
     handles: StopLedger,
     changes: Blank,
-    marks: Opened<Deck<MemoryDisk>>,
+    marks: NewHistory<Deck<MemoryDisk>>,
 )
     requires blind { (H.begun.is_known → ⊥) × (H.begun.none_failed → ⊥) }
     requires any { (words : WordMap) → H.begun.stops words }

@@ -13,7 +13,7 @@ use crate::keys::{Draws, HOMES};
 use crate::report::Report;
 use crate::threads::{Reports, Worked, work_all};
 use jb_block::{BlockSize, Width};
-use jb_board::Opened;
+use jb_board::NewHistory;
 use jb_deck::{Deck, Entry};
 use jb_desk::{Left, Origin, StopLedger};
 use jb_disk::{FuseDisk, MemoryDisk};
@@ -156,7 +156,7 @@ fn outcome_of<
     load: Load,
     handles: StopLedger,
     changes: Blank,
-    marks: Opened<Deck<FuseDisk<MemoryDisk>>>,
+    marks: NewHistory<Deck<FuseDisk<MemoryDisk>>>,
 ) -> Option<Outcome>
     requires blind { (H.begun.is_known → ⊥) × (H.begun.none_failed → ⊥) }
     requires any { (words : WordMap) → H.begun.stops words }

@@ -9,7 +9,7 @@ use crate::checks::check_at;
 use crate::gate::{Gate, GateDisk, Gated, await_flag, gated_disk};
 use crate::journal::{PARTS, Still, opened, round_of, seated, write};
 use crate::reads::filled;
-use jb_board::Opened;
+use jb_board::NewHistory;
 use jb_deck::Deck;
 use jb_desk::{Origin, StopLedger};
 use jb_disk::{Disk, MemoryDisk};
@@ -89,7 +89,7 @@ fn beside<
     gate: &'a Gate,
     handles: StopLedger,
     changes: Blank,
-    marks: Opened<Deck<GateDisk<'a, MemoryDisk, R>>>,
+    marks: NewHistory<Deck<GateDisk<'a, MemoryDisk, R>>>,
 )
     requires blind { (H.begun.is_known → ⊥) × (H.begun.none_failed → ⊥) }
     requires any { (words : WordMap) → H.begun.stops words }

@@ -9,7 +9,7 @@ ghost use Rattle.jb_handle.specs.Word.{WordMap};
 use crate::blind::{marks, small, start, stops};
 use crate::checks::{check, check_at, check_in, fail};
 use crate::journal::{Came, PARTS, Small, Still, begun, formatted, opened, round_of, seated, stop};
-use jb_board::Opened;
+use jb_board::NewHistory;
 use jb_deck::{Deck, ReadHomeFault};
 use jb_desk::{Origin, Seat, StopLedger};
 use jb_disk::{Disk, MemoryDisk, OneFaultDisk};
@@ -177,7 +177,7 @@ fn stepped<R: Abort + Wait, H: Origin, N: Ledger>(
     alloc: Global,
     handles: StopLedger,
     changes: Blank,
-    marks: Opened<Deck<MemoryDisk>>,
+    marks: NewHistory<Deck<MemoryDisk>>,
 )
     requires blind { (H.begun.is_known → ⊥) × (H.begun.none_failed → ⊥) }
     requires any { (words : WordMap) → H.begun.stops words }
@@ -237,7 +237,7 @@ fn failing<R: Abort + Wait, H: Origin, N: Ledger>(
     call: u64,
     handles: StopLedger,
     changes: Blank,
-    marks: Opened<Deck<OneFaultDisk<MemoryDisk>>>,
+    marks: NewHistory<Deck<OneFaultDisk<MemoryDisk>>>,
 ) -> bool
     requires blind { (H.begun.is_known → ⊥) × (H.begun.none_failed → ⊥) }
     requires any { (words : WordMap) → H.begun.stops words }

@@ -13,7 +13,7 @@ use crate::journal::{
     Came, PARTS, Small, formatted, is_one, numbered, opened, refused, retired, round_of, seated,
     write,
 };
-use jb_board::{Front, Opened};
+use jb_board::{Front, NewHistory};
 use jb_deck::{Checked, CheckpointFault, Deck};
 use jb_desk::{BeginFault, Origin, RoundFault, Seat, StopLedger, WaitFault};
 use jb_disk::MemoryDisk;
@@ -207,7 +207,7 @@ fn rows<R: Abort + Wait + Clock, H: Origin, N: Ledger>(
     is_last: bool,
     handles: StopLedger,
     changes: Blank,
-    marks: Opened<Deck<MemoryDisk>>,
+    marks: NewHistory<Deck<MemoryDisk>>,
 )
     requires blind { (H.begun.is_known → ⊥) × (H.begun.none_failed → ⊥) }
     requires any { (words : WordMap) → H.begun.stops words }

@@ -6,7 +6,7 @@ ghost use Rattle.jb_board.specs.History.{history_id};
 use crate::blind::{marks, small, stops};
 use crate::checks::check_at;
 use crate::journal::{PARTS, Small, seated};
-use jb_board::Opened;
+use jb_board::NewHistory;
 use jb_deck::Deck;
 use jb_desk::{Origin, StopLedger};
 use jb_disk::MemoryDisk;
@@ -57,7 +57,7 @@ fn order<
     alloc: Global,
     handles: StopLedger,
     changes: Blank,
-    marks: Opened<Deck<MemoryDisk>>,
+    marks: NewHistory<Deck<MemoryDisk>>,
 ) -> Vec<usize>
     requires blind { (H.begun.is_known → ⊥) × (H.begun.none_failed → ⊥) }
     requires handles { (handles.tickets.name ≡ H.name) × (handles.tickets.parts ≡ H.parts) × (H.parts ≡ 2 ^ 61 + 1) }

@@ -13,7 +13,7 @@ use crate::gate::{await_flag, has_come};
 use crate::journal::{
     Came, PARTS, Still, commit, formatted, is_one, numbered, opened, retired, round, seated, write,
 };
-use jb_board::Opened;
+use jb_board::NewHistory;
 use jb_deck::{CheckpointFault, Deck};
 use jb_desk::{Origin, RoundFault, Seat, Sights, StopLedger, WaitFault};
 use jb_disk::{Disk, MemoryDisk, OneFaultDisk};
@@ -226,7 +226,7 @@ fn waited<
     end: End,
     handles: StopLedger,
     changes: Blank,
-    marks: Opened<Deck<OneFaultDisk<MemoryDisk>>>,
+    marks: NewHistory<Deck<OneFaultDisk<MemoryDisk>>>,
 )
     requires blind { (H.begun.is_known → ⊥) × (H.begun.none_failed → ⊥) }
     requires any { (words : WordMap) → H.begun.stops words }

@@ -2,7 +2,7 @@
 use crate::checks::{By, Host};
 use crate::journals::{CLOCK, formatted, homes};
 use jb_journal::{BlockSize, Disk, Options, run};
-use proof_clients::{Found, Telling, two_workers};
+use proof_clients::{Found, TellingWorkers, two_workers};
 use tests_support::{Must, Test, check, check_at, fail};
 
 /// Checks what the two workers have done.
@@ -36,7 +36,7 @@ fn check_failed(test: &impl Test, answers: &[Found]) {
 /// Checks what the two workers answer where a block has another size than the one that is written.
 fn check_refused<D: Disk + Drop + Send>(rt: &impl Host, disk: D) {
     let test = By(rt, rt.alloc());
-    let telling = Telling::new([7; 1024]);
+    let telling = TellingWorkers::new([7; 1024]);
     let ran = run(rt, disk, CLOCK, Options::new(2), &telling).must(&test, "the journal is not run");
     check_failed(&test, &ran.answers);
     check(&test, ran.handles == 0, "how many handles have stopped");

@@ -2,7 +2,7 @@
 ghost use Rattle.std.specs.Prelude.{◌≡◌};
 ghost use Rattle.jb_board.specs.History.{history_id};
 
-use jb_board::{Appender, History, Opened, OwnEntries, Place};
+use jb_board::{Appender, History, NewHistory, OwnEntries, Place};
 use std::alloc::Global;
 use std::marker::Brand;
 use std::sync::{Mutex, Wait};
@@ -35,7 +35,7 @@ impl<L: Place> Put<L> {
 fn both_put<R: Threads + Wait + Sync, L: Place + Send + Sync>(
     rt: &R,
     alloc: Global,
-    opened: Opened<u64>,
+    opened: NewHistory<u64>,
 ) -> usize
     requires { history_id opened ≡ L.history }
 {
@@ -79,7 +79,7 @@ fn put_all<R: Wait, L: Place>(
 
 #[test]
 fn two_threads_put_into_one_history(rt: HostRuntime) {
-    let opened = Opened::new(rt.alloc()).expect(&rt, "memory");
+    let opened = NewHistory::new(rt.alloc()).expect(&rt, "memory");
     let found = both_put::<HostRuntime, Brand>(&rt, rt.alloc(), opened);
     assert!(rt; found == 200, "{found} numbers of 200")
 }

@@ -1,54 +1,54 @@
 //! The commands, each with its words and options in the order of the help.
 
-use super::word::{Kind, Word};
+use super::word::{CommandWord, WordKind};
 use super::{CommandRow, texts};
 
 /// The file of a command over one image.
-const IMAGE: Word = Word {
+const IMAGE: CommandWord = CommandWord {
     name: "IMAGE",
-    kind: Kind::Word,
+    kind: WordKind::Word,
     help: "A journal and the home blocks after it, or an ext2, ext3 or ext4 file system, whose journal is found",
 };
 
 /// The file of a command over one queue text.
-const FILE: Word = Word {
+const FILE: CommandWord = CommandWord {
     name: "FILE",
-    kind: Kind::Word,
+    kind: WordKind::Word,
     help: "A queue text, or - for standard input",
 };
 
 /// The option for the file with the journal.
-const JOURNAL: Word = Word {
+const JOURNAL: CommandWord = CommandWord {
     name: "journal",
-    kind: Kind::Text("FILE"),
+    kind: WordKind::Text("FILE"),
     help: "The file with the journal; IMAGE has the home blocks alone then",
 };
 
 /// The option for where the journal is within the image.
-const EXTENTS: Word = Word {
+const EXTENTS: CommandWord = CommandWord {
     name: "extents",
-    kind: Kind::Text("LIST"),
+    kind: WordKind::Text("LIST"),
     help: "Where the journal stands within IMAGE, as debugfs lists its blocks; - or @FILE has it",
 };
 
 /// The same of `jb dump`, whose image is FILE.
-const DUMP_JOURNAL: Word = Word {
+const DUMP_JOURNAL: CommandWord = CommandWord {
     name: "journal",
-    kind: Kind::Text("JOURNAL"),
+    kind: WordKind::Text("JOURNAL"),
     help: "The file with the journal; FILE has the home blocks alone then",
 };
 
 /// The same.
-const DUMP_EXTENTS: Word = Word {
+const DUMP_EXTENTS: CommandWord = CommandWord {
     name: "extents",
-    kind: Kind::Text("LIST"),
+    kind: WordKind::Text("LIST"),
     help: "Where the journal stands within FILE, as debugfs lists its blocks; - or @FILE has it",
 };
 
 /// The option by which a journal with checksums is taken.
-const CHECKSUMS: Word = Word {
+const CHECKSUMS: CommandWord = CommandWord {
     name: "checksums",
-    kind: Kind::Flag,
+    kind: WordKind::Flag,
     help: "Takes a journal with checksums, too, and judges it by them",
 };
 
@@ -77,14 +77,14 @@ pub(super) static CHECK: CommandRow = CommandRow {
     about: "Checks a certificate of the queue, whoever made it",
     more: texts::CHECK,
     words: &[
-        Word {
+        CommandWord {
             name: "FILE",
-            kind: Kind::Word,
+            kind: WordKind::Word,
             help: "A queue text",
         },
-        Word {
+        CommandWord {
             name: "CERT",
-            kind: Kind::Word,
+            kind: WordKind::Word,
             help: "A certificate, as jb plan prints it",
         },
     ],
@@ -96,37 +96,37 @@ pub(super) static DUMP: CommandRow = CommandRow {
     about: "Prints the committed transactions of a journal, block by block",
     more: texts::DUMP,
     words: &[
-        Word {
+        CommandWord {
             name: "FILE",
-            kind: Kind::Word,
+            kind: WordKind::Word,
             help: "A journal, or an ext2, ext3 or ext4 file system, whose journal is found; - for standard input",
         },
-        Word {
+        CommandWord {
             name: "home",
-            kind: Kind::Number,
+            kind: WordKind::Number,
             help: "Only the lines that speak of home block N",
         },
-        Word {
+        CommandWord {
             name: "last",
-            kind: Kind::Number,
+            kind: WordKind::Number,
             help: "Of the transactions only the last N",
         },
-        Word {
+        CommandWord {
             name: "super",
-            kind: Kind::Flag,
+            kind: WordKind::Flag,
             help: "Every field of the superblock alone, also of one that is refused",
         },
-        Word {
+        CommandWord {
             name: "summary",
-            kind: Kind::Flag,
+            kind: WordKind::Flag,
             help: "The journal at a glance, in place of its lines",
         },
         DUMP_JOURNAL,
         DUMP_EXTENTS,
         CHECKSUMS,
-        Word {
+        CommandWord {
             name: "ring",
-            kind: Kind::Flag,
+            kind: WordKind::Flag,
             help: "Searches the rest of the log for a lost transaction; for --checksums alone",
         },
     ],
@@ -139,19 +139,19 @@ pub(super) static CAT: CommandRow = CommandRow {
     more: texts::CAT,
     words: &[
         IMAGE,
-        Word {
+        CommandWord {
             name: "HOME",
-            kind: Kind::NumberWord,
+            kind: WordKind::NumberWord,
             help: "The number of the first home block",
         },
-        Word {
+        CommandWord {
             name: "n",
-            kind: Kind::Count,
+            kind: WordKind::Count,
             help: "How many home blocks",
         },
-        Word {
+        CommandWord {
             name: "hex",
-            kind: Kind::Flag,
+            kind: WordKind::Flag,
             help: "Writes lines of hexadecimal digits, as xxd does",
         },
         JOURNAL,
@@ -166,39 +166,39 @@ pub(super) static FORMAT: CommandRow = CommandRow {
     about: "Makes an image: a new journal, and home blocks of zeros after it",
     more: texts::FORMAT,
     words: &[
-        Word {
+        CommandWord {
             name: "IMAGE",
-            kind: Kind::Word,
+            kind: WordKind::Word,
             help: "The file to make; an existing file is not overwritten",
         },
-        Word {
+        CommandWord {
             name: "bs",
-            kind: Kind::RequiredNumber,
+            kind: WordKind::RequiredNumber,
             help: "Bytes of a block: 1024, 2048 or 4096",
         },
-        Word {
+        CommandWord {
             name: "journal",
-            kind: Kind::RequiredNumber,
+            kind: WordKind::RequiredNumber,
             help: "Blocks of the journal, its superblock counted",
         },
-        Word {
+        CommandWord {
             name: "homes",
-            kind: Kind::RequiredNumber,
+            kind: WordKind::RequiredNumber,
             help: "Home blocks after the journal",
         },
-        Word {
+        CommandWord {
             name: "max",
-            kind: Kind::NumberOr("N", "0"),
+            kind: WordKind::NumberOr("N", "0"),
             help: "The most log blocks of a transaction; 0 for a quarter of the log",
         },
-        Word {
+        CommandWord {
             name: "uuid",
-            kind: Kind::TextOr("HEX", NO_UUID),
+            kind: WordKind::TextOr("HEX", NO_UUID),
             help: "The journal's UUID, as 32 hexadecimal digits",
         },
-        Word {
+        CommandWord {
             name: "wide",
-            kind: Kind::Flag,
+            kind: WordKind::Flag,
             help: "Block numbers of 64 bits",
         },
     ],
@@ -211,31 +211,31 @@ pub(super) static LOAD: CommandRow = CommandRow {
     more: texts::LOAD,
     words: &[
         IMAGE,
-        Word {
+        CommandWord {
             name: "FILE",
-            kind: Kind::Word,
+            kind: WordKind::Word,
             help: "A queue text of the image's block size",
         },
         JOURNAL,
         EXTENTS,
-        Word {
+        CommandWord {
             name: "threads",
-            kind: Kind::NumberOr("N", "1"),
+            kind: WordKind::NumberOr("N", "1"),
             help: "How many threads run the handles, 1 to 64",
         },
-        Word {
+        CommandWord {
             name: "hold",
-            kind: Kind::Flag,
+            kind: WordKind::Flag,
             help: "Commits once all handles have run, as one batch",
         },
-        Word {
+        CommandWord {
             name: "stamp",
-            kind: Kind::NumberOr("SEC", "0"),
+            kind: WordKind::NumberOr("SEC", "0"),
             help: "The time of the commit blocks, in seconds since 1970",
         },
-        Word {
+        CommandWord {
             name: "checkpoint",
-            kind: Kind::Flag,
+            kind: WordKind::Flag,
             help: "Writes home what is committed, too",
         },
     ],
@@ -250,19 +250,19 @@ pub(super) static RECOVER: CommandRow = CommandRow {
         IMAGE,
         EXTENTS,
         JOURNAL,
-        Word {
+        CommandWord {
             name: "force",
-            kind: Kind::Flag,
+            kind: WordKind::Flag,
             help: "Recovers though the journal seems not its file system's own, or mounts are unknown",
         },
-        Word {
+        CommandWord {
             name: "dry-run",
-            kind: Kind::Flag,
+            kind: WordKind::Flag,
             help: "Says what would be done, and writes nothing",
         },
-        Word {
+        CommandWord {
             name: "list",
-            kind: Kind::Flag,
+            kind: WordKind::Flag,
             help: "With --dry-run: lists the home blocks that would be written",
         },
         CHECKSUMS,

@@ -8,18 +8,18 @@ use std::alloc::Global;
 
 /// A word or an option that a command takes.
 #[derive(Clone, Copy)]
-pub(crate) struct Word<'a> {
+pub(crate) struct CommandWord<'a> {
     /// Its name, which most options have after two hyphens.
     pub(crate) name: &'a str,
     /// What it is.
-    pub(crate) kind: Kind<'a>,
+    pub(crate) kind: WordKind<'a>,
     /// What the help says of it.
     pub(crate) help: &'a str,
 }
 
 /// What a word or an option is. A number is below 2^64.
 #[derive(Clone, Copy)]
-pub(crate) enum Kind<'a> {
+pub(crate) enum WordKind<'a> {
     /// A word that has to be there.
     Word,
     /// A number that has to be there.
@@ -41,24 +41,24 @@ pub(crate) enum Kind<'a> {
 }
 
 /// The argument of clap for a word.
-pub(crate) fn arg_of<'a>(alloc: Global, word: &Word<'a>) -> Arg<'a>
+pub(crate) fn arg_of<'a>(alloc: Global, word: &CommandWord<'a>) -> Arg<'a>
     ensures rule { rule_of result ≡ rule_of_word word.now }
     ensures own { result.global ≡ false }
 {
     let name = word.name;
     let arg = Arg::new(alloc, name).help(word.help);
     match word.kind {
-        Kind::Word => arg.required(true),
-        Kind::NumberWord => number(arg.required(true)),
-        Kind::Text(value) => arg.long(name).value_name(value),
-        Kind::TextOr(value, text) => arg.long(name).value_name(value).default_value(text),
-        Kind::Number => number(arg.long(name).value_name("N")),
-        Kind::RequiredNumber => number(arg.long(name).value_name("N").required(true)),
-        Kind::NumberOr(value, text) => {
+        WordKind::Word => arg.required(true),
+        WordKind::NumberWord => number(arg.required(true)),
+        WordKind::Text(value) => arg.long(name).value_name(value),
+        WordKind::TextOr(value, text) => arg.long(name).value_name(value).default_value(text),
+        WordKind::Number => number(arg.long(name).value_name("N")),
+        WordKind::RequiredNumber => number(arg.long(name).value_name("N").required(true)),
+        WordKind::NumberOr(value, text) => {
             number(arg.long(name).value_name(value).default_value(text))
         }
-        Kind::Count => number(arg.short('n').value_name("N").default_value("1")),
-        Kind::Flag => arg.long(name).action(ArgAction::SetTrue),
+        WordKind::Count => number(arg.short('n').value_name("N").default_value("1")),
+        WordKind::Flag => arg.long(name).action(ArgAction::SetTrue),
     }
 }
 

@@ -3,7 +3,7 @@ ghost use Rattle.std.specs.Prelude.{◌≡◌, ◌∷◌, [], List, ℕ, None, O
 ghost use Rattle.jb_text.specs.Puts.{PutsPart};
 ghost use Rattle.jb_commands.specs.FaultLines.{parts_of, named};
 ghost use Rattle.jb_commands.specs.Faults.{extents_line, line_of, sum_words, super_line, system_line};
-ghost use Rattle.jb_commands.specs.Lines.{Names, line_naming, names_said};
+ghost use Rattle.jb_commands.specs.Lines.{PairNames, line_naming, names_said};
 
 use crate::fault::CommandFault;
 use crate::names::{TwoFiles, image_of, journal_of};
@@ -43,7 +43,7 @@ impl<'a> CommandFault<'a> {
 
 /// The words of a fault's line, and its numbers.
 fn words_of(fault: CommandFault<'_>) -> (&'static str, Numbers)
-    ensures { (names : Option Names) → line_of names fault.entry
+    ensures { (names : Option PairNames) → line_of names fault.entry
         ≡ line_naming (parts_of result.0.now result.1) (named names fault.entry) }
 {
     match fault {

@@ -6,7 +6,7 @@ ghost use Rattle.jb_desk.specs.Seats.{view_of};
 use crate::committer::{Committer, Round, RoundFault};
 use crate::desk::Desk;
 use crate::held_batch::HeldBatch;
-use crate::queue_state::Out;
+use crate::queue_state::OutstandingBatch;
 use crate::seat::Seat;
 use jb_board::{Prefix, Tickets};
 use jb_book::{Origin, Sights, end_of};
@@ -108,7 +108,7 @@ impl<D: Disk, C: Clock, H: Origin, N: Ledger> Desk<D, C, H, N> {
         rt: &R,
         committer: &mut Committer<H, N>,
         prepared: Prepared,
-        held: (Tickets<H>, Prefix<Words, H>, Out),
+        held: (Tickets<H>, Prefix<Words, H>, OutstandingBatch),
     ) -> Result<Round, RoundFault>
         requires desk { desk_of (seat_of committer.old) ≡ desk_id self.now }
         requires free { held_by committer.old ≡ None }
@@ -170,7 +170,7 @@ impl<D: Disk, C: Clock, H: Origin, N: Ledger> Desk<D, C, H, N> {
         seat: &mut Seat<H, N>,
         seen: &mut Sights<D, H>,
         done: &Done,
-        out: Out,
+        out: OutstandingBatch,
     ) -> Result<(), RoundFault>
         requires desk { desk_of seat.old ≡ desk_id self.now }
         requires settling { IsSettling seen.old.stops out.counts.taken out.shape done.now }
@@ -209,7 +209,7 @@ impl<D: Disk, C: Clock, H: Origin, N: Ledger> Desk<D, C, H, N> {
         seat: &mut Seat<H, N>,
         seen: &mut Sights<D, H>,
         done: &Done,
-        out: Out,
+        out: OutstandingBatch,
     ) -> RoundFault
         requires desk { desk_of seat.old ≡ desk_id self.now }
         requires settling { IsSettling seen.old.stops out.counts.taken out.shape done.now }

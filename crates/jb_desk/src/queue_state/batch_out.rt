@@ -10,12 +10,12 @@ use std::sync::ledger::Ledger;
 /// A batch is out: the tickets that were taken from a book and not settled when it was looked at, for a journal of this
 /// shape. It must be used up, under the book's lock: the batch is settled or given up, or the book has failed.
 #[must_use]
-pub(crate) struct Out {
+pub(crate) struct OutstandingBatch {
     counts: BookCounts,
     shape: Shape,
 }
 
-impl Out {
+impl OutstandingBatch {
     /// How far the book had come when the batch was taken.
     pub fn counts(&self) -> &BookCounts
         ensures { result.now ≡ self.now.counts }
@@ -32,19 +32,19 @@ impl Out {
     pub(super) fn end(self) -> (u64, Shape)
         ensures { (result.0 ≡ self.counts.taken) × (result.1 ≡ self.shape) }
     {
-        let Out { counts, shape } = self;
+        let OutstandingBatch { counts, shape } = self;
         (counts.taken(), shape)
     }
 }
 
 impl<D: Disk, H: Origin, N: Ledger> QueueState<D, H, N> {
     /// That the tickets are out which are taken and not settled.
-    pub(super) fn out(&self) -> Out
+    pub(super) fn out(&self) -> OutstandingBatch
         ensures tickets { (result.counts.settled ≡ self.now.register.book.shadow.settled)
             × (result.counts.taken ≡ self.now.register.book.shadow.taken) }
         ensures shape { result.shape ≡ self.now.register.book.shape }
     {
-        Out {
+        OutstandingBatch {
             counts: self.seen(),
             shape: self.register.book().shape(),
         }

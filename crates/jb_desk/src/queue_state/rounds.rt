@@ -4,7 +4,7 @@ ghost use Rattle.std.specs.Prelude.{OnOk, IfErr, IfOk, IfSome, IfNone};
 
 use crate::committer::RoundFault;
 use crate::held_batch::HeldBatch;
-use crate::queue_state::{HasAborted, Out, QueueState};
+use crate::queue_state::{HasAborted, OutstandingBatch, QueueState};
 use jb_board::History;
 use jb_book::{Histories, Origin, Sights, WrongBatch};
 use jb_deck::Done;
@@ -76,7 +76,7 @@ impl<D: Disk, H: Origin, N: Ledger> QueueState<D, H, N> {
         histories: &Histories<D, H>,
         seen: &mut Sights<D, H>,
         done: &Done,
-        out: Out,
+        out: OutstandingBatch,
     ) -> Result<(), WrongBatch>
         requires settling { IsSettling seen.old.stops out.counts.taken out.shape done.now }
         requires first { first_ticket done.now ≡ out.counts.settled }
@@ -101,7 +101,7 @@ impl<D: Disk, H: Origin, N: Ledger> QueueState<D, H, N> {
         histories: &Histories<D, H>,
         seen: &mut Sights<D, H>,
         done: &Done,
-        out: Out,
+        out: OutstandingBatch,
     ) -> Result<(), WrongBatch>
         requires settling { IsSettling seen.old.stops out.counts.taken out.shape done.now }
         requires first { first_ticket done.now ≡ out.counts.settled }

@@ -2,8 +2,8 @@ use Rattle.std.proofs.Common.{rules, ◌≡◌, true, false, [], ◌∷◌, ◌+
 use Rattle.std.proofs.lemmas.List.Elements.{All-push}
 use Rattle.std.proofs.lemmas.Iterator.Consumers.{YieldsList-end, YieldsList-turn}
 use Rattle.std.proofs.lemmas.Iterator.Adapters.{YieldsList-from_vec}
-use Rattle.jb_core.specs.Lives.{Log, IsKnown}
-use Rattle.jb_core.specs.MachineRuns.{Ran}
+use Rattle.jb_core.specs.Lives.{EventLog, IsKnown}
+use Rattle.jb_core.specs.MachineRuns.{RanFromStart}
 use Rattle.jb_core.proofs.WholeLives.{log-more, whole}
 use Rattle.jb_core.proofs.running.run.Goals as goal
 
@@ -15,7 +15,7 @@ loop-event-preserved c =
     record {
       same = omega (arith, events, answers, c.loop-event.invariant.same);
       known = rw items (All-push IsKnown c.loop-event.answers.items c.step-answer.result c.loop-event.invariant.known (λ is. let same : c.eq.result ≡ true = rw is at c.eq.ensures in let lacks : c.eq.result ≡ false = c.if-eq.false in let h : ⊥ = cc in h));
-      ran = rw items (subst (λ (log : Log). Ran c.args.shape log c.step-answer.new.state) (sym (log-more [] c.loop-event.yielded c.loop-event.answers.items c.in-Some.event c.step-answer.result c.loop-event.invariant.same))
+      ran = rw items (subst (λ (log : EventLog). RanFromStart c.args.shape log c.step-answer.new.state) (sym (log-more [] c.loop-event.yielded c.loop-event.answers.items c.in-Some.event c.step-answer.result c.loop-event.invariant.same))
           (c.loop-event.state, c.loop-event.invariant.ran, c.step-answer.ensures));
     }
 

@@ -2,7 +2,7 @@ use Rattle.std.proofs.Common.{ap, rules, subst, ◌∙◌}
 use Rattle.std.specs.Fn.{FnOnceReturnsAtMut}
 use Rattle.jb_desk.specs.Seats.{made_by}
 use Rattle.jb_handle.specs.Handle.{changes_of}
-use Rattle.jb_journal.specs.Change.{Stops}
+use Rattle.jb_journal.specs.Change.{StopsWith}
 use Rattle.jb_journal.proofs.ChangeAnswers.{stopped-as}
 use Rattle.jb_journal.proofs.change.change_at.Goals as goal
 
@@ -19,7 +19,7 @@ returns-in-Ok-answer-clause-changed g c =
       gave = subst (λ r. FnOnceReturnsAtMut g.F.FnOnce c.args.change c.with_seat-seat.result.1 r c.call-answer.new.handle) c.in-Ok-answer.is c.call-answer.ensures;
     }
     ) words old (made_by c.stop.result.0.seat) (ap (λ h. h.words) c.with_seat-handle.ensures.changes) c.stop.result.1
-    (subst (λ before. Stops c.in-Ok-answer.answer words before (made_by c.stop.result.0.seat) c.stop.result.1) same c.stop.ensures.answer)
+    (subst (λ before. StopsWith c.in-Ok-answer.answer words before (made_by c.stop.result.0.seat) c.stop.result.1) same c.stop.ensures.answer)
 
 pub returns-in-Err-answer-clause-changed : goal.returns-in-Err-answer-clause-changed
 returns-in-Err-answer-clause-changed g c = (

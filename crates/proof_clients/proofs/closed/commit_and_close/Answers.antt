@@ -1,5 +1,5 @@
 use Rattle.std.proofs.Common.{◌≡◌, ◌+◌, List, [], ◌∷◌, ◌++◌, map, subst, arith, add-zero, append-nil}
-use Rattle.jb_deck.specs.Changes.{Change, settled_in, settles}
+use Rattle.jb_deck.specs.Changes.{DeckChange, settled_in, settles}
 use Rattle.jb_deck.specs.GroupsOfBatch.{groups_in}
 use Rattle.jb_deck.proofs.HomeChanges.{settled-map}
 use Rattle.proof_clients.specs.Programs.{commits}
@@ -34,7 +34,7 @@ returns-in-Ok-commit-clause-all g c = λ held.
     let honest = subst g.D.Disk.honest c.close.ensures.value held in
     let is = so.is honest in
     let p = c.args.batch in
-    let hs : List Change = map settles p.batch.handles in
+    let hs : List DeckChange = map settles p.batch.handles in
     let all : settled_in ((hs ++ []) ++ []) ≡ p.batch.handles = rw (append-nil (hs ++ []), append-nil hs) (settled-map p.batch.handles) in
     let many : is.opens.sb.sequence + 1 + (groups_in p.groups + 0 + 0) ≡ is.opens.sb.sequence + 1 + groups_in p.groups = omega arith in
     let left = closed-left so c.close.ensures.value c.close.ensures.left held in

@@ -1,6 +1,6 @@
 use Rattle.std.proofs.Common.{◌≡◌, ◌⊎◌, length, ap, ◌∙◌, inl, inr, ⊎_elim}
 use Rattle.jb_block.specs.Size.{bytes_of}
-use Rattle.jb_disk.specs.History.{History, newest_of, replay}
+use Rattle.jb_disk.specs.History.{DiskHistory, newest_of, replay}
 use Rattle.jb_disk.specs.Lives.{left_since_now}
 use Rattle.jb_format.proofs.CallEntry.{entry-as}
 use Rattle.jb_recover.specs.Outcomes.{RecoversAs, recovered}
@@ -35,8 +35,8 @@ returns-clause-lives c = λ rest own last_number before done entry.
     let sound_last = rw c.into_inner-last.ensures at c.always_sound.ensures.sound in
     let leaves = c.run-last.ensures.leaves sound_last in
     let allowed = rw c.into_inner-last.ensures at c.in_ok-crashed.ensures.allowed in
-    let same_size : bytes_of crashed.size ≡ size = ap bytes_of (c.in_ok-crashed.ensures.size ∙ ap (λ (h : History). h.size) c.into_inner-last.ensures) ∙ kept.same_size in
-    let same_count : crashed.count ≡ count = c.in_ok-crashed.ensures.count ∙ ap (λ (h : History). h.count) c.into_inner-last.ensures ∙ kept.same_count in
+    let same_size : bytes_of crashed.size ≡ size = ap bytes_of (c.in_ok-crashed.ensures.size ∙ ap (λ (h : DiskHistory). h.size) c.into_inner-last.ensures) ∙ kept.same_size in
+    let same_count : crashed.count ≡ count = c.in_ok-crashed.ensures.count ∙ ap (λ (h : DiskHistory). h.count) c.into_inner-last.ensures ∙ kept.same_count in
     let image : newest_of crashed ≡ crashed.first = ap (replay crashed.first) c.in_ok-crashed.ensures.fresh.0 in
     let is_cut = c.of-2.ensures.disk in
     let cut = c.of-2.result.disk in
@@ -46,12 +46,12 @@ returns-clause-lives c = λ rest own last_number before done entry.
     let leaves_cut = c.recover_in_part.ensures.leaves sound_part (rw (is_cut, c.in_ok-crashed.ensures.fresh.0) (λ image still. still)) in
     let allowed_cut = rw c.into_inner-cut.ensures at c.in_ok-disk.ensures.allowed in
     let recovers = leaves_cut.each again.first (left_since_now part.first part.steps (length cut.steps) again.first leaves_cut.later allowed_cut) in
-    let cut_size : bytes_of cut.size ≡ size = ap (λ (h : History). bytes_of h.size) is_cut ∙ same_size in
-    let cut_count : cut.count ≡ count = ap (λ (h : History). h.count) is_cut ∙ same_count in
+    let cut_size : bytes_of cut.size ≡ size = ap (λ (h : DiskHistory). bytes_of h.size) is_cut ∙ same_size in
+    let cut_count : cut.count ≡ count = ap (λ (h : DiskHistory). h.count) is_cut ∙ same_count in
     let cut_image : newest_of cut ≡ crashed.first = ap newest_of is_cut ∙ image in
     let as_before : RecoversAs size count crashed.first again.first = entry-as (λ s n b. RecoversAs s n b again.first) size count (bytes_of cut.size) cut.count crashed.first (newest_of cut) cut_size cut_count cut_image recovers in
-    let again_size : bytes_of again.size ≡ size = ap bytes_of (c.in_ok-disk.ensures.size ∙ ap (λ (h : History). h.size) c.into_inner-cut.ensures) ∙ kept_cut.same_size ∙ cut_size in
-    let again_count : again.count ≡ count = c.in_ok-disk.ensures.count ∙ ap (λ (h : History). h.count) c.into_inner-cut.ensures ∙ kept_cut.same_count ∙ cut_count in
+    let again_size : bytes_of again.size ≡ size = ap bytes_of (c.in_ok-disk.ensures.size ∙ ap (λ (h : DiskHistory). h.size) c.into_inner-cut.ensures) ∙ kept_cut.same_size ∙ cut_size in
+    let again_count : again.count ≡ count = c.in_ok-disk.ensures.count ∙ ap (λ (h : DiskHistory). h.count) c.into_inner-cut.ensures ∙ kept_cut.same_count ∙ cut_count in
     let again_image : newest_of again ≡ again.first = ap (replay again.first) c.in_ok-disk.ensures.fresh.0 in
     let ended : new ≡ recovered size count crashed.first = entry-as (λ s n b. new ≡ recovered s n b) size count (bytes_of again.size) again.count again.first (newest_of again) again_size again_count again_image ((c.in_ok-recover.ensures.recovers c.always_sound-3.ensures.sound).3) ∙ as_before.image in
     let more =

@@ -1,6 +1,6 @@
 use Rattle.std.proofs.Common.{◌≡◌, ◌+◌, List, [], ◌∷◌, ◌++◌, map, refl, ap, ap₂, ◌∙◌, arith, append-nil}
 use Rattle.jb_log.specs.declared.log.Log.{Log}
-use Rattle.jb_deck.specs.Changes.{Change, settled_in, settles}
+use Rattle.jb_deck.specs.Changes.{DeckChange, settled_in, settles}
 use Rattle.jb_deck.specs.GroupsOfBatch.{groups_in}
 use Rattle.jb_deck.specs.Since.{with_handles}
 use Rattle.jb_deck.specs.GroupByGroup.{handles_to}
@@ -77,7 +77,7 @@ returns-in-Ok-commit-3-clause-all g c = λ held.
     let second = c.args.second in
     let third = c.args.third in
     let now = c.checkpoint_one.new.self in
-    let made : List Change = all_changes (commits first ∷ commits second ∷ []) in
+    let made : List DeckChange = all_changes (commits first ∷ commits second ∷ []) in
     let hs = first.batch.handles ++ second.batch.handles in
     let settled : settled_in made ≡ hs =
     rw (settled-append (map settles first.batch.handles) (map settles second.batch.handles ++ []), settled-map first.batch.handles, append-nil (map settles second.batch.handles))

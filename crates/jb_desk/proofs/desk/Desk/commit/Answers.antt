@@ -27,7 +27,7 @@ use Rattle.jb_desk.specs.declared.committer.Round.{Round}
 use Rattle.jb_desk.specs.declared.committer.Round.TheVariants.{Committed}
 use Rattle.jb_desk.specs.declared.committer.RoundFault.{RoundFault}
 use Rattle.jb_desk.specs.declared.queue_state.aborted.HasAborted.{HasAborted}
-use Rattle.jb_desk.specs.declared.queue_state.batch_out.Out.{Out}
+use Rattle.jb_desk.specs.declared.queue_state.batch_out.OutstandingBatch.{OutstandingBatch}
 use Rattle.jb_desk.specs.declared.committer.RoundFault.TheVariants as round
 use Rattle.jb_desk.proofs.SettledBatch.{settles-whole, whole-past}
 use Rattle.jb_desk.proofs.RoundCounts.{keeps-same, settled-by}
@@ -36,7 +36,7 @@ use Rattle.jb_desk.proofs.desk.Desk.commit.Goals.{After-settled, After-settle_la
 use Rattle.jb_desk.proofs.desk.Desk.commit.Goals as goal
 
 -- a batch that is handed back as it was is out as it was
-out-on : {b : Begun} {batch back : Gathered} {given : ℕ} {prefix seen : List WordMap} {out : Out} → back ≡ batch → seen ≡ prefix → IsOut b batch given prefix out → IsOut b back given seen out
+out-on : {b : Begun} {batch back : Gathered} {given : ℕ} {prefix seen : List WordMap} {out : OutstandingBatch} → back ≡ batch → seen ≡ prefix → IsOut b batch given prefix out → IsOut b back given seen out
 out-on {b} {given = given} {out = out} same kept is = subst (λ (x : Gathered × List WordMap). IsOut b x.0 given x.1 out) (λ i. (sym same i, sym kept i)) is
 
 -- what is told of a commit is told of its fault

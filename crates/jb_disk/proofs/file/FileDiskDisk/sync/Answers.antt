@@ -2,7 +2,7 @@ use Rattle.std.proofs.Common.{[], refl, subst, sym}
 use Rattle.jb_block.specs.Size.{bytes_of}
 use Rattle.jb_disk.specs.Events.{Flushed}
 use Rattle.jb_disk.specs.File.{NotesCall, count_of, events_of, faults_of, size_of_blocks}
-use Rattle.jb_disk.specs.Image.{Same}
+use Rattle.jb_disk.specs.Image.{ChangesNothing}
 use Rattle.jb_disk.proofs.FileCalls.{goes_event, kept_event, synced_from}
 use Rattle.jb_disk.specs.Faults.{CountsOne}
 use Rattle.jb_disk.specs.OneCall.{Syncs}
@@ -11,7 +11,7 @@ use Rattle.jb_disk.proofs.file.FileDiskDisk.sync.Goals as goal
 pub returns-clause-goes : goal.returns-clause-goes
 returns-clause-goes g c = λ honest.
     let f = c.args.self.now in
-    goes_event (λ d. bytes_of (size_of_blocks d)) g.S.Start.content events_of Same f _
+    goes_event (λ d. bytes_of (size_of_blocks d)) g.S.Start.content events_of ChangesNothing f _
     (Flushed c.sync-succeeded.result) refl c.sync-succeeded.ensures
     (λ d left. synced_from (bytes_of f.size) f.blocks g.S.Start.content f.host.log.events c.sync-succeeded.new.self.log.events c.sync-succeeded.result d c.sync-succeeded.ensures honest left)
 

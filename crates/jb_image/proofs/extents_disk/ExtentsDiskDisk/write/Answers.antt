@@ -1,6 +1,6 @@
 use Rattle.std.proofs.Common.{◌≡◌, ◌<◌, Some, length, ◌∙◌, refl, sym, ap, subst, arith}
 use Rattle.std.proofs.lemmas.Result.{on_ok_weaker}
-use Rattle.jb_disk.specs.Image.{Image, Same, Torn}
+use Rattle.jb_disk.specs.Image.{Image, ChangesNothing, Torn}
 use Rattle.jb_disk.specs.Writes.{torn_same}
 use Rattle.jb_disk.proofs.CallSteps.{goes-none}
 use Rattle.jb_image.specs.Disks.{at_block}
@@ -58,6 +58,6 @@ returns-in-None-clause-goes g c honest =
     let G = g.D.Disk in
     let d = c.args.self.now in
     let d' : ExtentsDisk g.row.D.Denot = record { disk = d.disk; extents = d.extents; journal = d.journal; failed = c.fail.new.failed } in
-    goes-within d d' G (λ x. refl) Same (Torn c.args.place c.args.bytes.now)
+    goes-within d d' G (λ x. refl) ChangesNothing (Torn c.args.place c.args.bytes.now)
     (λ x x' same. subst (Torn c.args.place c.args.bytes.now (within G d x)) (sym (ap (within G d) same)) (torn_same (within G d x) c.args.place c.args.bytes.now))
     (goes-none G.may_leave G.moment G.left_since d.disk)

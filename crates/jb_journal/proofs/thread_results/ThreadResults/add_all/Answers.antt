@@ -7,13 +7,13 @@ use Rattle.jb_desk.proofs.SeatStops.{joined-more}
 use Rattle.jb_desk.specs.Seats.{made_left}
 use Rattle.jb_journal.specs.Gather.{answers_of}
 use Rattle.jb_journal.specs.Run.{HasAllSeen, stops_of_worked}
-use Rattle.jb_journal.specs.declared.threads.Worked.{Worked}
+use Rattle.jb_journal.specs.declared.threads.WorkerResult.{WorkerResult}
 use Rattle.jb_journal.proofs.ClientNotes.{sees-trans}
 use Rattle.jb_journal.proofs.thread_results.ThreadResults.add_all.Goals as goal
 
 pub loop-worked-preserved : goal.loop-worked-preserved
 loop-worked-preserved g c =
-    let W = Worked g.row.T.Denot g.row.D.Denot g.row.H.Denot g.row.N.Denot g.H.Origin g.H.Place in
+    let W = WorkerResult g.row.T.Denot g.row.D.Denot g.row.H.Denot g.row.N.Denot g.H.Origin g.H.Place in
     let w : W = c.in-Some.worked in
     let ws = c.loop-worked.yielded in
     let initial = joined (map (made_left {H = g.row.H.Denot} {N = g.row.N.Denot} {O = g.H.Origin} {P = g.H.Place}) c.args.self.now.lefts.items) in
@@ -34,7 +34,7 @@ loop-worked-preserved g c =
 
 pub returns : goal.returns
 returns g c =
-    let W = Worked g.row.T.Denot g.row.D.Denot g.row.H.Denot g.row.N.Denot g.H.Origin g.H.Place in
+    let W = WorkerResult g.row.T.Denot g.row.D.Denot g.row.H.Denot g.row.N.Denot g.H.Origin g.H.Place in
     let initial = joined (map (made_left {H = g.row.H.Denot} {N = g.row.N.Denot} {O = g.H.Origin} {P = g.H.Place}) c.args.self.now.lefts.items) in
     let end = YieldsList-end (YieldsList-from_vec {s = c.into_iter-worked-iterator.result} c.args.workers.items (search rules) (search rules)) c.loop-worked.yielded c.loop-worked.worked-iterator c.loop-worked.yielded_by c.next.result c.next.new.self c.in-None.is c.next.ensures.steps in
     let all = sym (map-id c.loop-worked.yielded) ∙ end.0 in

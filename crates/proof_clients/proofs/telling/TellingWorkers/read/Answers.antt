@@ -1,6 +1,6 @@
 use Rattle.std.proofs.Common.{rules}
 use Rattle.jb_journal.specs.Client.{client_known}
-use Rattle.proof_clients.proofs.telling.Telling.read.Goals as goal
+use Rattle.proof_clients.proofs.telling.TellingWorkers.read.Goals as goal
 
 pub returns-in-Ok-read : goal.returns-in-Ok-read
 returns-in-Ok-read g c = record {
