@@ -14,7 +14,7 @@ use Rattle.jb_book.specs.Origin.{Begun}
 use Rattle.jb_book.specs.Since.{Since}
 
 -- its homes stand on the disk alone
-pub are-home : {D : Type 0} (G : Ghosts D) (b : Begun) (given : List Stopped) (d : OpenDeck D) → Since G b given d → d.aborted ≡ false → d.groups ≡ [] → AreHome G b given d.disk
-are-home G b given d since up none home =
+pub are-home : {D : Type 0} (G : Ghosts D) (b : Begun) (given : List Stopped) (bounds : List ℕ) (d : OpenDeck D) → Since G b given bounds d → d.aborted ≡ false → d.groups ≡ [] → AreHome G b given d.disk
+are-home G b given bounds d since up none home =
     let stands = subst (λ (gs : List Group). StandsBy (word given home) (b.homes home) (standing d.log gs (G.newest d.disk) home)) none (since.stood up home) in
     subst (λ (n : ℕ). StandsBy (word given home) (b.homes home) (block (G.newest d.disk) (n + home))) (ap (λ (sb : Superblock). sb.maxlen) since.same) stands

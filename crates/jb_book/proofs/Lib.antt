@@ -4,6 +4,8 @@ pub mod BookMarks
 pub mod CallTies
 pub mod CallsLead
 pub mod CommitEntries
+pub mod CostedEntries
+pub mod GroupBounds
 pub mod HomesAtEnd
 pub mod LeastCut
 pub mod MachineLimits

@@ -4,6 +4,7 @@ use Rattle.std.proofs.lemmas.List.{length-append, take-append-le, get_or-append-
 use Rattle.std.proofs.Math.Seq.{take-append-add}
 use mathlib.Core.List.{append-nil, IsPrefix}
 use Rattle.std.proofs.lemmas.Option.{slice_get-get_or}
+use Rattle.jb_book.proofs.GroupBounds.{further, get-more, place-last}
 use Rattle.std.proofs.lemmas.List.Elements.{All-push, All-weaker}
 use Rattle.jb_cost.specs.Cut.{IsCut}
 use Rattle.jb_disk.specs.Image.{Image}
@@ -21,7 +22,7 @@ use Rattle.jb_plan.specs.Prepare.{Planned}
 use Rattle.jb_block.specs.declared.stamp.Stamp.{Stamp}
 use Rattle.jb_disk.specs.declared.disk.Disk.{Ghosts}
 use Rattle.jb_disk.specs.Time.{LeavesOnly}
-use Rattle.jb_board.proofs.EntryPlaces.{all-first, get_last}
+use Rattle.jb_board.proofs.EntryPlaces.{all-first, get_before, get_last}
 use Rattle.jb_deck.specs.CommitBatch.{AnswersBatch}
 use Rattle.jb_deck.specs.Deck.{OpenDeck}
 use Rattle.jb_deck.specs.Done.{Follow, entries_of, past_after, start_of}
@@ -41,29 +42,30 @@ module _ (b : Begun) where
   abbrev Recovered : ℕ → List Stopped → Image → Type 0
   Recovered next hs c = IsRecoveredTo b.own next b.size b.count b.homes hs c
 
-  -- with all that were given, and the first ones of those that come after them
-  pub first-more : (given more : List Stopped) (n least next : ℕ) (c : Image) → n ≤ length more → least ≤ length given + n → next ≤ b.own.sequence + 1 + (length given + n) → Recovered next (given ++ take n more) c → HasFirst b (given ++ more) least c
-  first-more given more n least next c within low few is = record {
+  -- with all that were given, and the first ones of those that come after them, which end between two groups
+  pub first-more : (given more : List Stopped) (bounds : List ℕ) (groups n least next : ℕ) (c : Image) → slice_get bounds groups ≡ Some (length given + n) → n ≤ length more → least ≤ length given + n → next ≡ b.own.sequence + 1 + groups → Recovered next (given ++ take n more) c
+      → HasFirst b (given ++ more) bounds least c
+  first-more given more bounds groups n least next c at within low few is = record {
+    groups = groups;
     many = length given + n;
+    between = at;
     from = low;
     to = let all = length-append given more in omega (arith, all, within);
-    next = next;
-    number = few;
-    recovered = subst (λ hs. Recovered next hs c) (sym (take-append-add given more n)) is;
+    recovered = subst (λ hs. Recovered (b.own.sequence + 1 + groups) hs c) (sym (take-append-add given more n)) (subst (λ k. Recovered k (given ++ take n more) c) few is);
   }
 
-  pub first-lower : (given : List Stopped) (low least : ℕ) (c : Image) → low ≤ least → HasFirst b given least c → HasFirst b given low c
-  first-lower given low least c less is = record { many = is.many; from = omega arith; to = is.to; next = is.next; number = is.number; recovered = is.recovered }
+  pub first-lower : (given : List Stopped) (bounds : List ℕ) (low least : ℕ) (c : Image) → low ≤ least → HasFirst b given bounds least c → HasFirst b given bounds low c
+  first-lower given bounds low least c less is = record { groups = is.groups; many = is.many; between = is.between; from = omega arith; to = is.to; recovered = is.recovered }
 
   -- a first part of the handles is one of these and further ones
-  pub first-longer : (given more : List Stopped) (least : ℕ) (c : Image) → HasFirst b given least c → HasFirst b (given ++ more) least c
-  first-longer given more least c is = record {
+  pub first-longer : (given more : List Stopped) (bounds others : List ℕ) (least : ℕ) (c : Image) → HasFirst b given bounds least c → HasFirst b (given ++ more) (bounds ++ others) least c
+  first-longer given more bounds others least c is = record {
+    groups = is.groups;
     many = is.many;
+    between = get_before bounds others is.groups is.many is.between;
     from = is.from;
     to = let all = length-append given more in omega (arith, all);
-    next = is.next;
-    number = is.number;
-    recovered = subst (λ hs. Recovered is.next hs c) (sym (take-append-le is.many given more is.to)) is.recovered;
+    recovered = subst (λ hs. Recovered (b.own.sequence + 1 + is.groups) hs c) (sym (take-append-le is.many given more is.to)) is.recovered;
   }
 
   -- ---- where the homes stand as the handles say, an image that follows with further ones
@@ -74,16 +76,23 @@ module _ (b : Begun) where
         let is = stood-recovered b.own own next n m b.homes given homes more c same stood f h in
         subst (λ k. IsRecoveredTo b.own next k b.count b.homes (given ++ more) c) sized (subst (λ k. IsRecoveredTo b.own next n k b.homes (given ++ more) c) counted is)
 
-    pub first-none : (least next : ℕ) (c : Image) → least ≤ length given → next ≤ b.own.sequence + 1 + length given → RecoversWith own next n m homes [] c → HasFirst b given least c
-    first-none least next c low few none =
-        subst (λ hs. HasFirst b hs least c) (append-nil given) (first-more given [] 0 least next c (omega arith) (omega (arith, low)) (omega (arith, few)) (recovered-more [] next c none.follows none.headers))
+    -- where all that were given are the first groups, so many
+    module _ (bounds : List ℕ) (groups : ℕ) (at : slice_get bounds groups ≡ Some (length given)) where
+      pub first-none : (least next : ℕ) (c : Image) → least ≤ length given → next ≡ b.own.sequence + 1 + groups → RecoversWith own next n m homes [] c → HasFirst b given bounds least c
+      first-none least next c low few none =
+          subst (λ hs. HasFirst b hs bounds least c) (append-nil given)
+          (first-more given [] bounds groups 0 least next c (at ∙ ap Some (let h : length given ≡ length given + 0 = omega arith in h)) (omega arith) (omega (arith, low)) few (recovered-more [] next c none.follows none.headers))
 
-    pub first-some : (hs : List Stopped) (bounds : List ℕ) (least most low next : ℕ) (c : Image) → next ≤ b.own.sequence + 1 + length given → IsCut (length hs) bounds → most ≤ groups_in bounds → low ≤ length given + slice_index bounds least → FollowsSome own next n m homes hs bounds least most c → HasFirst b (given ++ hs) low c
-    first-some hs bounds least most low next c few cut within below some =
-        let groups : some.groups ≤ groups_in bounds = omega (arith, within) in
-        let rise = cut-rise (length hs) bounds least some.groups cut some.from groups in
-        let high = cut-within (length hs) bounds some.groups cut groups in
-        first-more given hs (slice_index bounds some.groups) low (next + some.groups) c (omega (arith, high.1)) (omega (arith, below, rise)) (omega (arith, few, high.0)) (recovered-more (handles_to bounds some.groups hs) (next + some.groups) c some.recovers.follows some.recovers.headers)
+      pub first-some : (hs : List Stopped) (cuts : List ℕ) (least most low next : ℕ) (c : Image) → next ≡ b.own.sequence + 1 + groups → IsCut (length given) bounds → IsCut (length hs) cuts → most ≤ groups_in cuts → low ≤ length given + slice_index cuts least → FollowsSome own next n m homes hs cuts least most c
+          → HasFirst b (given ++ hs) (bounds ++ further (length given) cuts) low c
+      first-some hs cuts least most low next c few whole cut within below some =
+          let inside : some.groups ≤ groups_in cuts = omega (arith, within) in
+          let rise = cut-rise (length hs) cuts least some.groups cut some.from inside in
+          let high = cut-within (length hs) cuts some.groups cut inside in
+          let last = place-last (length given) bounds groups whole at in
+          let there = get-more (length given) (length hs) bounds cuts some.groups whole cut inside in
+          first-more given hs (bounds ++ further (length given) cuts) (groups_in bounds + some.groups) (slice_index cuts some.groups) low (next + some.groups) c there (omega (arith, high.1)) (omega (arith, below, rise)) (omega (arith, few, last))
+          (recovered-more (handles_to cuts some.groups hs) (next + some.groups) c some.recovers.follows some.recovers.headers)
 
 -- ---- entries of a list
 
@@ -137,7 +146,7 @@ OnlyNow {D = D} G = (disk : D) (c : Image) → G.honest disk → G.left_since di
 pub marked-now : {D : Type 0} (G : Ghosts D) → OnlyNow G → (b : Begun) (known : Stopped → Type 0) (ms : List (OpenDeck D)) (d : OpenDeck D) → Follow (start_of d.trail) 0 (past_after 0 d.trail) d.trail → IsMarkedOf G b known ms d → IsMarkedOf G b known (ms ++ d ∷ []) d
 marked-now G only_now b known ms d tiles is = record {
   since = is.since;
-  marks_last = All-push (Lasts G b is.since.given d) ms d is.marks_last (record {
+  marks_last = All-push (Lasts G b is.since.given is.since.bounds d) ms d is.marks_last (record {
     has = record { tiles = within-tiles d.trail tiles; settled = omega arith };
     same_shape = refl;
     was_honest = λ held. held;
@@ -148,22 +157,28 @@ marked-now G only_now b known ms d tiles is = record {
 
 -- ---- a call after which a crash leaves what it could leave before, or all that were settled before
 
-module _ {D : Type 0} (G : Ghosts D) (b : Begun) (given after : List Stopped) where
-  pub ever-on : (low : ℕ) (old new : OpenDeck D) → ((least : ℕ) (c : Image) → HasFirst b given least c → HasFirst b after least c) → Since G b given old
-      → LeavesOnly G.moment G.left_since old.disk new.disk (HasFirst b after low) → (c : Image) → G.left_since new.disk b.since c → b.left c ⊎ HasFirst b after 0 c
+module _ {D : Type 0} (G : Ghosts D) (b : Begun) (given after : List Stopped) (bounds bounds_after : List ℕ) where
+  abbrev Was : ℕ → Image → Type 0
+  Was least c = HasFirst b given bounds least c
+
+  abbrev Has : ℕ → Image → Type 0
+  Has least c = HasFirst b after bounds_after least c
+
+  pub ever-on : (low : ℕ) (old new : OpenDeck D) → ((least : ℕ) (c : Image) → Was least c → Has least c) → Since G b given bounds old
+      → LeavesOnly G.moment G.left_since old.disk new.disk (Has low) → (c : Image) → G.left_since new.disk b.since c → b.left c ⊎ Has 0 c
   ever-on low old new longer s leaves c left =
       ⊎_elim
-      (λ (was : G.left_since old.disk b.since c). ⊎_elim (λ (l : b.left c). inl l) (λ (f : HasFirst b given 0 c). inr (longer 0 c f)) (s.ever c was))
-      (λ (f : HasFirst b after low c). inr (first-lower b after 0 low c (omega arith) f))
+      (λ (was : G.left_since old.disk b.since c). ⊎_elim (λ (l : b.left c). inl l) (λ (f : Was 0 c). inr (longer 0 c f)) (s.ever c was))
+      (λ (f : Has low c). inr (first-lower b after bounds_after 0 low c (omega arith) f))
       (leaves.before b.since c s.later left)
 
   -- as many are settled then, and the marks that lasted do so still
   pub kept-all : (old new : OpenDeck D) → new.shape ≡ old.shape → (G.honest new.disk → G.honest old.disk) → past_after 0 old.trail ≤ past_after 0 new.trail
-      → ((least : ℕ) (c : Image) → HasFirst b given least c → HasFirst b after least c)
-      → (b.is_known → G.honest new.disk → LeavesOnly G.moment G.left_since old.disk new.disk (HasFirst b after (past_after 0 old.trail)))
-      → (ms : List (OpenDeck D)) → All (Lasts G b given old) ms → All (Lasts G b after new) ms
+      → ((least : ℕ) (c : Image) → Was least c → Has least c)
+      → (b.is_known → G.honest new.disk → LeavesOnly G.moment G.left_since old.disk new.disk (Has (past_after 0 old.trail)))
+      → (ms : List (OpenDeck D)) → All (Lasts G b given bounds old) ms → All (Lasts G b after bounds_after new) ms
   kept-all old new shape was_honest up longer leaves =
-      All-weaker (Lasts G b given old) (Lasts G b after new) (λ m l. record {
+      All-weaker (Lasts G b given bounds old) (Lasts G b after bounds_after new) (λ m l. record {
         has = record { tiles = l.has.tiles; settled = omega arith };
         same_shape = shape ∙ l.same_shape;
         was_honest = λ held. l.was_honest (was_honest held);
@@ -171,12 +186,12 @@ module _ {D : Type 0} (G : Ghosts D) (b : Begun) (given after : List Stopped) wh
         leaves = λ known_start held c left.
             ⊎_elim
             (λ (was : G.left_since old.disk (G.moment m.disk) c). longer (past_after 0 m.trail) c (l.leaves known_start (was_honest held) c was))
-            (λ (f : HasFirst b after (past_after 0 old.trail) c). first-lower b after (past_after 0 m.trail) (past_after 0 old.trail) c l.has.settled f)
+            (λ (f : Has (past_after 0 old.trail) c). first-lower b after bounds_after (past_after 0 m.trail) (past_after 0 old.trail) c l.has.settled f)
             ((leaves known_start held).before (G.moment m.disk) c (l.earlier known_start (was_honest held)) left);
       })
 
 -- ---- the first marks
 
 -- what was settled at the marks that were seen is settled in the journal
-pub settled-of : {D : Type 0} (G : Ghosts D) (b : Begun) (given : List Stopped) (d : OpenDeck D) (ms all : List (OpenDeck D)) → IsPrefix ms all → All (Lasts G b given d) all → All (HasSettledOf d) ms
-settled-of G b given d ms all p each = All-weaker (Lasts G b given d) (HasSettledOf d) (λ m l. l.has) ms (all-first (Lasts G b given d) ms all p each)
+pub settled-of : {D : Type 0} (G : Ghosts D) (b : Begun) (given : List Stopped) (bounds : List ℕ) (d : OpenDeck D) (ms all : List (OpenDeck D)) → IsPrefix ms all → All (Lasts G b given bounds d) all → All (HasSettledOf d) ms
+settled-of G b given bounds d ms all p each = All-weaker (Lasts G b given bounds d) (HasSettledOf d) (λ m l. l.has) ms (all-first (Lasts G b given bounds d) ms all p each)

@@ -1,5 +1,5 @@
 -- A journal that was just opened stands as it must, and what was asked of the disk of one that is closed.
-use Rattle.std.proofs.Common.{◌≡◌, ◌⊎◌, ℕ, ◌+◌, ◌<◌, ◌≤◌, List, [], length, Option, Some, None, Result, Ok, Err, IfOk, MatchResult, inl, ⊎_elim, refl, ap, sym, subst, ◌∙◌, arith}
+use Rattle.std.proofs.Common.{◌≡◌, ◌⊎◌, ℕ, ◌+◌, ◌<◌, ◌≤◌, List, [], ◌∷◌, length, Option, Some, None, Result, Ok, Err, IfOk, MatchResult, inl, ⊎_elim, refl, ap, sym, subst, ◌∙◌, arith}
 use Rattle.std.proofs.lemmas.List.Elements.{All-nil}
 use Rattle.jb_disk.specs.Image.{Image}
 use Rattle.jb_disk.specs.Faults.{most_faults}
@@ -68,11 +68,14 @@ module _ {D : Type 0} (G : Ghosts D) (disk : D) where
       let none : length deck.trail ≡ 0 = ap length new.trail in
       record {
         given = [];
+        bounds = 0 ∷ [];
         has = record {
           stopped = All-nil (λ (x : Stopped). b.stops x.words);
           tickets = tt;
           settled = omega (arith, past);
           all = λ up. sym past;
+          cut = (refl, refl);
+          groups = record { early = []; late = []; is = rw new.trail refl; all = λ up. refl };
           costs = rw new.trail (All-nil (IsCosted deck.shape []));
           first = deck.log.next;
           numbers = rw new.trail tt;
@@ -94,12 +97,14 @@ module _ {D : Type 0} (G : Ghosts D) (disk : D) where
               no_fewer = let stayed : G.faults deck.disk ≡ G.faults disk = kept.counted in omega (arith, stayed);
               up = λ few none. new.aborted;
               same = same;
+              groups = 0;
+              settled = ap Some (sym past);
               number = omega (arith, numbered);
               began = λ starts. omega (arith, none, numbered);
               stood = λ up home. stands held home ∙ begun.homes home;
               live = λ up. none-live deck.groups new.groups;
               now = λ c may.
-                  first-none b deck.log.sb same (G.size disk) (G.count disk) begun.same_size begun.same_count [] (recovered_home (G.size disk) (G.count disk) (G.newest disk)) begun.homes
+                  first-none b deck.log.sb same (G.size disk) (G.count disk) begun.same_size begun.same_count [] (recovered_home (G.size disk) (G.count disk) (G.newest disk)) begun.homes (0 ∷ []) 0 refl
                   (past_after 0 deck.trail) deck.log.next c (omega (arith, past)) (omega (arith, numbered)) ((now held).each c may);
               later = omega arith;
               ever = λ c was.

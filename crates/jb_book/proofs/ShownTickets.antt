@@ -158,7 +158,7 @@ pub stays : {D : Type 0} (G : Ghosts D) (b : Begun) → ShownStays G b
 stays G b stops handles shape disk trail known before marks ticket ends first shown known_start held =
     let s = shown-at before ticket shown in
     let m = s.mark in
-    let last = at-place (Lasts G b ends.ends.since.given ends.ends.deck) marks s.at m (placed_on before marks first (s.at, m) s.stands) ends.last in
+    let last = at-place (Lasts G b ends.ends.since.given ends.ends.since.bounds ends.ends.deck) marks s.at m (placed_on before marks first (s.at, m) s.stands) ends.last in
     let late = s.late last.has.tiles in
     let there = subst G.honest (sym ends.ends.same_disk) held in
     record {
@@ -168,10 +168,12 @@ stays G b stops handles shape disk trail known before marks ticket ends first sh
       earlier = subst (λ x. G.moment m.disk ≤ G.moment x) ends.ends.same_disk (last.earlier known_start there);
       log = ends.ends.log;
       stopped = ends.ends.stopped;
+      deck = ends.ends.deck;
+      same_trail = ends.ends.same_trail;
       given = ends.ends.since.given;
-      first = ends.ends.since.has.stopped;
-      tickets = ends.ends.since.has.tickets;
-      leaves = λ c left. first-lower b ends.ends.since.given (suc ticket) (past_after 0 m.trail) c (omega (arith, late)) (last.leaves known_start there c (subst (λ x. G.left_since x (G.moment m.disk) c) (sym ends.ends.same_disk) left));
+      bounds = ends.ends.since.bounds;
+      has = ends.ends.since.has;
+      leaves = λ c left. first-lower b ends.ends.since.given ends.ends.since.bounds (suc ticket) (past_after 0 m.trail) c (omega (arith, late)) (last.leaves known_start there c (subst (λ x. G.left_since x (G.moment m.disk) c) (sym ends.ends.same_disk) left));
     }
 
 -- ---- a read

@@ -1,17 +1,13 @@
 -- A journal since its desk was started: what a batch that is given to it keeps.
-use Rattle.std.proofs.Common.{◌≡◌, ℕ, ◌+◌, ◌≤◌, List, [], ◌∷◌, ◌++◌, All, length, take, sym, ap, ◌∙◌, arith, false, ◌<◌, slice_index, Result, Ok, Err, OnOk, refl, subst, slice_range, length-append, length-take-le, take_all}
-use Rattle.std.proofs.Math.Seq.{drop-append-add}
-use Rattle.std.proofs.lemmas.Grind.{common_steps}
-use Rattle.std.proofs.lemmas.List.Elements.{All-append, All-cons, All-nil, All-take, All-weaker}
-use Rattle.jb_plan.specs.Costs.{cost_in, geometry_of}
-use Rattle.jb_cost.specs.Cost.{cost}
-use Rattle.jb_cost.specs.Cut.{IsCut, RisesTo}
-use Rattle.jb_cost.proofs.Cuts.{rises-le}
+use Rattle.std.proofs.Common.{◌≡◌, ℕ, ◌+◌, ◌≤◌, List, Some, slice_get, ◌++◌, All, length, take, sym, ap, ◌∙◌, arith, false, ◌<◌, slice_index, Result, Ok, Err, OnOk, refl, subst, length-append, length-take-le, take_all}
+use Rattle.std.proofs.lemmas.List.Elements.{All-append}
+use Rattle.jb_plan.specs.Costs.{cost_in}
+use Rattle.jb_cost.specs.Cut.{IsCut}
 use Rattle.jb_handle.specs.declared.shape.Shape.{Shape}
 use Rattle.jb_handle.specs.declared.stopped.Stopped.{Stopped}
-use Rattle.jb_deck.specs.GroupsOfBatch.{entries_for, entries_from, groups_in}
+use Rattle.jb_deck.specs.GroupsOfBatch.{entries_for, groups_in}
 use Rattle.jb_deck.specs.declared.done.Entry.{Entry}
-use Rattle.jb_book.specs.Since.{IsCosted, NumberedFrom, HasFirst, Since, WasGiven}
+use Rattle.jb_book.specs.Since.{AreGroups, IsCosted, NumberedFrom, HasFirst, Since, WasGiven}
 use Rattle.jb_plan.specs.Prepare.{Planned, IsPlanned}
 use Rattle.jb_block.specs.declared.stamp.Stamp.{Stamp}
 use Rattle.jb_disk.specs.Image.{Image}
@@ -39,57 +35,23 @@ use Rattle.jb_deck.proofs.HomesStand.{call-stood}
 use Rattle.jb_book.specs.Journal.{EndsRound, RefusesRound}
 use Rattle.jb_book.specs.Origin.{Begun}
 use Rattle.jb_book.specs.SinceMark.{IsMarkedOf}
+use Rattle.jb_book.proofs.CostedEntries.{costed-more}
 use Rattle.jb_book.proofs.CommitEntries.{cut-last, cut-within, for-length, for-past, past-append}
+use Rattle.jb_book.proofs.GroupBounds.{cut-more, further, get-more, groups-more, place-last}
 use Rattle.jb_book.proofs.MarksLast.{ever-on, kept-all, first-longer, first-some}
 use Rattle.jb_book.proofs.SinceTakeTrail.{numbered-first, numbered-for, numbered-on, start-more}
 use Rattle.jb_book.proofs.SinceNoHandles.{more-counted, plain-is}
 use Rattle.jb_deck.specs.declared.batched.BatchFault.TheVariants as batch
-
--- ---- the entries of a trail have what their handles cost
-
-range-before : {A : Type 0} (xs ys : List A) (i j : ℕ) → i ≤ j → j ≤ length xs → slice_range (xs ++ ys) i j ≡ slice_range xs i j
-range-before xs ys i j up within = grind (arith, common_steps)
-
-range-after : {A : Type 0} (xs ys : List A) (i j : ℕ) → slice_range (xs ++ ys) (length xs + i) (length xs + j) ≡ slice_range ys i j
-range-after xs ys i j = grind (arith, common_steps, drop-append-add xs ys i)
-
-module _ (shape : Shape) (given hs : List Stopped) where
-  costed-before : (e : Entry) → IsCosted shape given e → IsCosted shape (given ++ hs) e
-  costed-before e is = record {
-    some = is.some;
-    within = (let both = length-append given hs in omega (arith, both));
-    blocks = is.blocks ∙ ap (cost (geometry_of shape)) (sym (range-before given hs e.first e.past (omega arith) is.within));
-  }
-
-  costed-from : (number a : ℕ) (bs : List ℕ) → RisesTo (length hs) a bs → All (IsCosted shape (given ++ hs)) (entries_from (cost_in shape hs) (length given) number a bs)
-  costed-from number a [] rises = All-nil (IsCosted shape (given ++ hs))
-  costed-from number a (b ∷ bs) rises =
-      All-cons (IsCosted shape (given ++ hs)) (record { first = length given + a; past = length given + b; number = number; blocks = cost_in shape hs a b })
-      (entries_from (cost_in shape hs) (length given) (number + 1) b bs)
-      (record {
-        some = (omega arith);
-        within = (let high = rises-le (length hs) b bs rises.1 in let both = length-append given hs in omega (arith, high, both));
-        blocks = ap (cost (geometry_of shape)) (sym (range-after given hs a b));
-      })
-      (costed-from (number + 1) b bs rises.1)
-
-  costed-for : (number : ℕ) (bounds : List ℕ) → IsCut (length hs) bounds → All (IsCosted shape (given ++ hs)) (entries_for (cost_in shape hs) (length given) number bounds)
-  costed-for number [] cut = absurd cut
-  costed-for number (a ∷ bs) cut = costed-from number a bs cut.1
-
-  -- the entries before, and the first ones of a batch
-  pub costed-more : (number k : ℕ) (bounds : List ℕ) (trail : List Entry) → IsCut (length hs) bounds → All (IsCosted shape given) trail
-      → All (IsCosted shape (given ++ hs)) (trail ++ take k (entries_for (cost_in shape hs) (length given) number bounds))
-  costed-more number k bounds trail cut all =
-      All-append (IsCosted shape (given ++ hs)) trail (take k (entries_for (cost_in shape hs) (length given) number bounds))
-      (All-weaker (IsCosted shape given) (IsCosted shape (given ++ hs)) costed-before trail all)
-      (All-take (IsCosted shape (given ++ hs)) k (entries_for (cost_in shape hs) (length given) number bounds) (costed-for number bounds cut))
 
 -- ---- A journal since its desk was started: what a batch that is given to it keeps
 
 module _ {D : Type 0} (G : Ghosts D) (b : Begun) (known : Stopped → Type 0) (p : Planned) (stamp : Stamp) (old new : OpenDeck D) (planned : IsPlanned p) (tickets : TicketsFrom p.batch.first p.batch.handles) (stopped : All known p.batch.handles) (kept : KeptOn G CountsAny old.disk new.disk) where
   abbrev hs : List Stopped
   hs = p.batch.handles
+
+  -- the bounds of the groups that a journal was given, and then of the batch's
+  abbrev pub bounds_to : List Stopped → List ℕ → List ℕ
+  bounds_to given bounds = bounds ++ further (length given) p.groups
 
   abbrev cut : IsCut (length hs) p.groups
   cut = planned.least.fitting.cut
@@ -137,7 +99,7 @@ module _ {D : Type 0} (G : Ghosts D) (b : Begun) (known : Stopped → Type 0) (p
         let all = for-length (cost_in p.batch.shape hs) p.batch.first old.log.next p.groups in
         ap length st.told ∙ length-take-le k (entries p.batch.first) (omega (arith, all))
 
-    module _ (given : List Stopped) (has : WasGiven known given old) where
+    module _ (given : List Stopped) (bounds : List ℕ) (has : WasGiven known given bounds old) where
       at : p.batch.first ≡ length given
       at = takes.ticket ∙ sym (has.all takes.up)
 
@@ -149,7 +111,7 @@ module _ {D : Type 0} (G : Ghosts D) (b : Begun) (known : Stopped → Type 0) (p
           ap (past_after 0) st.trail ∙ past-append 0 old.trail es ∙ ap (λ n. past_after n es) (sym (has.all takes.up)) ∙ ap (past_after (length given)) told
           ∙ for-past (cost_in p.batch.shape hs) (length hs) (length given) old.log.next k p.groups cut st.within
 
-      given-more : WasGiven known (given ++ hs) new
+      given-more : WasGiven known (given ++ hs) (bounds_to given bounds) new
       given-more =
           let all = length-append given hs in
           let last = cut-last (length hs) p.groups cut in
@@ -158,6 +120,9 @@ module _ {D : Type 0} (G : Ghosts D) (b : Begun) (known : Stopped → Type 0) (p
             tickets = tickets-append 0 given hs has.tickets (subst (λ n. TicketsFrom n hs) (let same = at in let h : p.batch.first ≡ 0 + length given = omega (arith, same) in h) tickets);
             settled = let ends = past in let few = cut-within (length hs) p.groups k cut st.within in omega (arith, ends, all, few.1);
             all = λ on. (let ends = past in let whole = ap (slice_index p.groups) (st.whole on) in omega (arith, ends, all, whole, last));
+            cut = subst (λ n. IsCut n (bounds_to given bounds)) (sym all) (cut-more (length given) (length hs) bounds p.groups has.cut cut);
+            groups = subst (λ es. AreGroups new.aborted es (bounds_to given bounds)) (sym st.trail)
+                (groups-more old.aborted new.aborted old.trail es bounds p.groups (cost_in p.batch.shape hs) (length given) (length hs) old.log.next k takes.up cut (has.all takes.up) told st.whole has.groups);
             costs = subst (λ (x : Shape × List Entry). All (IsCosted x.0 (given ++ hs)) x.1) (λ i. ((takes.shape ∙ sym st.shape) i, (ap (λ es. old.trail ++ es) (sym told) ∙ sym st.trail) i))
                 (costed-more p.batch.shape given hs old.log.next k p.groups old.trail cut (subst (λ (x : Shape). All (IsCosted x given) old.trail) (sym takes.shape) has.costs));
             first = has.first;
@@ -167,13 +132,18 @@ module _ {D : Type 0} (G : Ghosts D) (b : Begun) (known : Stopped → Type 0) (p
             next = let both = length-append old.trail es in let more = ap length st.trail in let size = long in omega (arith, both, more, size, has.next, st.next);
           }
 
-      module _ (s : Since G b given old) (leaves : LeavesOnly G.moment G.left_since old.disk new.disk (Left 0 (groups_in p.groups))) where
-        has-some : (least most low : ℕ) (x : Image) → most ≤ groups_in p.groups → low ≤ length given + slice_index p.groups least → Left least most x → HasFirst b (given ++ hs) low x
-        has-some least most low x = first-some b old.log.sb s.same (G.size old.disk) (G.count old.disk) s.same_size s.same_count given (deck_homes G.newest old) (s.stood takes.up) hs p.groups least most low old.log.next x s.number cut
+      module _ (s : Since G b given bounds old) (leaves : LeavesOnly G.moment G.left_since old.disk new.disk (Left 0 (groups_in p.groups))) where
+        -- all groups of before were settled
+        settled-all : slice_get bounds s.groups ≡ Some (length given)
+        settled-all = s.settled ∙ ap Some (sym (has.all takes.up))
 
-        first-leaves : LeavesOnly G.moment G.left_since old.disk new.disk (HasFirst b (given ++ hs) (past_after 0 old.trail))
+        has-some : (least most low : ℕ) (x : Image) → most ≤ groups_in p.groups → low ≤ length given + slice_index p.groups least → Left least most x → HasFirst b (given ++ hs) (bounds_to given bounds) low x
+        has-some least most low x =
+            first-some b old.log.sb s.same (G.size old.disk) (G.count old.disk) s.same_size s.same_count given (deck_homes G.newest old) (s.stood takes.up) bounds s.groups settled-all hs p.groups least most low old.log.next x s.number has.cut cut
+
+        first-leaves : LeavesOnly G.moment G.left_since old.disk new.disk (HasFirst b (given ++ hs) (bounds_to given bounds) (past_after 0 old.trail))
         first-leaves =
-            weaken G.moment G.left_since old.disk new.disk (Left 0 (groups_in p.groups)) (HasFirst b (given ++ hs) (past_after 0 old.trail))
+            weaken G.moment G.left_since old.disk new.disk (Left 0 (groups_in p.groups)) (HasFirst b (given ++ hs) (bounds_to given bounds) (past_after 0 old.trail))
             (λ x f. has-some 0 (groups_in p.groups) (past_after 0 old.trail) x (omega arith) (omega arith) f) leaves
 
         -- a trail that begins at the ticket 0 is whole
@@ -186,20 +156,23 @@ module _ {D : Type 0} (G : Ghosts D) (b : Begun) (known : Stopped → Type 0) (p
             omega (arith, both, more, before, size)
 
         since-more : (b.faults < 18446744073709551615 → G.faults new.disk ≡ b.faults → new.aborted ≡ false) → (new.aborted ≡ false → IsCall given (deck_homes G.newest old) hs (deck_homes G.newest new) × LiveOf (given ++ hs) new.groups)
-            → (most : ℕ) → most ≤ groups_in p.groups → ((x : Image) → G.may_leave new.disk x → Left k most x) → Since G b (given ++ hs) new
+            → (most : ℕ) → most ≤ groups_in p.groups → ((x : Image) → G.may_leave new.disk x → Left k most x) → Since G b (given ++ hs) (bounds_to given bounds) new
         since-more fails called most few now = record {
           same_size = kept.same_size ∙ s.same_size;
           same_count = kept.same_count ∙ s.same_count;
           no_fewer = omega arith;
           up = fails;
           same = same-then b.own old.log.sb new.log.sb s.same st.moved;
-          number = let all = length-append given hs in let few = cut-within (length hs) p.groups k cut st.within in omega (arith, all, few);
+          groups = s.groups + k;
+          settled = let last = place-last (length given) bounds s.groups has.cut settled-all in
+              ap (λ n. slice_get (bounds_to given bounds) (n + k)) last ∙ get-more (length given) (length hs) bounds p.groups k has.cut cut st.within ∙ ap Some (sym past);
+          number = let more = st.next in let before = s.number in omega (arith, more, before);
           began = began-more;
           stood = λ on. call-stood given hs b.homes (deck_homes G.newest old) (deck_homes G.newest new) (s.stood takes.up) (called on).0;
           live = λ on. (called on).1;
           now = λ x may. has-some k most (past_after 0 new.trail) x few (let ends = past in omega (arith, ends)) (now x may);
           later = omega (arith, leaves.later);
-          ever = ever-on G b given (given ++ hs) (past_after 0 old.trail) old new (first-longer b given hs) s first-leaves;
+          ever = ever-on G b given (given ++ hs) bounds (bounds_to given bounds) (past_after 0 old.trail) old new (first-longer b given hs bounds (further (length given) p.groups)) s first-leaves;
         }
 
     more-marked : (ms : List (OpenDeck D)) → HasCalled G old new → (b.faults ≤ G.faults old.disk → b.faults < 18446744073709551615 → G.faults new.disk ≡ b.faults → new.aborted ≡ false)
@@ -207,17 +180,19 @@ module _ {D : Type 0} (G : Ghosts D) (b : Begun) (known : Stopped → Type 0) (p
         → (most : ℕ) → most ≤ groups_in p.groups → (G.honest new.disk → (x : Image) → G.may_leave new.disk x → Left k most x) → Leaves → IsMarkedOf G b known ms old → IsMarkedOf G b known ms new
     more-marked ms call fails called most few now leaves is =
         let given = is.since.given in
+        let bounds = is.since.bounds in
         let has = is.since.has in
         let before = λ (known_start : b.is_known) (held : G.honest new.disk). is.since.since known_start (kept.was_honest held) in
-        let ends = past given has in
+        let ends = past given bounds has in
         record {
           since = record {
             given = given ++ hs;
-            has = given-more given has;
+            bounds = bounds_to given bounds;
+            has = given-more given bounds has;
             asked = asked-on G call is.since.asked;
-            since = λ known_start held. (let s = before known_start held in since-more given has s (leaves takes.up held) (fails s.no_fewer) (called held given (s.live takes.up)) most few (now held));
+            since = λ known_start held. (let s = before known_start held in since-more given bounds has s (leaves takes.up held) (fails s.no_fewer) (called held given (s.live takes.up)) most few (now held));
           };
-          marks_last = kept-all G b given (given ++ hs) old new st.shape kept.was_honest (omega (arith, ends)) (first-longer b given hs) (λ known_start held. first-leaves given has (before known_start held) (leaves takes.up held)) ms is.marks_last;
+          marks_last = kept-all G b given (given ++ hs) bounds (bounds_to given bounds) old new st.shape kept.was_honest (omega (arith, ends)) (first-longer b given hs bounds (further (length given) p.groups)) (λ known_start held. first-leaves given bounds has (before known_start held) (leaves takes.up held)) ms is.marks_last;
         }
 
   -- ---- whatever the commit answered

@@ -1,5 +1,5 @@
 -- A journal since its desk was started: with other things known of its handles, and what a call keeps by which it is given none, as a checkpoint and a read.
-use Rattle.std.proofs.Common.{◌≡◌, ℕ, zero, suc, Bool, true, false, ◌+◌, ◌<◌, ◌≤◌, List, [], ◌∷◌, length, take, All, Result, Ok, Err, OnOk, refl, ap, sym, subst, ◌∙◌, arith, append-nil}
+use Rattle.std.proofs.Common.{◌≡◌, ℕ, zero, suc, Bool, true, false, ◌+◌, ◌<◌, ◌≤◌, List, Some, [], ◌∷◌, ◌++◌, length, map, take, All, Result, Ok, Err, OnOk, refl, ap, sym, subst, ◌∙◌, arith, append-nil}
 use Rattle.std.proofs.lemmas.List.Elements.{All-weaker}
 use Rattle.jb_disk.specs.Faults.{MoreFaults, CountsAny}
 use Rattle.jb_disk.specs.Image.{Image}
@@ -60,12 +60,14 @@ more-counted start before after low more few same = omega (arith, low, few, same
 -- ---- what is known of the handles
 
 -- the same handles, of each of which this is known
-pub given-as : {D : Type 0} (known less : Stopped → Type 0) (given : List Stopped) (d : OpenDeck D) → All less given → WasGiven known given d → WasGiven less given d
-given-as known less given d stopped has = record {
+pub given-as : {D : Type 0} (known less : Stopped → Type 0) (given : List Stopped) (bounds : List ℕ) (d : OpenDeck D) → All less given → WasGiven known given bounds d → WasGiven less given bounds d
+given-as known less given bounds d stopped has = record {
   stopped = stopped;
   tickets = has.tickets;
   settled = has.settled;
   all = has.all;
+  cut = has.cut;
+  groups = has.groups;
   costs = has.costs;
   first = has.first;
   numbers = has.numbers;
@@ -74,7 +76,7 @@ given-as known less given d stopped has = record {
 
 -- the same journal, where less is known of each of the handles
 abbrev pub is-weaker : {D : Type 0} (G : Ghosts D) (b : Begun) (known less : Stopped → Type 0) → ((h : Stopped) → known h → less h) → (d : OpenDeck D) → IsSinceOf G b known d → IsSinceOf G b less d
-is-weaker G b known less weaker d is = record { given = is.given; has = given-as known less is.given d (All-weaker known less weaker is.given is.has.stopped) is.has; since = is.since; asked = is.asked }
+is-weaker G b known less weaker d is = record { given = is.given; bounds = is.bounds; has = given-as known less is.given is.bounds d (All-weaker known less weaker is.given is.has.stopped) is.has; since = is.since; asked = is.asked }
 
 -- where no more is known than that the handle stopped with words that a handle may stop with
 abbrev pub plain-is : {D : Type 0} (G : Ghosts D) (b : Begun) (known : Stopped → Type 0) → ((h : Stopped) → known h → b.stops h.words) → (d : OpenDeck D) → IsSinceOf G b known d → IsSince G b d
@@ -111,55 +113,66 @@ module _ {D : Type 0} (G : Ghosts D) (counts_now : CountsNow G) (b : Begun) (kno
   Stays = (given : List Stopped) → LiveOf given old.groups → new.aborted ≡ false → ((home : ℕ) → deck_homes G.newest new home ≡ deck_homes G.newest old home) × LiveOf given new.groups
 
   module _ (up : old.aborted ≡ false) (still : IsStill G old new) where
-    given-still : (given : List Stopped) → WasGiven known given old → WasGiven known given new
-    given-still given has = record {
+    given-still : (given : List Stopped) (bounds : List ℕ) → WasGiven known given bounds old → WasGiven known given bounds new
+    given-still given bounds has = record {
       stopped = has.stopped;
       tickets = has.tickets;
       settled = subst (λ es. past_after 0 es ≤ length given) (sym still.trail) has.settled;
       all = λ on. has.all up ∙ ap (past_after 0) (sym still.trail);
+      cut = has.cut;
+      groups = record {
+        early = has.groups.early;
+        late = has.groups.late;
+        is = subst (λ es. bounds ≡ (has.groups.early ++ start_of es ∷ map (λ (e : Entry). e.past) es) ++ has.groups.late) (sym still.trail) has.groups.is;
+        all = λ on. has.groups.all up;
+      };
       costs = subst (λ (x : Shape × List Entry). All (IsCosted x.0 given) x.1) (λ i. (sym still.shape i, sym still.trail i)) has.costs;
       first = has.first;
       numbers = subst (NumberedFrom has.first) (sym still.trail) has.numbers;
       next = ap (λ es. has.first + length es) still.trail ∙ has.next ∙ sym still.next;
     }
 
-    module _ (leaves : LeavesNone) (given : List Stopped) (settled : past_after 0 old.trail ≤ length given) (s : Since G b given old) (held : G.honest new.disk) where
+    module _ (leaves : LeavesNone) (given : List Stopped) (bounds : List ℕ) (has : WasGiven known given bounds old) (s : Since G b given bounds old) (held : G.honest new.disk) where
       -- each image that a crash leaves has all that were settled
-      first-still : LeavesOnly G.moment G.left_since old.disk new.disk (HasFirst b given (past_after 0 old.trail))
+      first-still : LeavesOnly G.moment G.left_since old.disk new.disk (HasFirst b given bounds (past_after 0 old.trail))
       first-still =
-          weaken G.moment G.left_since old.disk new.disk None (HasFirst b given (past_after 0 old.trail))
-          (λ c f. first-none b old.log.sb s.same (G.size old.disk) (G.count old.disk) s.same_size s.same_count given (deck_homes G.newest old) (s.stood up) (past_after 0 old.trail) old.log.next c settled s.number f)
+          weaken G.moment G.left_since old.disk new.disk None (HasFirst b given bounds (past_after 0 old.trail))
+          (λ c f. first-none b old.log.sb s.same (G.size old.disk) (G.count old.disk) s.same_size s.same_count given (deck_homes G.newest old) (s.stood up) bounds s.groups (s.settled ∙ ap Some (sym (has.all up))) (past_after 0 old.trail) old.log.next c has.settled s.number f)
           (leaves up held)
 
-      since-still : (b.faults < 18446744073709551615 → G.faults new.disk ≡ b.faults → new.aborted ≡ false) → Stays → Since G b given new
+      since-still : (b.faults < 18446744073709551615 → G.faults new.disk ≡ b.faults → new.aborted ≡ false) → Stays → Since G b given bounds new
       since-still fails stays = record {
         same_size = kept.same_size ∙ s.same_size;
         same_count = kept.same_count ∙ s.same_count;
         no_fewer = omega arith;
         up = fails;
         same = same-then b.own old.log.sb new.log.sb s.same still.same;
-        number = omega arith;
+        groups = s.groups;
+        settled = s.settled ∙ ap (λ es. Some (past_after 0 es)) (sym still.trail);
+        number = still.next ∙ s.number;
         began = λ starts. still.next ∙ s.began (ap start_of (sym still.trail) ∙ starts) ∙ ap (λ es. b.own.sequence + 1 + length es) (sym still.trail);
         stood = λ on home. subst (StandsBy (word given home) (b.homes home)) (sym ((stays given (s.live up) on).0 home)) (s.stood up home);
         live = λ on. (stays given (s.live up) on).1;
-        now = λ c may. subst (λ es. HasFirst b given (past_after 0 es) c) (sym still.trail) (first-still.each c (counts_now new.disk (G.moment old.disk) c held first-still.later may));
+        now = λ c may. subst (λ es. HasFirst b given bounds (past_after 0 es) c) (sym still.trail) (first-still.each c (counts_now new.disk (G.moment old.disk) c held first-still.later may));
         later = let on = first-still.later in omega (arith, on);
-        ever = ever-on G b given given (past_after 0 old.trail) old new (λ least c f. f) s first-still;
+        ever = ever-on G b given given bounds bounds (past_after 0 old.trail) old new (λ least c f. f) s first-still;
       }
 
     pub still-marked : (ms : List (OpenDeck D)) → HasCalled G old new → (b.faults ≤ G.faults old.disk → b.faults < 18446744073709551615 → G.faults new.disk ≡ b.faults → new.aborted ≡ false) → (G.honest new.disk → Stays) → LeavesNone → IsMarkedOf G b known ms old → IsMarkedOf G b known ms new
     still-marked ms call fails stays leaves is =
         let given = is.since.given in
+        let bounds = is.since.bounds in
         let past : past_after 0 new.trail ≡ past_after 0 old.trail = ap (past_after 0) still.trail in
         let before = λ (known_start : b.is_known) (held : G.honest new.disk). is.since.since known_start (kept.was_honest held) in
         record {
           since = record {
             given = given;
-            has = given-still given is.since.has;
+            bounds = bounds;
+            has = given-still given bounds is.since.has;
             asked = asked-on G call is.since.asked;
-            since = λ known_start held. (let s = before known_start held in since-still leaves given is.since.has.settled s held (fails s.no_fewer) (stays held));
+            since = λ known_start held. (let s = before known_start held in since-still leaves given bounds is.since.has s held (fails s.no_fewer) (stays held));
           };
-          marks_last = kept-all G b given given old new still.shape kept.was_honest (omega (arith, past)) (λ least c f. f) (λ known_start held. first-still leaves given is.since.has.settled (before known_start held) held) ms is.marks_last;
+          marks_last = kept-all G b given given bounds bounds old new still.shape kept.was_honest (omega (arith, past)) (λ least c f. f) (λ known_start held. first-still leaves given bounds is.since.has (before known_start held) held) ms is.marks_last;
         }
 
   -- ---- the oldest groups go home

@@ -1,5 +1,5 @@
 -- Entries that are taken from the trail of a journal since its desk was started.
-use Rattle.std.proofs.Common.{◌≡◌, ℕ, zero, suc, ◌+◌, ◌≤◌, List, [], ◌∷◌, ◌++◌, length, take, refl, ap, subst, arith, drop, All, Result, Ok, Err, IfOk, OnErr, sym, ◌∙◌, length-append}
+use Rattle.std.proofs.Common.{◌≡◌, ℕ, Some, slice_get, zero, suc, ◌+◌, ◌≤◌, List, [], ◌∷◌, ◌++◌, length, take, refl, ap, subst, arith, drop, All, Result, Ok, Err, IfOk, OnErr, sym, ◌∙◌, length-append}
 use Rattle.std.specs.Global.{Vec}
 use Rattle.std.proofs.Math.Seq.{drop-append_seam}
 use Rattle.std.proofs.lemmas.List.Elements.{All-drop, All-weaker}
@@ -8,7 +8,7 @@ use Rattle.jb_deck.specs.Done.{Follow, start_of, past_after}
 use Rattle.jb_deck.specs.GroupsOfBatch.{entries_for, entries_from}
 use Rattle.jb_deck.specs.TakeTrail.{StopsAt, MayTakeFirst, TakesTrail, oldest_number}
 use Rattle.jb_deck.specs.declared.done.Entry.{Entry}
-use Rattle.jb_book.specs.Since.{NumberedFrom, HasFirst, IsCosted, Since, WasGiven}
+use Rattle.jb_book.specs.Since.{AreGroups, NumberedFrom, HasFirst, IsCosted, Since, WasGiven}
 use Rattle.jb_disk.specs.declared.disk.Disk.{Ghosts}
 use Rattle.jb_handle.specs.declared.stopped.Stopped.{Stopped}
 use Rattle.jb_deck.specs.Deck.{OpenDeck}
@@ -18,6 +18,7 @@ use Rattle.jb_deck.proofs.TakeEntries.{next-rest}
 use Rattle.jb_book.specs.Journal.{GivesTrail}
 use Rattle.jb_book.specs.Origin.{Begun}
 use Rattle.jb_book.specs.SinceMark.{IsMarkedOf, Lasts}
+use Rattle.jb_book.proofs.GroupBounds.{groups-left}
 use Rattle.jb_book.proofs.SinceNoHandles.{plain-is}
 
 -- ---- the entries of a trail have consecutive numbers
@@ -84,39 +85,45 @@ module _ {D : Type 0} (G : Ghosts D) (b : Begun) (known : Stopped → Type 0) (p
     both : length old.trail ≡ length taken + length new.trail
     both = ap length takes.is ∙ length-append taken new.trail
 
-    left-given : (given : List Stopped) → WasGiven known given old → WasGiven known given left
-    left-given given has = record {
+    left-given : (given : List Stopped) (bounds : List ℕ) → WasGiven known given bounds old → WasGiven known given bounds left
+    left-given given bounds has = record {
       stopped = has.stopped;
       tickets = has.tickets;
       settled = subst (λ n. n ≤ length given) ends has.settled;
       all = λ up. has.all up ∙ ends;
+      cut = has.cut;
+      groups = groups-left old.aborted (oldest_number old) past (past_after 0 old.trail) taken new.trail bounds takes.stops (subst (λ es. Follow (start_of es) 0 (past_after 0 old.trail) es) takes.is tiles)
+          (subst (λ es. AreGroups old.aborted es bounds) takes.is has.groups);
       costs = subst (All (IsCosted old.shape given)) (ap (drop (length taken)) takes.is ∙ drop-append_seam taken new.trail) (All-drop (IsCosted old.shape given) (length taken) old.trail has.costs);
       first = has.first + length taken;
       numbers = numbered-rest has.first taken new.trail (subst (NumberedFrom has.first) takes.is has.numbers);
       next = (let all = both in omega (arith, all));
     }
 
-    left-stands : (given : List Stopped) → Since G b given old → Since G b given left
-    left-stands given s =
+    left-stands : (given : List Stopped) (bounds : List ℕ) → Since G b given bounds old → Since G b given bounds left
+    left-stands given bounds s =
         let began : start_of new.trail ≡ 0 → old.log.next ≡ b.own.sequence + 1 + length new.trail = λ starts. (
         let none = none-taken (oldest_number old) past (past_after 0 old.trail) taken new.trail takes.stops (subst (λ es. Follow (start_of es) 0 (past_after 0 old.trail) es) takes.is tiles) starts in
         let all = both in
         let before : old.log.next ≡ b.own.sequence + 1 + length old.trail = s.began (whole-start taken new.trail none takes.is starts) in
         omega (arith, none, all, before)) in
-        assumption (began, subst (λ n. (c : _) → G.may_leave old.disk c → HasFirst b given n c) ends s.now)
+        let settled : slice_get bounds s.groups ≡ Some (past_after 0 new.trail) = s.settled ∙ ap Some ends in
+        assumption (began, settled, subst (λ n. (c : _) → G.may_leave old.disk c → HasFirst b given bounds n c) ends s.now)
 
-    left-lasts : (given : List Stopped) (m : OpenDeck D) → Lasts G b given old m → Lasts G b given left m
-    left-lasts given m l = let settled : past_after 0 m.trail ≤ past_after 0 new.trail = (let same = ends in omega (arith, same)) in assumption
+    left-lasts : (given : List Stopped) (bounds : List ℕ) (m : OpenDeck D) → Lasts G b given bounds old m → Lasts G b given bounds left m
+    left-lasts given bounds m l = let settled : past_after 0 m.trail ≤ past_after 0 new.trail = (let same = ends in omega (arith, same)) in assumption
 
     taken-marked : IsMarkedOf G b known ms new
     taken-marked = record {
       since = record {
         given = is.since.given;
-        has = subst (WasGiven known is.since.given) (sym takes.same) (left-given is.since.given is.since.has);
+        bounds = is.since.bounds;
+        has = subst (WasGiven known is.since.given is.since.bounds) (sym takes.same) (left-given is.since.given is.since.bounds is.since.has);
         asked = asked-on G (take_trail past taken takes) is.since.asked;
-        since = λ known_start held. subst (Since G b is.since.given) (sym takes.same) (left-stands is.since.given (is.since.since known_start (subst (λ (d : OpenDeck D). G.honest d.disk) takes.same held)));
+        since = λ known_start held. subst (Since G b is.since.given is.since.bounds) (sym takes.same) (left-stands is.since.given is.since.bounds (is.since.since known_start (subst (λ (d : OpenDeck D). G.honest d.disk) takes.same held)));
       };
-      marks_last = subst (λ (d : OpenDeck D). All (Lasts G b is.since.given d) ms) (sym takes.same) (All-weaker (Lasts G b is.since.given old) (Lasts G b is.since.given left) (left-lasts is.since.given) ms is.marks_last);
+      marks_last = subst (λ (d : OpenDeck D). All (Lasts G b is.since.given is.since.bounds d) ms) (sym takes.same)
+          (All-weaker (Lasts G b is.since.given is.since.bounds old) (Lasts G b is.since.given is.since.bounds left) (left-lasts is.since.given is.since.bounds) ms is.marks_last);
     }
 
   abbrev Takes : Result (Vec Entry) AllocError → Type 0

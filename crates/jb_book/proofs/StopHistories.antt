@@ -30,7 +30,7 @@ all-stops b xs ys p hs stops stand k d lt = (stops k d lt, recorded-on xs ys p h
 pub none-given : {D : Type 0} (G : Ghosts D) (b : Begun) (known : Stopped → Type 0) (d : OpenDeck D) → d.trail ≡ [] → d.aborted ≡ false → IsSince G b d → IsSinceOf G b known d
 none-given G b known d fresh up is =
     let none : length is.given ≡ 0 = is.has.all up ∙ ap (past_after 0) fresh in
-    record { given = is.given; has = given-as (may_stop b) known is.given d (λ k x lt. absurd (omega (arith, lt, none))) is.has; since = is.since; asked = is.asked }
+    record { given = is.given; bounds = is.bounds; has = given-as (may_stop b) known is.given is.bounds d (λ k x lt. absurd (omega (arith, lt, none))) is.has; since = is.since; asked = is.asked }
 
 -- less is known of each handle
 pub marked-weaker : {D : Type 0} (G : Ghosts D) (b : Begun) (known less : Stopped → Type 0) → ((h : Stopped) → known h → less h) → (ms : List (OpenDeck D)) (d : OpenDeck D) → IsMarkedOf G b known ms d → IsMarkedOf G b less ms d

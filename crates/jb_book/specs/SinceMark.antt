@@ -3,7 +3,6 @@
 use Rattle.std.specs.Prelude.{◌≡◌, ◌⊎◌, ℕ, suc, ◌<◌, ◌≤◌, List, All, Some, slice_get, Result, Ok, Err}
 use Rattle.jb_disk.specs.Image.{Image}
 use Rattle.jb_disk.specs.declared.disk.Disk.{Ghosts}
-use Rattle.jb_handle.specs.Tickets.{TicketsFrom}
 use Rattle.jb_handle.specs.Word.{WordMap}
 use Rattle.jb_handle.specs.declared.shape.Shape.{Shape}
 use Rattle.jb_handle.specs.declared.stopped.Stopped.{Stopped}
@@ -18,7 +17,7 @@ use Rattle.jb_board.specs.HistoryRule.{IsFirstPart, StandsIn}
 use Rattle.jb_book.specs.Marks.{HasEntry, HasFailedMark, IsMarked, Shows, ShowsAfter}
 use Rattle.jb_book.specs.Origin.{Begun}
 use Rattle.jb_book.specs.History.{AreAllStops, EndsWith, IsStop}
-use Rattle.jb_book.specs.Since.{HasFirst, IsSinceOf}
+use Rattle.jb_book.specs.Since.{HasFirst, IsSinceOf, WasGiven}
 
 -- each of the entries has at least one ticket, and none past the last one's
 abbrev pub HaveTickets : List Entry → Type 0
@@ -30,22 +29,22 @@ pub record HasSettledOf {D : Type 0} (d m : OpenDeck D) : Type 0 where
   pub settled : past_after 0 m.trail ≤ past_after 0 d.trail
 
 -- The mark lasts: the journal has the shape that it had at the mark, and a disk that is honest was so at the mark. Of a
--- journal that was given these handles since the start, on a disk that is honest, a crash at any moment since the mark
--- leaves all that were settled at the mark
-pub record Lasts {D : Type 0} (G : Ghosts D) (b : Begun) (given : List Stopped) (d : OpenDeck D) (m : OpenDeck D)
-    : Type 0 where
+-- journal that was given these handles since the start, in groups with these bounds, on a disk that is honest, a crash
+-- at any moment since the mark leaves the first groups, with all handles that were settled at the mark
+pub record Lasts {D : Type 0} (G : Ghosts D) (b : Begun) (given : List Stopped) (bounds : List ℕ) (d : OpenDeck D)
+    (m : OpenDeck D) : Type 0 where
   pub has : HasSettledOf d m
   pub same_shape : d.shape ≡ m.shape
   pub was_honest : G.honest d.disk → G.honest m.disk
   pub earlier : b.is_known → G.honest d.disk → G.moment m.disk ≤ G.moment d.disk
   pub leaves : b.is_known → G.honest d.disk → (c : Image) → G.left_since d.disk (G.moment m.disk) c
-      → HasFirst b given (past_after 0 m.trail) c
+      → HasFirst b given bounds (past_after 0 m.trail) c
 
 -- a journal that is as it must be since the start, whose marks last
 pub record IsMarkedOf {D : Type 0} (G : Ghosts D) (b : Begun) (is : Stopped → Type 0) (marks : List (OpenDeck D))
     (d : OpenDeck D) : Type 0 where
   pub since : IsSinceOf G b is d
-  pub marks_last : All (Lasts G b since.given d) marks
+  pub marks_last : All (Lasts G b since.given since.bounds d) marks
 
 -- one of these marks has the entries of the groups that were settled; where the journal has failed, it had failed at
 -- one of them
@@ -64,7 +63,7 @@ pub record EndsMarked {D : Type 0} (G : Ghosts D) (b : Begun) (stops : List (Lis
     (shape : Shape) (disk : D) (trail : List Entry) (seen : List WordMap) (marks : List (OpenDeck D)) : Type 0 where
   pub ends : EndsWith G b stops handles shape disk trail
   pub knows : IsFirstPart seen ends.log
-  pub last : All (Lasts G b ends.since.given ends.deck) marks
+  pub last : All (Lasts G b ends.since.given ends.since.bounds ends.deck) marks
 
 -- How a desk ends, whatever its seats have left: there is one history of stops, which begins with what was seen of it,
 -- the journal on the disk was given the first handles of this history, and each of the marks lasts
@@ -75,24 +74,27 @@ pub record EndsSeen {D : Type 0} (G : Ghosts D) (b : Begun) (disk : D) (seen : L
   pub deck : OpenDeck D
   pub same_disk : deck.disk ≡ disk
   pub since : IsSinceOf G b (IsStop b log) deck
-  pub last : All (Lasts G b since.given deck) marks
+  pub last : All (Lasts G b since.given since.bounds deck) marks
 
 -- ---- what follows for a ticket that was shown
 
--- The handle with the ticket stays: there is one mark among these, and a crash at any moment since it leaves the
--- handles of the one history that the seats made up to this one, at least
+-- The handle with the ticket stays: there is one mark among these, and a crash at any moment since it leaves first
+-- groups of the handles of the one history that the seats made, with all of these up to this one at least. The trail
+-- lists the last of the groups
 pub record TicketStays {D : Type 0} (G : Ghosts D) (b : Begun) (stops : List (List (ℕ × WordMap))) (disk : D)
-    (marks : List (OpenDeck D)) (ticket : ℕ) : Type 0 where
+    (trail : List Entry) (marks : List (OpenDeck D)) (ticket : ℕ) : Type 0 where
   pub at : ℕ
   pub mark : OpenDeck D
   pub stands : StandsIn marks (at, mark)
   pub earlier : G.moment mark.disk ≤ G.moment disk
   pub log : List WordMap
   pub stopped : AreAllStops log (joined stops)
+  pub deck : OpenDeck D
+  pub same_trail : deck.trail ≡ trail
   pub given : List Stopped
-  pub first : All (IsStop b log) given
-  pub tickets : TicketsFrom 0 given
-  pub leaves : (c : Image) → G.left_since disk (G.moment mark.disk) c → HasFirst b given (suc ticket) c
+  pub bounds : List ℕ
+  pub has : WasGiven (IsStop b log) given bounds deck
+  pub leaves : (c : Image) → G.left_since disk (G.moment mark.disk) c → HasFirst b given bounds (suc ticket) c
 
 -- some mark shows that the ticket is settled: the number of its group, or an entry that comes after it
 abbrev pub IsShown : {D : Type 0} → List (OpenDeck D) → ℕ → Type 0
@@ -106,7 +108,7 @@ ShownStays {D = D} G b =
     (known : List WordMap) (before marks : List (OpenDeck D)) (ticket : ℕ)
     → EndsMarked G b stops handles shape disk trail known marks → IsFirstPart before marks → IsShown before ticket
     → b.is_known → G.honest disk
-    → TicketStays G b stops disk before ticket
+    → TicketStays G b stops disk trail before ticket
 
 -- the handle with this ticket, which stopped with these words, is among those that were given, and settled
 pub record IsGiven {D : Type 0} (given : List Stopped) (d : OpenDeck D) (ticket : ℕ) (words : WordMap) : Type 0 where

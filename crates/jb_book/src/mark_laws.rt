@@ -5,8 +5,9 @@ use crate::Origin;
 use jb_disk::Disk;
 
 /// A ticket that a wait at a desk has answered stays: some mark that was seen by then had it, and whatever a crash at
-/// any moment since that mark leaves, on a disk that is honest as the desk is closed, is recovered to the handles of
-/// the history up to this one, at least. The marks are some of those with which the desk was closed.
+/// any moment since that mark leaves, on a disk that is honest as the desk is closed, is recovered to the first groups
+/// of the handles of the history, with those up to this one at least. The marks are some of those with which the desk
+/// was closed.
 pub fn stays<D: Disk, H: Origin>()
     /// A handle that was waited for stays: what a crash leaves at any moment from the mark to the close has it.
     ensures { ShownStays D.Disk H.begun }

@@ -93,39 +93,39 @@ module _ {D : Type 0} (moment : D → ℕ) where
 
 -- ---- what lasts
 
-module _ {D : Type 0} (G : Ghosts D) (b : Begun) (given : List Stopped) where
-  note-lasts : (d m : OpenDeck D) → Lasts G b given d m → NoteLasts G b given d.disk d.trail (note_of G.moment m)
+module _ {D : Type 0} (G : Ghosts D) (b : Begun) (given : List Stopped) (bounds : List ℕ) where
+  note-lasts : (d m : OpenDeck D) → Lasts G b given bounds d m → NoteLasts G b given bounds d.disk d.trail (note_of G.moment m)
   note-lasts d m l = record { tiles = l.has.tiles; settled = l.has.settled; earlier = l.earlier; leaves = l.leaves }
 
-  pub known-lasts : (log known : List WordMap) (d : OpenDeck D) (disk : D) (trail : List Entry) (ms all : List (OpenDeck D)) → d.disk ≡ disk → d.trail ≡ trail → IsPrefix known log → IsPrefix ms all → All (Lasts G b given d) all
-      → KnownLasts G b log given disk trail (record { log = known; notes = map (note_of G.moment) ms })
+  pub known-lasts : (log known : List WordMap) (d : OpenDeck D) (disk : D) (trail : List Entry) (ms all : List (OpenDeck D)) → d.disk ≡ disk → d.trail ≡ trail → IsPrefix known log → IsPrefix ms all → All (Lasts G b given bounds d) all
+      → KnownLasts G b log given bounds disk trail (record { log = known; notes = map (note_of G.moment) ms })
   known-lasts log known d disk trail ms all same_disk same_trail begins p each = record {
     begins = begins;
     last =
-        subst (λ (x : D × List Entry). All (NoteLasts G b given x.0 x.1) (map (note_of G.moment) ms)) (λ i. (same_disk i, same_trail i))
-        (All-map (NoteLasts G b given d.disk d.trail) (note_of G.moment) ms
-        (All-weaker (Lasts G b given d) (λ m. NoteLasts G b given d.disk d.trail (note_of G.moment m)) (λ m l. note-lasts d m l) ms
-        (all-first (Lasts G b given d) ms all p each)));
+        subst (λ (x : D × List Entry). All (NoteLasts G b given bounds x.0 x.1) (map (note_of G.moment) ms)) (λ i. (same_disk i, same_trail i))
+        (All-map (NoteLasts G b given bounds d.disk d.trail) (note_of G.moment) ms
+        (All-weaker (Lasts G b given bounds d) (λ m. NoteLasts G b given bounds d.disk d.trail (note_of G.moment m)) (λ m l. note-lasts d m l) ms
+        (all-first (Lasts G b given bounds d) ms all p each)));
   }
 
   -- a handle that is noted stays since then
-  pub noted-stays : (disk : D) (trail : List Entry) (notes : List Note) (ticket number : ℕ) → (n : IsInNotes notes ticket number) → All (NoteLasts G b given disk trail) notes → b.is_known → G.honest disk
-      → StaysSince G b given disk n.note.moment ticket
+  pub noted-stays : (disk : D) (trail : List Entry) (notes : List Note) (ticket number : ℕ) → (n : IsInNotes notes ticket number) → All (NoteLasts G b given bounds disk trail) notes → b.is_known → G.honest disk
+      → StaysSince G b given bounds disk n.note.moment ticket
   noted-stays disk trail notes ticket number n each known held =
-      let last = at-place (NoteLasts G b given disk trail) notes n.at n.note n.stands each in
+      let last = at-place (NoteLasts G b given bounds disk trail) notes n.at n.note n.stands each in
       let within = last.tiles n.entry n.has in
       let to = n.to in
       let past = within.1 in
       record {
         earlier = last.earlier known held;
-        leaves = λ c left. first-lower b given (suc ticket) (committed_by n.note) c (omega (arith, to, past)) (last.leaves known held c left);
+        leaves = λ c left. first-lower b given bounds (suc ticket) (committed_by n.note) c (omega (arith, to, past)) (last.leaves known held c left);
       }
 
   -- a disk that is honest was so at all marks that last
-  pub were-honest : (d : OpenDeck D) (disk : D) (ms all : List (OpenDeck D)) → d.disk ≡ disk → IsPrefix ms all → All (Lasts G b given d) all → G.honest disk → AreHonest G ms
+  pub were-honest : (d : OpenDeck D) (disk : D) (ms all : List (OpenDeck D)) → d.disk ≡ disk → IsPrefix ms all → All (Lasts G b given bounds d) all → G.honest disk → AreHonest G ms
   were-honest d disk ms all same p each held =
       let now : G.honest d.disk = subst G.honest (sym same) held in
-      All-weaker (Lasts G b given d) (λ m. G.honest m.disk) (λ m l. l.was_honest now) ms (all-first (Lasts G b given d) ms all p each)
+      All-weaker (Lasts G b given bounds d) (λ m. G.honest m.disk) (λ m l. l.was_honest now) ms (all-first (Lasts G b given bounds d) ms all p each)
 
 -- what is noted stays noted
 pub noted-on : (before after : List Note) (ticket number : ℕ) → IsPrefix before after → IsInNotes before ticket number → IsInNotes after ticket number

@@ -44,8 +44,8 @@ given-at b log given tickets stopped stop stands lt =
 module _ {T D : Type 0} (G : Ghosts D) (b : Begun) (may : Type 0 → ℕ → ℕ → List Stop → Known → T → Type 0) (workers : ℕ) (shape : Shape) (ran : Ran T D)
     (all : RanAll G b may workers shape ran) where
   -- what a client knew lasts
-  pub lasts-at : (by : ℕ) (known : Known) → slice_get all.known by ≡ Some known → KnownLasts G b all.ends.log all.ends.since.given ran.disk ran.trail.items known
-  lasts-at by known is = at-place (KnownLasts G b all.ends.log all.ends.since.given ran.disk ran.trail.items) all.known by known is all.last
+  pub lasts-at : (by : ℕ) (known : Known) → slice_get all.known by ≡ Some known → KnownLasts G b all.ends.log all.ends.since.given all.ends.since.bounds ran.disk ran.trail.items known
+  lasts-at by known is = at-place (KnownLasts G b all.ends.log all.ends.since.given all.ends.since.bounds ran.disk ran.trail.items) all.known by known is all.last
 
   -- the handle of one worker's client stays, where the client of one of them knew that it was committed
   pub stays-noted : (at by : ℕ) (stops : List Stop) (known : Known) → slice_get all.stopped at ≡ Some stops → slice_get all.known by ≡ Some known → (k : ℕ) (stop : Stop) → slice_get stops k ≡ Some stop
@@ -53,7 +53,7 @@ module _ {T D : Type 0} (G : Ghosts D) (b : Begun) (may : Type 0 → ℕ → ℕ
   stays-noted at by stops known stopped is k stop placed number n =
       let last = (lasts-at by known is).last in
       let notes = known.notes in
-      let one = at-place (NoteLasts G b all.ends.since.given ran.disk ran.trail.items) notes n.at n.note n.stands last in
+      let one = at-place (NoteLasts G b all.ends.since.given all.ends.since.bounds ran.disk ran.trail.items) notes n.at n.note n.stands last in
       let stand = all-parts (StandsIn all.ends.log) all.stopped all.ends.stopped.stand at stops stopped in
       let stands = at-place (StandsIn all.ends.log) stops k stop placed stand in
       let within = (one.tiles n.entry n.has).1 in
@@ -65,7 +65,7 @@ module _ {T D : Type 0} (G : Ghosts D) (b : Begun) (may : Type 0 → ℕ → ℕ
         number = number;
         noted = n;
         given = given-at b all.ends.log all.ends.since.given all.ends.since.has.tickets all.ends.since.has.stopped stop stands (omega (arith, within, to, settled, trail, given));
-        stays = λ is_known held by m. noted-stays G b all.ends.since.given ran.disk ran.trail.items notes stop.0 by m last is_known held;
+        stays = λ is_known held by m. noted-stays G b all.ends.since.given all.ends.since.bounds ran.disk ran.trail.items notes stop.0 by m last is_known held;
       }
 
   -- the first of a client's handles stay, where the client of one of them knew that they were committed

@@ -37,18 +37,18 @@ settled-as settled handles trail is (past, follows, within) =
 
 -- ---- what was seen by each worker, of a journal that ends with all that they have seen
 
-module _ {D : Type 0} (G : Ghosts D) (b : Begun) (log : List WordMap) (given : List Stopped) (deck : OpenDeck D) (disk : D) (trail : List Entry) (same_disk : deck.disk ≡ disk) (same_trail : deck.trail ≡ trail)
-    {H X : Type 0} (sights : X → Sights D H) (ws : List X) (seen : Sights D H) (knows : IsFirstPart seen.stops log) (last : All (Lasts G b given deck) seen.marks) (each : All (λ w. SeesMore (sights w) seen) ws) where
+module _ {D : Type 0} (G : Ghosts D) (b : Begun) (log : List WordMap) (given : List Stopped) (bounds : List ℕ) (deck : OpenDeck D) (disk : D) (trail : List Entry) (same_disk : deck.disk ≡ disk) (same_trail : deck.trail ≡ trail)
+    {H X : Type 0} (sights : X → Sights D H) (ws : List X) (seen : Sights D H) (knows : IsFirstPart seen.stops log) (last : All (Lasts G b given bounds deck) seen.marks) (each : All (λ w. SeesMore (sights w) seen) ws) where
   -- what each knew lasts
-  pub all-known : All (KnownLasts G b log given disk trail) (map (λ w. known_in G.moment (sights w)) ws)
-  all-known = All-map (KnownLasts G b log given disk trail) (λ w. known_in G.moment (sights w)) ws
-      (All-weaker (λ w. SeesMore (sights w) seen) (λ w. KnownLasts G b log given disk trail (known_in G.moment (sights w)))
-      (λ w more. known-lasts G b given log (sights w).stops deck disk trail (sights w).marks seen.marks same_disk same_trail (first-trans (sights w).stops seen.stops log more.0 knows) more.1 last) ws each)
+  pub all-known : All (KnownLasts G b log given bounds disk trail) (map (λ w. known_in G.moment (sights w)) ws)
+  all-known = All-map (KnownLasts G b log given bounds disk trail) (λ w. known_in G.moment (sights w)) ws
+      (All-weaker (λ w. SeesMore (sights w) seen) (λ w. KnownLasts G b log given bounds disk trail (known_in G.moment (sights w)))
+      (λ w more. known-lasts G b given bounds log (sights w).stops deck disk trail (sights w).marks seen.marks same_disk same_trail (first-trans (sights w).stops seen.stops log more.0 knows) more.1 last) ws each)
 
   -- a disk that is honest was so at all that each had seen
   pub all-honest : G.honest disk → All (AreHonest G) (map (λ w. (sights w).marks) ws)
   all-honest held = All-map (AreHonest G) (λ w. (sights w).marks) ws
-      (All-weaker (λ w. SeesMore (sights w) seen) (λ w. AreHonest G (sights w).marks) (λ w more. were-honest G b given deck disk (sights w).marks seen.marks same_disk more.1 last held) ws each)
+      (All-weaker (λ w. SeesMore (sights w) seen) (λ w. AreHonest G (sights w).marks) (λ w more. were-honest G b given bounds deck disk (sights w).marks seen.marks same_disk more.1 last held) ws each)
 
 -- ---- how a desk ends, without the seats that have stopped no handle
 
@@ -83,12 +83,12 @@ module _ {D : Type 0} (G : Ghosts D) (b : Begun)
   -- and what each worker knew lasts; a disk that is honest was so at all that each had seen; and so much of the log is in use
   pub ends-known : {H X : Type 0} (sights : X → Sights D H) (ws : List X) (seen : Sights D H) (in_log : Option ℕ)
       → EndsUsing G b all handles shape disk trail seen.stops seen.marks in_log → All (λ w. SeesMore (sights w) seen) ws
-      → (ends : Ends stopped) × All (KnownLasts G b ends.log ends.since.given disk trail) (map (λ w. known_in G.moment (sights w)) ws) × (G.honest disk → All (AreHonest G) (map (λ w. (sights w).marks) ws))
+      → (ends : Ends stopped) × All (KnownLasts G b ends.log ends.since.given ends.since.bounds disk trail) (map (λ w. known_in G.moment (sights w)) ws) × (G.honest disk → All (AreHonest G) (map (λ w. (sights w).marks) ws))
       × (in_log ≡ log_used ends.deck) × (in_log ≡ Some 0 → b.is_known → G.honest disk → AreHome G b ends.since.given disk)
   ends-known sights ws seen in_log using each = let ends = using.marked in (
     ends-without ends.ends,
-    all-known G b ends.ends.log ends.ends.since.given ends.ends.deck disk trail ends.ends.same_disk ends.ends.same_trail sights ws seen ends.knows ends.last each,
-    all-honest G b ends.ends.log ends.ends.since.given ends.ends.deck disk trail ends.ends.same_disk ends.ends.same_trail sights ws seen ends.knows ends.last each,
+    all-known G b ends.ends.log ends.ends.since.given ends.ends.since.bounds ends.ends.deck disk trail ends.ends.same_disk ends.ends.same_trail sights ws seen ends.knows ends.last each,
+    all-honest G b ends.ends.log ends.ends.since.given ends.ends.since.bounds ends.ends.deck disk trail ends.ends.same_disk ends.ends.same_trail sights ws seen ends.knows ends.last each,
     using.used,
     using.home,
   )

@@ -163,8 +163,8 @@ module _ {T D H N : Type 0} {O : Ghosts H} {P : Places H} (G : Disks D) (b : Beg
         deck = ends.deck;
         same_disk = ends.same_disk;
         since = ends.since;
-        last = all-known G b ends.log ends.since.given ends.deck back.disk ends.deck.trail ends.same_disk refl (λ (w : WorkerResult T D H N O P). w.seen) ws all.seen ends.knows ends.last gathered.seen;
-        honest = all-honest G b ends.log ends.since.given ends.deck back.disk ends.deck.trail ends.same_disk refl (λ (w : WorkerResult T D H N O P). w.seen) ws all.seen ends.knows ends.last gathered.seen;
+        last = all-known G b ends.log ends.since.given ends.since.bounds ends.deck back.disk ends.deck.trail ends.same_disk refl (λ (w : WorkerResult T D H N O P). w.seen) ws all.seen ends.knows ends.last gathered.seen;
+        honest = all-honest G b ends.log ends.since.given ends.since.bounds ends.deck back.disk ends.deck.trail ends.same_disk refl (λ (w : WorkerResult T D H N O P). w.seen) ws all.seen ends.knows ends.last gathered.seen;
       }
 
   -- why there is none

@@ -94,25 +94,26 @@ pub record ReadsAs (b : Begun) (sure : Type 0) (before after : Known) (home : �
 
 -- ---- what a run keeps of it
 
--- A note lasts, on the disk that a run leaves, of a journal that was given these handles and has this trail: where that
--- disk is honest, what a crash at any time since that moment leaves has the handles that were committed then, at least
-pub record NoteLasts {D : Type 0} (G : Ghosts D) (b : Begun) (given : List Stopped) (disk : D) (trail : List Entry)
-    (n : Note) : Type 0 where
+-- A note lasts, on the disk that a run leaves, of a journal that was given these handles, in groups with these bounds,
+-- and has this trail: where that disk is honest, what a crash at any time since that moment leaves has the first
+-- groups, with all handles at least that were committed then
+pub record NoteLasts {D : Type 0} (G : Ghosts D) (b : Begun) (given : List Stopped) (bounds : List ℕ) (disk : D)
+    (trail : List Entry) (n : Note) : Type 0 where
   pub tiles : HaveTickets n.trail
   pub settled : committed_by n ≤ past_after 0 trail
   pub earlier : b.is_known → G.honest disk → n.moment ≤ G.moment disk
   pub leaves : b.is_known → G.honest disk → (c : Image) → G.left_since disk n.moment c
-      → HasFirst b given (committed_by n) c
+      → HasFirst b given bounds (committed_by n) c
 
 -- what was known holds of the whole run: the handles are the first of all that stopped, and the notes last
-pub record KnownLasts {D : Type 0} (G : Ghosts D) (b : Begun) (log : List WordMap) (given : List Stopped) (disk : D)
-    (trail : List Entry) (k : Known) : Type 0 where
+pub record KnownLasts {D : Type 0} (G : Ghosts D) (b : Begun) (log : List WordMap) (given : List Stopped)
+    (bounds : List ℕ) (disk : D) (trail : List Entry) (k : Known) : Type 0 where
   pub begins : IsFirstPart k.log log
-  pub last : All (NoteLasts G b given disk trail) k.notes
+  pub last : All (NoteLasts G b given bounds disk trail) k.notes
 
--- the handle with this ticket stays since this moment: what a crash at any time since then leaves has the first of
--- these handles by their tickets, up to this one at least
-pub record StaysSince {D : Type 0} (G : Ghosts D) (b : Begun) (given : List Stopped) (disk : D) (since ticket : ℕ)
-    : Type 0 where
+-- the handle with this ticket stays since this moment: what a crash at any time since then leaves has the first groups
+-- of these handles, cut at these bounds, with all handles up to this one at least
+pub record StaysSince {D : Type 0} (G : Ghosts D) (b : Begun) (given : List Stopped) (bounds : List ℕ) (disk : D)
+    (since ticket : ℕ) : Type 0 where
   pub earlier : since ≤ G.moment disk
-  pub leaves : (c : Image) → G.left_since disk since c → HasFirst b given (suc ticket) c
+  pub leaves : (c : Image) → G.left_since disk since c → HasFirst b given bounds (suc ticket) c

@@ -149,9 +149,9 @@ IsNotDurable ran NotHome = AllSettled ran × (IsDoneAtHome ran → ⊥)
 -- that the disk is left with has this shape, by which its groups have cost what its trail says, and was given the first
 -- of this history; and the machine of handles accepts a list of events in which they stopped in this order, and whose
 -- settled groups are those of the trail. What a client knew to be committed at some moment, what a crash at any time
--- since then leaves has. Where the disk that is given back is honest, it was so at all that any client has seen. Of the
--- journal's log this many blocks are in use as are told: where none are, each home on the disk is as these handles left
--- it
+-- since then leaves has, and this ends between two groups. Where the disk that is given back is honest, it was so at
+-- all that any client has seen. Of the journal's log this many blocks are in use as are told: where none are, each home
+-- on the disk is as these handles left it
 pub record RanAll {T D : Type 0} (G : Disks D) (b : Begun) (may : Type 0 → ℕ → ℕ → List Stop → Known → T → Type 0)
     (workers : ℕ) (shape : Shape) (ran : Ran T D) : Type 0 where
   pub stopped : List (List Stop)
@@ -161,7 +161,7 @@ pub record RanAll {T D : Type 0} (G : Disks D) (b : Begun) (may : Type 0 → ℕ
   pub changes : ran.changes ≡ sum_by changed_by (joined stopped)
   pub ends : EndsWith G b stopped ran.handles shape ran.disk ran.trail.items
   pub came : CameAbout G b stopped shape ran.disk ran.trail.items
-  pub last : All (KnownLasts G b ends.log ends.since.given ran.disk ran.trail.items) known
+  pub last : All (KnownLasts G b ends.log ends.since.given ends.since.bounds ran.disk ran.trail.items) known
   pub honest : G.honest ran.disk → All (AreHonest G) seen
   pub used : ran.in_log ≡ log_used ends.deck
   pub home : ran.in_log ≡ Some 0 → b.is_known → G.honest ran.disk → AreHome G b ends.since.given ran.disk

@@ -56,7 +56,7 @@ module _ {D : Type 0} (G : Ghosts D) (b : Begun) where
     pub deck : OpenDeck D
     pub same_disk : deck.disk ≡ disk
     pub since : IsSinceOf G b (IsStop b log) deck
-    pub last : All (KnownLasts G b log since.given disk deck.trail) known
+    pub last : All (KnownLasts G b log since.given since.bounds disk deck.trail) known
     pub honest : G.honest disk → All (AreHonest G) seen
 
   -- a run at a desk has no whole answer: the accounts do not agree; or for want of a thread, where commits are made

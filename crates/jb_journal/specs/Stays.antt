@@ -18,4 +18,4 @@ module _ {T D : Type 0} (G : Ghosts D) (b : Begun) (may : Type 0 → ℕ → ℕ
     pub noted : IsInNotes notes stop.0 number
     pub given : slice_get all.ends.since.given stop.0 ≡ Some (record { ticket = stop.0; words = stop.1 })
     pub stays : b.is_known → G.honest ran.disk → (by : ℕ) (n : IsInNotes notes stop.0 by)
-        → StaysSince G b all.ends.since.given ran.disk n.note.moment stop.0
+        → StaysSince G b all.ends.since.given all.ends.since.bounds ran.disk n.note.moment stop.0

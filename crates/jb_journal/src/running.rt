@@ -60,7 +60,7 @@ pub fn run<
     requires needs { W.needs worker.now options.commits }
     /// `run` promises what `Desk::close` does, of its clients' handles and from a known start. Each note holds: what a
     /// crash leaves since then, up to the end of the run, recovers to all handles that were durable then, and perhaps
-    /// some that follow by ticket.
+    /// some that follow by ticket, up to the end of a group.
     ///
     /// The journal on the disk was opened, and it has the same shape at the end: the workers' handles have to fit it,
     /// and by it their transactions have cost what the trail says.
@@ -77,9 +77,9 @@ pub fn run<
     /// first of these handles left it that the journal was given, freed ones aside.
     ///
     /// What a client knew when its worker answered lasts: the handles are the first of those that stopped. If the disk
-    /// that is given back is honest, what a crash leaves since one of its notes, up to the end of the run, recovers to
-    /// the handles that were committed then, and after them a prefix of the others. The disk was then honest at all
-    /// that any client has seen, so that each worker's answer holds in full.
+    /// that is given back is honest, a crash since one of its notes leaves the handles that were committed then and
+    /// first ones of the others, between two groups of a cut of all, of which the trail's are consecutive, and the last
+    /// where blocks in use are told. It was then honest at all that any client has seen: each answer holds in full.
     ensures ran { IfOk result (RanOn D.Disk disk (started_on D.Disk disk)
         (W.answers worker.now (started_on D.Disk disk)) options.workers) }
     /// It says how many handles are settled, by the end of the trail, which has no gap: all that have stopped, where it

@@ -157,12 +157,14 @@ module _ (bounds : Vec ℕ Global) (are : bounds.items ≡ (0 ∷ 2 ∷ [])) whe
     abbrev given : List Stopped
     given = idle 0 ∷ idle 1 ∷ []
 
-    was : WasGiven (IsStop unknown history) given ended
+    was : WasGiven (IsStop unknown history) given (0 ∷ 2 ∷ []) ended
     was = record {
       stopped = All-cons (IsStop unknown history) (idle 0) (idle 1 ∷ []) (tt, refl) (All-cons (IsStop unknown history) (idle 1) [] (tt, refl) (All-nil (IsStop unknown history)));
       tickets = (refl, (refl, tt));
       settled = omega arith;
       all = λ up. refl;
+      cut = (refl, (omega arith, refl));
+      groups = record { early = []; late = []; is = refl; all = λ up. refl };
       costs = All-cons (IsCosted six given) idle_group [] (record { some = omega arith; within = omega arith; blocks = sym two-idle }) (All-nil (IsCosted six given));
       first = 7;
       numbers = (refl, tt);
@@ -179,11 +181,11 @@ module _ (bounds : Vec ℕ Global) (are : bounds.items ≡ (0 ∷ 2 ∷ [])) whe
         same_disk = refl;
         same_shape = refl;
         same_trail = refl;
-        since = record { given = given; has = was; since = λ known honest. absurd known; asked = λ none few. absurd none };
+        since = record { given = given; bounds = 0 ∷ 2 ∷ []; has = was; since = λ known honest. absurd known; asked = λ none few. absurd none };
         journal = λ known honest. absurd known;
       };
       knows = (history, refl);
-      last = All-nil (Lasts G unknown given ended);
+      last = All-nil (Lasts G unknown given (0 ∷ 2 ∷ []) ended);
     }
 
     pub came-idle : CameAbout G unknown idle_stops six d.disk (idle_group ∷ [])

@@ -105,9 +105,10 @@ impl<D: Disk + Drop, C: Clock, H: Origin, N: Ledger> Desk<D, C, H, N> {
             closed.trail.items × (past ≤ closed.handles)) }
         /// The disk that it gives is that of a journal that was given some handles, with the tickets from 0 on, each
         /// with words that a handle may stop with. Where it is honest and no call of it has failed, these are the
-        /// settled ones, and the homes are as they say, freed ones aside. What a crash leaves now is recovered to a
-        /// prefix of them with all settled ones. What one left earlier is recovered to some prefix, or could have been
-        /// left before the start.
+        /// settled ones, and the homes are as they say, freed ones aside. They are cut into groups: those of the trail
+        /// are consecutive, and of a journal that has not failed the last. What a crash leaves now is recovered to the
+        /// first groups, with all settled handles. What one left earlier is recovered to some first groups, or could
+        /// have been left before the start.
         ///
         /// The numbers of its trail rise by one, up to the next one of such a journal; where no entry was taken from
         /// its front and the disk is honest, the first one follows the number of the start.
@@ -116,11 +117,13 @@ impl<D: Disk + Drop, C: Clock, H: Origin, N: Ledger> Desk<D, C, H, N> {
         /// are durable (n may be 0). If no call of the disk has failed, the homes are as these n say, freed ones aside.
         /// A crash at the end recovers to these n at least. One after a mark recovers to all that were durable at the
         /// mark, at least. Any other recovers to some first handles, perhaps none, or its image could have been left
-        /// before the start ([example: `ends_marked`](crates/proof_clients/src/examples/closing.rt)).
+        /// before the start. The handles are cut into groups, of which the trail lists the last, but for those of a
+        /// batch that failed; and what a crash recovers to ends between two of them ([example:
+        /// `ends_between`](crates/proof_clients/src/examples/closing.rt)).
         ///
         /// Of a closed desk the stops that were handed to it as seen are the first of its history, and each mark that
         /// was so lasts: if the disk that it gives is honest, it was so at the mark, and what a crash leaves at any
-        /// moment since is recovered to the handles that were settled then, at least.
+        /// moment since is recovered to first groups with the handles that were settled then, at least.
         ///
         /// One history has as many handles as it says have stopped. The stops that all seats have left are this
         /// history, each once, and the handles that the journal of that disk was given are the first of it: each has

@@ -1,15 +1,19 @@
 //! Examples of how a desk ends: what its clause says of the handles that stopped and of those that are settled.
-ghost use Rattle.std.specs.Prelude.{◌≡◌, ℕ, List, [], ◌∷◌};
+ghost use Rattle.std.specs.Prelude.{◌≡◌, ◌+◌, ℕ, false, List, [], ◌∷◌, length, take};
 ghost use Rattle.jb_handle.specs.declared.shape.Shape.{Shape};
 ghost use Rattle.jb_handle.specs.Word.{WordMap};
+ghost use Rattle.jb_handle.specs.declared.stopped.Stopped.{Stopped};
+ghost use Rattle.jb_disk.specs.Image.{Image};
+ghost use Rattle.jb_deck.specs.Calls.{IsRecoveredTo};
 ghost use Rattle.jb_deck.specs.Deck.{OpenDeck};
 ghost use Rattle.jb_deck.specs.declared.done.Entry.{Entry};
 ghost use Rattle.std.proofs.Common.{Vec, Global};
-ghost use Rattle.jb_book.specs.Origin.{unknown};
+ghost use Rattle.jb_book.specs.Origin.{Begun, unknown};
+ghost use Rattle.jb_book.specs.Since.{AreGroups, HasFirst};
 ghost use Rattle.jb_book.specs.History.{CameAbout};
 ghost use Rattle.jb_book.specs.SinceMark.{EndsMarked};
 ghost use Rattle.proof_clients.specs.ExampleMarks.{first, second, third, entry, by_two_seats};
-ghost use Rattle.proof_clients.specs.ExampleMarks.{idle_stops, idle_group};
+ghost use Rattle.proof_clients.specs.ExampleMarks.{idle_stops, idle_group, two_entries};
 ghost use Rattle.proof_clients.specs.Examples.{six};
 
 use jb_book::Origin;
@@ -44,4 +48,24 @@ pub fn came_about<D: Disk, H: Origin>()
         → CameAbout D.Disk unknown idle_stops six d.disk (idle_group ∷ []) }
     ensures not_twice { (shape : Shape) (disk : D) (trail : List Entry)
         → CameAbout D.Disk H.begun (((0, first) ∷ []) ∷ ((0, first) ∷ []) ∷ []) shape disk trail → ⊥ }
+{}
+
+/// Of three handles of which the first is settled, and then the other two in one transaction, a cut has these two
+/// groups, also once the first entry was taken from the trail; and where the first handle was settled a crash may leave
+/// it alone.
+/// No cut of them divides the second transaction or joins both, and in a journal that has not failed none goes on after
+/// them. No crash leaves the first two handles, or all at the number that comes after one transaction.
+pub fn ends_between()
+    ensures meets { AreGroups false two_entries (0 ∷ 1 ∷ 3 ∷ []) }
+    ensures meets_taken { AreGroups false (entry 8 1 3 ∷ []) (0 ∷ 1 ∷ 3 ∷ []) }
+    ensures meets_left { (b : Begun) (given : List Stopped) (c : Image) → length given ≡ 3
+        → IsRecoveredTo b.own (b.own.sequence + 1 + 1) b.size b.count b.homes (take 1 given) c
+        → HasFirst b given (0 ∷ 1 ∷ 3 ∷ []) 1 c }
+    ensures not_divided { AreGroups false two_entries (0 ∷ 1 ∷ 2 ∷ 3 ∷ []) → ⊥ }
+    ensures not_joined { AreGroups false two_entries (0 ∷ 3 ∷ []) → ⊥ }
+    ensures not_further { AreGroups false two_entries (0 ∷ 1 ∷ 3 ∷ 4 ∷ []) → ⊥ }
+    ensures not_within { (b : Begun) (given : List Stopped) (least : ℕ) (c : Image)
+        → (left : HasFirst b given (0 ∷ 1 ∷ 3 ∷ []) least c) → left.many ≡ 2 → ⊥ }
+    ensures not_number { (b : Begun) (given : List Stopped) (least : ℕ) (c : Image)
+        → (left : HasFirst b given (0 ∷ 1 ∷ 3 ∷ []) least c) → left.many ≡ 3 → left.groups ≡ 1 → ⊥ }
 {}

@@ -1,8 +1,8 @@
-use Rattle.std.proofs.Common.{◌≡◌, [], length, All, sym, ap, subst, arith}
+use Rattle.std.proofs.Common.{◌≡◌, ◌∷◌, [], length, refl, All, sym, ap, subst, arith}
 use Rattle.std.proofs.lemmas.List.Elements.{All-nil}
 use Rattle.jb_handle.specs.declared.stopped.Stopped.{Stopped}
 use Rattle.jb_deck.specs.Done.{past_after}
-use Rattle.jb_book.specs.Since.{IsCosted, NumberedFrom}
+use Rattle.jb_book.specs.Since.{AreGroups, IsCosted, NumberedFrom}
 use Rattle.tests_desk.proofs.blind.start.Goals as goal
 
 -- no handle was given to a journal that has settled none
@@ -11,11 +11,14 @@ start-requires-clause-begun g c =
     let past : past_after 0 c.args.deck.trail ≡ 0 = ap (past_after 0) c.requires.fresh in
     record {
       given = [];
+      bounds = 0 ∷ [];
       has = record {
         stopped = All-nil (λ (x : Stopped). g.H.Origin.begun.stops x.words);
         tickets = tt;
         settled = omega (arith, past);
         all = λ up. sym past;
+        cut = (refl, refl);
+        groups = subst (λ es. AreGroups c.args.deck.aborted es (0 ∷ [])) (sym c.requires.fresh) (record { early = []; late = []; is = refl; all = λ up. refl });
         costs = subst (All (IsCosted c.args.deck.shape [])) (sym c.requires.fresh) (All-nil (IsCosted c.args.deck.shape []));
         first = c.args.deck.log.next;
         numbers = subst (NumberedFrom c.args.deck.log.next) (sym c.requires.fresh) tt;

@@ -40,5 +40,5 @@ returns-clause-home g c =
     read-home g.D.Disk b known
     deck new c.read_home-result.ensures.kept.kept c.learn.new.prefix c.args.seen.now.marks c.learn-2.new.prefix at _ _ _
     c.read_home-result.result (stop-on b c.self.inside.prefix c.learn.new.prefix c.learn.ensures.other)
-    (settled-of g.D.Disk b c.self.invariant.since.given deck c.args.seen.now.marks c.self.inside.appender seen c.self.invariant.marks_last) marked
+    (settled-of g.D.Disk b c.self.invariant.since.given c.self.invariant.since.bounds deck c.args.seen.now.marks c.self.inside.appender seen c.self.invariant.marks_last) marked
     c.read_home-result.ensures.answers c.read_home-result.ensures.found c.read_home-result.ensures.newest c.self.invariant.since after.since

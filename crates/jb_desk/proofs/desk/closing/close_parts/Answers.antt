@@ -32,13 +32,13 @@ returns-clause-stops g c =
           journal = λ known_start held. of-begun g.D.Disk b (IsStop b log) deck shape c.shape-shape.ensures.journal is.since known_start (subst g.D.Disk.honest c.close.ensures.value held);
         };
         knows = c.end_journal-deck.ensures.knows;
-        last = all-first (Lasts g.D.Disk b is.since.given deck) c.args.seen.marks marks c.learn.ensures.own is.marks_last;
+        last = all-first (Lasts g.D.Disk b is.since.given is.since.bounds deck) c.args.seen.marks marks c.learn.ensures.own is.marks_last;
       };
       used = c.used_of-in_log.ensures.used;
       home = λ zero known_start held.
           let none = c.used_of-in_log.ensures.none zero in
           let there = is.since.since known_start (subst g.D.Disk.honest c.close.ensures.value held) in
-          subst (AreHome g.D.Disk b is.since.given) (sym c.close.ensures.value) (are-home g.D.Disk b is.since.given deck there none.0 none.1);
+          subst (AreHome g.D.Disk b is.since.given) (sym c.close.ensures.value) (are-home g.D.Disk b is.since.given is.since.bounds deck there none.0 none.1);
     }
 
 -- the book's shape is that of the journal at a mark, and so its shape now
@@ -49,7 +49,7 @@ returns-clause-came g c =
     let since = c.end_journal-deck.ensures.since in
     let book = c.totals-trail.ensures.journal in
     let stands = placed_on c.totals-trail.result.4 marks c.learn.ensures.other (book.at, book.mark) book.stands in
-    let last = at-place (Lasts g.D.Disk g.H.Origin.begun since.since.given deck) marks book.at book.mark stands since.marks_last in
+    let last = at-place (Lasts g.D.Disk g.H.Origin.begun since.since.given since.since.bounds deck) marks book.at book.mark stands since.marks_last in
     record {
       log = c.totals-trail.result.3;
       stopped = search rules;
@@ -79,6 +79,6 @@ returns-then-not-are_same-clause-refused g c =
         deck = deck;
         same_disk = refl;
         since = ended.since.since;
-        last = all-first (Lasts g.D.Disk g.H.Origin.begun ended.since.since.given deck) c.args.seen.marks c.learn.new.prefix c.learn.ensures.own ended.since.marks_last;
+        last = all-first (Lasts g.D.Disk g.H.Origin.begun ended.since.since.given ended.since.since.bounds deck) c.args.seen.marks c.learn.new.prefix c.learn.ensures.own ended.since.marks_last;
       },
     )
