@@ -101,14 +101,26 @@ module _ {D : Type 0} (G : Ghosts D) (b : Begun) (known : Stopped → Type 0) (p
     }
 
     left-stands : (given : List Stopped) (bounds : List ℕ) → Since G b given bounds old → Since G b given bounds left
-    left-stands given bounds s =
-        let began : start_of new.trail ≡ 0 → old.log.next ≡ b.own.sequence + 1 + length new.trail = λ starts. (
-        let none = none-taken (oldest_number old) past (past_after 0 old.trail) taken new.trail takes.stops (subst (λ es. Follow (start_of es) 0 (past_after 0 old.trail) es) takes.is tiles) starts in
-        let all = both in
-        let before : old.log.next ≡ b.own.sequence + 1 + length old.trail = s.began (whole-start taken new.trail none takes.is starts) in
-        omega (arith, none, all, before)) in
-        let settled : slice_get bounds s.groups ≡ Some (past_after 0 new.trail) = s.settled ∙ ap Some ends in
-        assumption (began, settled, subst (λ n. (c : _) → G.may_leave old.disk c → HasFirst b given bounds n c) ends s.now)
+    left-stands given bounds s = record {
+      same_size = s.same_size;
+      same_count = s.same_count;
+      no_fewer = s.no_fewer;
+      up = s.up;
+      same = s.same;
+      groups = s.groups;
+      settled = s.settled ∙ ap Some ends;
+      number = s.number;
+      began = λ starts.
+          let none = none-taken (oldest_number old) past (past_after 0 old.trail) taken new.trail takes.stops (subst (λ es. Follow (start_of es) 0 (past_after 0 old.trail) es) takes.is tiles) starts in
+          let all = both in
+          let before : old.log.next ≡ b.own.sequence + 1 + length old.trail = s.began (whole-start taken new.trail none takes.is starts) in
+          omega (arith, none, all, before);
+      stood = s.stood;
+      live = s.live;
+      now = subst (λ n. (c : _) → G.may_leave old.disk c → HasFirst b given bounds n c) ends s.now;
+      later = s.later;
+      ever = s.ever;
+    }
 
     left-lasts : (given : List Stopped) (bounds : List ℕ) (m : OpenDeck D) → Lasts G b given bounds old m → Lasts G b given bounds left m
     left-lasts given bounds m l = let settled : past_after 0 m.trail ≤ past_after 0 new.trail = (let same = ends in omega (arith, same)) in assumption
