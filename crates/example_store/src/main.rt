@@ -40,8 +40,20 @@ const SIZE: BlockSize = BlockSize::OneKib;
 /// How many blocks the journal has.
 const JOURNAL: u32 = 256;
 
-/// Runs the worker on the journal of the image of this name, which is made where there is none. What it has
-/// acknowledged stays in the file that was opened, whenever a crash comes, where that file is honest.
+/// Runs the worker on the journal of a disk. What it has acknowledged stays, whenever a crash comes, where the disk
+/// that is given back is honest.
+fn serve_disk<D: Disk + Drop + Send, R: AllocGlobal + Threads + Wait + Clock + Sync>(
+    rt: &R,
+    disk: D,
+    serving: &Serving,
+) -> Result<Ran<Result<(), Failed>, D>, JournalFault>
+    ensures { IfOk result (Keeps D.Disk disk) }
+{
+    Ok(run(rt, disk, SystemClock::new(rt), Options::new(1), serving)?)
+}
+
+/// The same on the journal of the image of this name, which is made where there is none: in the very file that was
+/// opened or made.
 fn serve<S: Start + Send, R: Files<File = File> + AllocGlobal + Threads + Wait + Clock + Sync>(
     rt: &R,
     image: &str,
@@ -51,17 +63,6 @@ fn serve<S: Start + Send, R: Files<File = File> + AllocGlobal + Threads + Wait +
     ensures { IfOk result (KeepsInImage geometry) }
 {
     Ok(run_image(rt, image, geometry, Options::new(1), serving)?)
-}
-
-/// The same on the journal of a disk.
-fn serve_disk<D: Disk + Drop + Send, R: AllocGlobal + Threads + Wait + Clock + Sync>(
-    rt: &R,
-    disk: D,
-    serving: &Serving,
-) -> Result<Ran<Result<(), Failed>, D>, JournalFault>
-    ensures { IfOk result (Keeps D.Disk disk) }
-{
-    Ok(run(rt, disk, SystemClock::new(rt), Options::new(1), serving)?)
 }
 
 /// What the worker answered, once all that it changed is committed.

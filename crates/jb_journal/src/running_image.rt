@@ -39,8 +39,8 @@ pub fn run_image<
     requires workers { (1 ≤ options.workers) × (options.workers ≤ 64) }
     requires needs { W.needs worker.now options.commits }
     /// From its opening to the end of its run all is said of one file. It was opened with its journal recovered: if it
-    /// is honest, it held the recovered image of what it held when it was opened, all durable, and what a crash leaves
-    /// since its length was asked for, until it was opened, recovers to the same. Or the journal was made in it. Then
+    /// is honest, it then held the recovered image of what it held when it was opened, all durable, and what a crash
+    /// leaves before the run, since its length was asked for, recovers to the same. Or the journal was made in it. And
     /// that very file was run, with all that `run` promises.
     ensures ran { IfOk result (RanInImage geometry options (W.answers worker.now)) }
     /// Without a run, the image was not opened; where that is a fault of the recovery, it is that of what some such
