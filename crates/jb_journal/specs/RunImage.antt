@@ -29,13 +29,13 @@ module _ {T S : Type 0} {start : Starts S} (geometry : ImageGeometry) (options :
     (may : Begun → Shape → Type 0 → ℕ → ℕ → List Stop → Known → T → Type 0) where
   -- What was run in an image: its file was opened with its journal recovered, or its journal was made in it, and the
   -- run was of that very file. All is said of it that is said of a run
-  pub record RanInImage (ran : Ran T (FileDisk S start)) : Type 0 where
+  pub record RanInImage (left : Ran T (FileDisk S start)) : Type 0 where
     pub opened : FileDisk S start
     pub ready : WasRecoveredOrMade geometry opened
-    pub ran : RanOn as_file opened (started_on as_file opened) (may (started_on as_file opened)) options.workers ran
-    pub ends : EndsRun options.checkpoint ran
-    pub since : EndsSince as_file (started_on as_file opened) ran.disk ran.trail.items
-    pub asked : AskedSince opened ran.disk
+    pub ran : RanOn as_file opened (started_on as_file opened) (may (started_on as_file opened)) options.workers left
+    pub ends : EndsRun options.checkpoint left
+    pub since : EndsSince as_file (started_on as_file opened) left.disk left.trail.items
+    pub asked : AskedSince opened left.disk
 
   -- the file of an image was opened so, and its journal was not run, or its run has no whole answer: the file is given
   -- back as that run says

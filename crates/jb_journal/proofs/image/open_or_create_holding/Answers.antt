@@ -7,7 +7,7 @@ pub returns-in-Ok : goal.returns-in-Ok
 returns-in-Ok g c = record { size = c.in-Ok.ensures.opened.sized; ready = inl c.in-Ok.ensures.opened; refused = tt }
 
 pub returns-in-Err-2 : goal.returns-in-Err-2
-returns-in-Err-2 g c = record { size = tt; ready = tt; refused = c.in-Err-2.ensures.refused }
+returns-in-Err-2 g c = record { size = tt; ready = tt; refused = c.in-Err.ensures.refused }
 
 pub returns-in-Ok-create_holding : goal.returns-in-Ok-create_holding
 returns-in-Ok-create_holding g c =
