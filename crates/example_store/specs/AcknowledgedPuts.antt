@@ -2,8 +2,9 @@
 use Rattle.std.specs.Prelude.{◌≡◌, ◌⊎◌, ℕ, ◌≤◌, All, List, [], ◌∷◌, ◌++◌, length, Result, Ok, Err}
 use Rattle.jb_journal.specs.Client.{one_block}
 use Rattle.jb_journal.specs.Notes.{Note, AreInNotes, IsInNotes, Known, Stop}
+use Rattle.jb_journal.specs.OpenFile.{WasRecoveredOrMade}
 use Rattle.jb_journal.specs.Run.{RanOn}
-use Rattle.jb_journal.specs.Names.{Ghosts}
+use Rattle.jb_journal.specs.Names.{Ghosts, Starts, FileDisk, ImageGeometry, as_file}
 use Rattle.jb_journal.specs.Start.{started_on}
 use Rattle.jb_journal.specs.Stays.{HandleStays}
 use Rattle.jb_journal.specs.declared.ran.Ran.{Ran}
@@ -67,3 +68,11 @@ pub record Keeps {D : Type 0} (G : Ghosts D) (disk : D) (ran : Ran (Result Unit 
   pub stay : All (HandleStays G (started_on G disk)
       (λ sure workers at stops known answer. Acknowledges stops known.notes answer) 1 on.shape ran on.all knew.notes)
       acknowledged
+
+-- The same of the file of an image: it was opened with its journal recovered, or its journal was made in it, and what
+-- the store has acknowledged stays in that very file
+pub record KeepsInImage {S : Type 0} {start : Starts S} (geometry : ImageGeometry)
+    (ran : Ran (Result Unit Failed) (FileDisk S start)) : Type 0 where
+  pub opened : FileDisk S start
+  pub ready : WasRecoveredOrMade geometry opened
+  pub keeps : Keeps as_file opened ran

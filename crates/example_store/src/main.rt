@@ -9,7 +9,7 @@
 #![tactic(auto)]
 
 ghost use Rattle.std.specs.Prelude.{IfOk};
-ghost use Rattle.example_store.specs.AcknowledgedPuts.{Keeps};
+ghost use Rattle.example_store.specs.AcknowledgedPuts.{Keeps, KeepsInImage};
 
 mod command;
 mod failed;
@@ -21,8 +21,8 @@ use crate::command::{Command, parse};
 use crate::failed::Failed;
 use crate::serving::Serving;
 use jb_journal::{
-    BlockSize, Disk, ImageGeometry, JournalFault, MemoryDisk, Options, Ran, SystemClock, Width,
-    format, open_or_create, run,
+    BlockSize, Disk, FileDisk, ImageGeometry, JournalFault, MemoryDisk, Options, Ran, Start,
+    SystemClock, Unknown, Width, format, run, run_image,
 };
 use std::alloc::Global;
 use std::env;
@@ -40,9 +40,9 @@ const SIZE: BlockSize = BlockSize::OneKib;
 /// How many blocks the journal has.
 const JOURNAL: u32 = 256;
 
-/// Runs the worker on a journal. What it has acknowledged stays, whenever a crash comes, where the disk that is given
-/// back is honest.
-fn serve<D: Disk + Drop + Send, R: AllocGlobal + Threads + Wait + Clock + Sync>(
+/// Runs the worker on the journal of a disk. What it has acknowledged stays, whenever a crash comes, where the disk
+/// that is given back is honest.
+fn serve_disk<D: Disk + Drop + Send, R: AllocGlobal + Threads + Wait + Clock + Sync>(
     rt: &R,
     disk: D,
     serving: &Serving,
@@ -50,6 +50,19 @@ fn serve<D: Disk + Drop + Send, R: AllocGlobal + Threads + Wait + Clock + Sync>(
     ensures { IfOk result (Keeps D.Disk disk) }
 {
     Ok(run(rt, disk, SystemClock::new(rt), Options::new(1), serving)?)
+}
+
+/// The same on the journal of the image of this name, which is made where there is none: in the very file that was
+/// opened or made.
+fn serve<S: Start + Send, R: Files<File = File> + AllocGlobal + Threads + Wait + Clock + Sync>(
+    rt: &R,
+    image: &str,
+    geometry: ImageGeometry,
+    serving: &Serving,
+) -> Result<Ran<Result<(), Failed>, FileDisk<S>>, JournalFault>
+    ensures { IfOk result (KeepsInImage geometry) }
+{
+    Ok(run_image(rt, image, geometry, Options::new(1), serving)?)
 }
 
 /// What the worker answered, once all that it changed is committed.
@@ -69,8 +82,8 @@ fn serve_on<R: Files<File = File> + AllocGlobal + Threads + Wait + Clock + Sync>
 ) -> Result<(), Failed> {
     let geometry = ImageGeometry::new(SIZE, JOURNAL, store::HOMES);
     match image {
-        Some(image) => answered(serve(rt, open_or_create(rt, &image, geometry)?, serving)?),
-        None => answered(serve(rt, in_memory(rt.alloc())?, serving)?),
+        Some(image) => answered(serve::<Unknown, R>(rt, &image, geometry, serving)?),
+        None => answered(serve_disk(rt, in_memory(rt.alloc())?, serving)?),
     }
 }
 

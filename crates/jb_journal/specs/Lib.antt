@@ -7,5 +7,6 @@ pub mod Notes
 pub mod OpenFile
 pub mod Run
 pub mod RunFaults
+pub mod RunImage
 pub mod Start
 pub mod Stays

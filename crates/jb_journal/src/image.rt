@@ -102,6 +102,9 @@ pub fn open_or_create_holding<S: Start, R: Files<File = File> + AllocGlobal>(
     /// Of an image that is opened or made: its journal was recovered, or the one that was asked for was made in it,
     /// since it was opened.
     ensures ready { IfOk result (WasRecoveredOrMade geometry) }
+    /// Where an image is neither opened nor made, and the fault is one of the recovery, it is that of what some such
+    /// file held, if that is honest. [But see](docs/WRONG_BODIES.md#readers-writers-and-files).
+    ensures refused { IfErr result (RefusesImage S.Start geometry.block_size) }
 {
     match open_whole(rt, name, geometry) {
         Ok(disk) => return Ok(disk),
@@ -131,6 +134,7 @@ fn open_whole<S: Start, R: Files<File = File> + AllocGlobal>(
     geometry: ImageGeometry,
 ) -> Result<FileDisk<S>, JournalFault>
     ensures opened { IfOk result (WasRecovered geometry.block_size) }
+    ensures refused { IfErr result (RefusesImage S.Start geometry.block_size) }
 {
     let mut disk = open_holding::<S, R>(rt, name, geometry.block_size)?;
     let Some(last) = geometry.homes.checked_sub(1) else {

@@ -22,6 +22,11 @@ pub trait FileHost: Files<File = File> + AllocGlobal + Abort {}
 
 impl<R: Files<File = File> + AllocGlobal + Abort> FileHost for R {}
 
+/// What a journal that is run in a file needs: both.
+pub trait ImageHost: Files<File = File> + AllocGlobal + Threads + Wait + Clock + Sync + Abort {}
+
+impl<R: Files<File = File> + AllocGlobal + Threads + Wait + Clock + Sync + Abort> ImageHost for R {}
+
 /// A test, by the runtime that it is run with, and its memory.
 #[derive(Drop)]
 pub struct By<'a, R>(pub &'a R, pub Global);

@@ -10,6 +10,8 @@ mod ends;
 #[cfg(test)]
 mod files;
 #[cfg(test)]
+mod image_runs;
+#[cfg(test)]
 mod images;
 #[cfg(test)]
 mod journals;
