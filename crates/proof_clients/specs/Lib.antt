@@ -1,9 +1,13 @@
 pub mod BookClient
 pub mod Client
+pub mod CutCalls
+pub mod CutRun
+pub mod CutShort
 pub mod ExampleCrashes
 pub mod ExampleMarks
 pub mod Examples
 pub mod Files
 pub mod Lives
 pub mod Programs
+pub mod Traced
 pub mod TwoWorkers

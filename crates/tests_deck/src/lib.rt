@@ -18,6 +18,8 @@ mod commits;
 #[cfg(test)]
 mod contents;
 #[cfg(test)]
+mod cuts;
+#[cfg(test)]
 mod crashes;
 #[cfg(test)]
 mod draws;
