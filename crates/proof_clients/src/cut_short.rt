@@ -11,7 +11,7 @@ ghost use Rattle.jb_recover.specs.Outcomes.{RecoversAs};
 ghost use Rattle.jb_recover.specs.Passes.{PassFaults};
 ghost use Rattle.jb_recover.specs.Recovers.{Recovers};
 ghost use Rattle.proof_clients.specs.CutCalls.{WereMade};
-ghost use Rattle.proof_clients.specs.CutShort.{HadCalls, IsCut, SameShape};
+ghost use Rattle.proof_clients.specs.CutShort.{HadCalls, IsCutShort, HasSameShape};
 ghost use Rattle.proof_clients.specs.Lives.{LeftByLife};
 
 use crate::life;
@@ -30,7 +30,7 @@ pub fn recover_until<D: Disk>(
     disk: D,
     calls: u64,
 ) -> (D, Result<Recovered, RecoverFault>)
-    ensures shape { SameShape D.Disk disk result.0 }
+    ensures shape { HasSameShape D.Disk disk result.0 }
     ensures recovers { D.honest result.0 → Recovers (D.size disk) (D.count disk) (D.newest disk)
         (D.newest result.0) result.1 }
     /// With `settled`: A recovery is cut short before any call of the disk: each image that a crash leaves then could
@@ -43,7 +43,7 @@ pub fn recover_until<D: Disk>(
     /// The disk had no more calls than it was to have, and exactly so many where the recovery was cut short: it answers
     /// a fault of the disk then, and no call that was tried has failed.
     ensures calls { D.faults disk < most_faults
-        → HadCalls D.Disk calls (IsCut D.faults disk result.0 result.1) disk result.0 }
+        → HadCalls D.Disk calls (IsCutShort D.faults disk result.0 result.1) disk result.0 }
 {
     let fuse = FuseDisk::of(disk, calls);
     let (fuse, answer) = recover_traced::<FuseDisk<D>, Brand>(alloc, fuse);
@@ -56,7 +56,7 @@ fn recover_traced<D: Disk, F: First<D>>(
     disk: D,
 ) -> (D, Result<Recovered, RecoverFault>)
     requires first { F.is_first disk }
-    ensures shape { SameShape D.Disk disk result.0 }
+    ensures shape { HasSameShape D.Disk disk result.0 }
     ensures faults { PassFaults result.1 (D.faults disk) (D.faults result.0) }
     ensures recovers { D.honest result.0 → Recovers (D.size disk) (D.count disk) (D.newest disk)
         (D.newest result.0) result.1 }
@@ -81,7 +81,7 @@ pub fn commit_until<D: Disk>(
     stamp: Stamp,
     calls: u64,
 ) -> (D, bool)
-    ensures shape { SameShape D.Disk disk result.0 }
+    ensures shape { HasSameShape D.Disk disk result.0 }
     /// With `ends`: A commit is cut short before any call of the disk: each image that a crash leaves then could have
     /// been left before, or is recovered to the homes as they were with the first groups of the batch; with all of them
     /// where they were reported as committed.
@@ -106,7 +106,7 @@ fn commit_traced<D: Disk, F: First<D>>(
     stamp: Stamp,
 ) -> (D, bool)
     requires first { F.is_first disk }
-    ensures shape { SameShape D.Disk disk result.0 }
+    ensures shape { HasSameShape D.Disk disk result.0 }
     ensures leaves { D.honest result.0 → LeavesOnly D.moment D.left_since disk result.0
         (λ c. D.may_leave disk c
         ⊎ LeftByLife (D.size disk) (D.count disk) (D.newest disk) handles.items false c) }
