@@ -1,7 +1,6 @@
 ghost use Rattle.std.specs.Prelude.{◌≡◌};
 
-use crate::fault_hints::{extents_hint, own_hint, super_hint, system_hint};
-use jb_args::{Hint, OptionName};
+use jb_args::OptionName;
 use jb_dump::DumpFault;
 use jb_ext::OwnFault;
 use jb_format::{ChangeFault, FormatFault};
@@ -151,33 +150,7 @@ impl<'a> From<ChangeFault> for CommandFault<'a> {
 }
 
 impl<'a> CommandFault<'a> {
-    ghost use Rattle.jb_commands.specs.Faults.{hint_of, peek_fault, recover_fault, status_of, super_fault};
-
-    /// The program's exit status: 2 where an option or a file was the reason, else 1.
-    pub fn status(self) -> u8
-        ensures value { result ≡ status_of self.entry }
-    {
-        match self {
-            CommandFault::CannotRead(_, _) | CommandFault::TooLong(_) => 2,
-            CommandFault::InUse(_) | CommandFault::SameFile(_) | CommandFault::CannotMake(_, _) =>
-                2,
-            CommandFault::MountsUnknown(_) | CommandFault::NoLinks(_) => 2,
-            CommandFault::BadOption(_) => 2,
-            CommandFault::ReadFault | CommandFault::Super(_) | CommandFault::BadRevoke(_) => 1,
-            CommandFault::Lost(_) => 1,
-            CommandFault::ChecksumType(_)
-            | CommandFault::SuperChecksum
-            | CommandFault::BadChecksum(_, _) => 1,
-            CommandFault::HomeOutOfRange(_, _, _)
-            | CommandFault::NoHome(_, _)
-            | CommandFault::NeedsRecovery
-            | CommandFault::NumbersSpent => 1,
-            CommandFault::JournalLength(_, _) => 1,
-            CommandFault::FileSystem(_) | CommandFault::Extents(_) | CommandFault::Own(_) => 1,
-            CommandFault::BlockSize | CommandFault::Accounts | CommandFault::Geometry => 1,
-            CommandFault::DeviceFault | CommandFault::Memory | CommandFault::WriteFault => 1,
-        }
-    }
+    ghost use Rattle.jb_commands.specs.Faults.{peek_fault, recover_fault, super_fault};
 
     /// A fault of a recovery of an image with this many home blocks, where that is known.
     pub(crate) fn of_recovery(fault: CheckedFault, homes: Option<u64>) -> CommandFault<'a>
@@ -216,44 +189,6 @@ impl<'a> CommandFault<'a> {
             CheckedSuperFault::Super(fault) => CommandFault::Super(fault),
             CheckedSuperFault::ChecksumType(kind) => CommandFault::ChecksumType(kind),
             CheckedSuperFault::Checksum => CommandFault::SuperChecksum,
-        }
-    }
-
-    /// What a second line is about after its line.
-    pub fn hint(self) -> Hint
-        /// The hint of each fault.
-        ensures value { result ≡ hint_of self.entry }
-    {
-        match self {
-            CommandFault::CannotRead(_, code) => Hint::CannotRead(code),
-            CommandFault::InUse(_) => Hint::InUse,
-            CommandFault::MountsUnknown(_) => Hint::MountsUnknown,
-            CommandFault::NoLinks(_) => Hint::NoLinks,
-            CommandFault::SameFile(_) => Hint::SameFile,
-            CommandFault::CannotMake(_, code) => Hint::CannotMake(code),
-            CommandFault::BadOption(option) => Hint::BadOption(option),
-            CommandFault::TooLong(_) => Hint::TooLong,
-            CommandFault::ReadFault => Hint::ReadFault,
-            CommandFault::Super(fault) => super_hint(fault),
-            CommandFault::JournalLength(_, _) => Hint::JournalLength,
-            CommandFault::FileSystem(fault) => system_hint(fault),
-            CommandFault::Extents(fault) => extents_hint(fault),
-            CommandFault::Own(fault) => own_hint(fault),
-            CommandFault::ChecksumType(_) => Hint::SuperChecksumType,
-            CommandFault::SuperChecksum => Hint::SuperChecksum,
-            CommandFault::BadChecksum(_, _) => Hint::BadChecksum,
-            CommandFault::Lost(_) => Hint::Lost,
-            CommandFault::BadRevoke(_) => Hint::BadRevoke,
-            CommandFault::HomeOutOfRange(_, _, homes) => Hint::HomeOutOfRange(homes),
-            CommandFault::NoHome(_, homes) => Hint::NoHome(homes),
-            CommandFault::NeedsRecovery => Hint::NeedsRecovery,
-            CommandFault::NumbersSpent => Hint::NumbersSpent,
-            CommandFault::BlockSize => Hint::BlockSize,
-            CommandFault::Accounts => Hint::Accounts,
-            CommandFault::Geometry => Hint::Geometry,
-            CommandFault::DeviceFault => Hint::DeviceFault,
-            CommandFault::Memory => Hint::Memory,
-            CommandFault::WriteFault => Hint::WriteFault,
         }
     }
 }

@@ -2,35 +2,14 @@
 ghost use Rattle.std.specs.Prelude.{◌≡◌, None};
 ghost use Rattle.jb_commands.specs.FaultLines.{parts_of};
 ghost use Rattle.jb_commands.specs.Lines.{line_naming};
-ghost use Rattle.jb_commands.specs.OwnLines.{field_words, inode_words, map_line, node_line, own_fault_line};
+ghost use Rattle.jb_commands.specs.OwnLines.{field_words, inode_words, map_line, node_line};
 
 use crate::streams::fault_line::Numbers;
-use jb_ext::{FieldName, InodeFault, OwnFault};
+use jb_ext::{FieldName, InodeFault};
 use jb_map::{MapFault, NodeFault};
 
-/// The words of the line, and its numbers.
-pub(crate) fn words_of_own(fault: OwnFault) -> (&'static str, Numbers)
-    ensures { own_fault_line fault ≡ line_naming (parts_of result.0.now result.1) None }
-{
-    match fault {
-        OwnFault::NoSystem => ("jb: Own NoSystem", Numbers::None),
-        OwnFault::Device => ("jb: Own Device", Numbers::None),
-        OwnFault::Feature(bits) => ("jb: Own Feature ", Numbers::One(u64::from(bits))),
-        OwnFault::NoJournal => ("jb: Own None", Numbers::None),
-        OwnFault::External => ("jb: Own External", Numbers::None),
-        OwnFault::Field(field, number) => (words_of_field(field), Numbers::One(number)),
-        OwnFault::Descriptor(block) => ("jb: Own Descriptor ", Numbers::One(block)),
-        OwnFault::Table(block) => ("jb: Own Table ", Numbers::One(block)),
-        OwnFault::Inode(fault) => (words_of_inode(fault), Numbers::None),
-        OwnFault::Map(fault) => words_of_map(fault),
-        OwnFault::Differs => ("jb: Own Differs", Numbers::None),
-        OwnFault::NoSuper(block) => ("jb: Own NoSuper ", Numbers::One(block)),
-        OwnFault::Short => ("jb: Own Short", Numbers::None),
-    }
-}
-
-/// The same of a field of the superblock that is refused; its number comes after them.
-fn words_of_field(field: FieldName) -> &'static str
+/// The words of the line of a field of the superblock that is refused; its number comes after them.
+pub(crate) fn words_of_field(field: FieldName) -> &'static str
     ensures { field_words field ≡ result.now }
 {
     match field {
@@ -47,7 +26,7 @@ fn words_of_field(field: FieldName) -> &'static str
 }
 
 /// The same of an inode that is refused.
-fn words_of_inode(fault: InodeFault) -> &'static str
+pub(crate) fn words_of_inode(fault: InodeFault) -> &'static str
     ensures { inode_words fault ≡ result.now }
 {
     match fault {
@@ -60,8 +39,8 @@ fn words_of_inode(fault: InodeFault) -> &'static str
     }
 }
 
-/// The same of a map of the journal's blocks that is damaged.
-fn words_of_map(fault: MapFault) -> (&'static str, Numbers)
+/// The same of a map of the journal's blocks that is damaged, with its numbers.
+pub(crate) fn words_of_map(fault: MapFault) -> (&'static str, Numbers)
     ensures { map_line fault ≡ line_naming (parts_of result.0.now result.1) None }
 {
     match fault {
