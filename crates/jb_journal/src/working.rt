@@ -86,7 +86,7 @@ fn work_each<
         workers,
         &|at: usize, place: &mut WorkerResult<T, D, H, N>|
             requires { (shape ≡ shape_in desk.now) × (1 ≤ workers) × (workers ≤ 64)
-                × ((words : WordMap) → H.begun.stops words) × W.needs worker.entry.now commits }
+                × ((words : WordMap) → H.begun.stops words) × W.needs worker.now commits }
             ensures { HasWorked D.Disk (W.answers worker.entry.now H.begun shape) workers at place.exit.now }
         { *place = work_at(rt, desk, shape, gate, commits, workers, worker, at) },
     );
