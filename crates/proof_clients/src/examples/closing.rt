@@ -8,7 +8,7 @@ ghost use Rattle.jb_deck.specs.Calls.{IsRecoveredTo};
 ghost use Rattle.jb_deck.specs.Deck.{OpenDeck};
 ghost use Rattle.jb_deck.specs.declared.done.Entry.{Entry};
 ghost use Rattle.std.proofs.Common.{Vec, Global};
-ghost use Rattle.jb_book.specs.Origin.{Begun, unknown};
+ghost use Rattle.jb_book.specs.Origin.{unknown};
 ghost use Rattle.jb_book.specs.Since.{AreGroups, HasFirst};
 ghost use Rattle.jb_book.specs.History.{CameAbout};
 ghost use Rattle.jb_book.specs.SinceMark.{EndsMarked};
@@ -55,17 +55,18 @@ pub fn came_about<D: Disk, H: Origin>()
 /// it alone.
 /// No cut of them divides the second transaction or joins both, and in a journal that has not failed none goes on after
 /// them. No crash leaves the first two handles, or all at the number that comes after one transaction.
-pub fn ends_between()
+pub fn ends_between<H: Origin>()
     ensures meets { AreGroups false two_entries (0 ∷ 1 ∷ 3 ∷ []) }
     ensures meets_taken { AreGroups false (entry 8 1 3 ∷ []) (0 ∷ 1 ∷ 3 ∷ []) }
-    ensures meets_left { (b : Begun) (given : List Stopped) (c : Image) → length given ≡ 3
-        → IsRecoveredTo b.own (b.own.sequence + 1 + 1) b.size b.count b.homes (take 1 given) c
-        → HasFirst b given (0 ∷ 1 ∷ 3 ∷ []) 1 c }
+    ensures meets_left { (given : List Stopped) (c : Image) → length given ≡ 3
+        → IsRecoveredTo H.begun.own (H.begun.own.sequence + 1 + 1) H.begun.size H.begun.count
+        H.begun.homes (take 1 given) c
+        → HasFirst H.begun given (0 ∷ 1 ∷ 3 ∷ []) 1 c }
     ensures not_divided { AreGroups false two_entries (0 ∷ 1 ∷ 2 ∷ 3 ∷ []) → ⊥ }
     ensures not_joined { AreGroups false two_entries (0 ∷ 3 ∷ []) → ⊥ }
     ensures not_further { AreGroups false two_entries (0 ∷ 1 ∷ 3 ∷ 4 ∷ []) → ⊥ }
-    ensures not_within { (b : Begun) (given : List Stopped) (least : ℕ) (c : Image)
-        → (left : HasFirst b given (0 ∷ 1 ∷ 3 ∷ []) least c) → left.many ≡ 2 → ⊥ }
-    ensures not_number { (b : Begun) (given : List Stopped) (least : ℕ) (c : Image)
-        → (left : HasFirst b given (0 ∷ 1 ∷ 3 ∷ []) least c) → left.many ≡ 3 → left.groups ≡ 1 → ⊥ }
+    ensures not_within { (given : List Stopped) (least : ℕ) (c : Image)
+        → (left : HasFirst H.begun given (0 ∷ 1 ∷ 3 ∷ []) least c) → left.many ≡ 2 → ⊥ }
+    ensures not_number { (given : List Stopped) (least : ℕ) (c : Image)
+        → (left : HasFirst H.begun given (0 ∷ 1 ∷ 3 ∷ []) least c) → left.many ≡ 3 → left.groups ≡ 1 → ⊥ }
 {}
