@@ -64,8 +64,8 @@ pub record IsCutRun {T D : Type 0} (F : Ghosts (FuseDisk D)) (G : Ghosts D) (dis
   pub known : G.honest ran.disk
       → All (LeavesKnown G (started_on F fuse) over.all.ends.since.given ran.disk) over.all.known
 
--- What a fuse has left of a run that has no answer: over the fuse it was refused as any is (`IsNotRun`), and the disk is
--- the one that is inside the fuse then
+-- What a fuse has left of a run that has no answer: over the fuse it was refused as any is (`IsNotRun`), and the disk
+-- is the one that is inside the fuse then
 pub record IsCutNotRun {T D : Type 0} (F : Ghosts (FuseDisk D)) (disk : D) (commits : Commits)
     (may : Begun → Shape → Type 0 → ℕ → ℕ → List Stop → Known → T → Type 0) (workers : ℕ) (back : NotRun T D)
     : Type 0 where

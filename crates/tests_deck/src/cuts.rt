@@ -78,7 +78,7 @@ fn cut_recovery(
 fn cut_commits(test: &impl Bench) {
     for calls in 0..MOST {
         if cut_commit(test, calls) {
-            return check_at(test, calls == 42, "calls of a whole commit:", calls);
+            return check_at(test, calls == 43, "calls of a whole commit:", calls);
         }
     }
     fail(test, "the commit never ends")
