@@ -13,6 +13,8 @@ use Rattle.jb_journal.specs.Notes.{Known, Stop, committed_by}
 use Rattle.jb_journal.specs.Run.{RanOn}
 use Rattle.jb_journal.specs.RunFaults.{IsNotRun}
 use Rattle.jb_journal.specs.Start.{started_on}
+use Rattle.jb_journal.specs.declared.fault.RunFault.{RunFault}
+use Rattle.jb_journal.specs.declared.fault.RunFault.TheVariants.{Open, Memory, NoThread, Accounts}
 use Rattle.jb_journal.specs.declared.not_run.NotRun.{NotRun}
 use Rattle.jb_journal.specs.declared.options.Commits.{Commits}
 use Rattle.jb_journal.specs.declared.ran.Ran.{Ran}
@@ -64,9 +66,18 @@ pub record IsCutRun {T D : Type 0} (F : Ghosts (FuseDisk D)) (G : Ghosts D) (dis
   pub known : G.honest ran.disk
       → All (LeavesKnown G (started_on F fuse) over.all.ends.since.given ran.disk) over.all.known
 
+-- what a crash leaves now of the disk of a run that has no answer for this: the first of some handles; where the
+-- journal was not opened no clause of a run says it
+abbrev pub LeavesSome : {D : Type 0} → Ghosts D → Begun → D → RunFault → Type 0
+LeavesSome G b last (Open why) = Unit {0}
+LeavesSome G b last Memory = (given : List Stopped) × LeavesFirst G b given last 0
+LeavesSome G b last NoThread = (given : List Stopped) × LeavesFirst G b given last 0
+LeavesSome G b last Accounts = (given : List Stopped) × LeavesFirst G b given last 0
+
 -- What a fuse has left of a run that has no answer: over the fuse it was refused as any is (`IsNotRun`), and the disk
--- is the one that is inside the fuse then
-pub record IsCutNotRun {T D : Type 0} (F : Ghosts (FuseDisk D)) (disk : D) (commits : Commits)
+-- is the one that is inside the fuse then. If that is honest, what a crash leaves of it now recovers to some handles,
+-- perhaps none, unless the journal was not opened
+pub record IsCutNotRun {T D : Type 0} (F : Ghosts (FuseDisk D)) (G : Ghosts D) (disk : D) (commits : Commits)
     (may : Begun → Shape → Type 0 → ℕ → ℕ → List Stop → Known → T → Type 0) (workers : ℕ) (back : NotRun T D)
     : Type 0 where
   pub fuse : FuseDisk D
@@ -74,3 +85,4 @@ pub record IsCutNotRun {T D : Type 0} (F : Ghosts (FuseDisk D)) (disk : D) (comm
   pub last : FuseDisk D
   pub over : IsNotRun F fuse (started_on F fuse) commits (may (started_on F fuse)) workers (not_over_fuse last back)
   pub same_disk : back.disk ≡ disk_of last
+  pub now : G.honest back.disk → LeavesSome G (started_on F fuse) back.disk back.fault

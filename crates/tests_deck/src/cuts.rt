@@ -101,7 +101,7 @@ fn cut_recoveries(test: &impl Bench) {
     );
     for calls in 0..MOST {
         if cut_recovery(test, &image, &mut wanted, calls) {
-            return check_at(test, calls > 9, "calls of a whole recovery:", calls);
+            return check_at(test, calls == 17, "calls of a whole recovery:", calls);
         }
     }
     fail(test, "the recovery never ends")
