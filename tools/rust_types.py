@@ -184,8 +184,8 @@ def bounding(source, generics, head, ghost):
 
 
 def free_words(source, at, text, bound, generics):
-    """What the words of a clause or of a ghost mean, in order."""
-    scope = source.scope_at(at)
+    """What the words of a clause or of a ghost mean, in order; of a quote, `⟦<Type<D> as Trait>⟧`, its type and its trait."""
+    scope, text = source.scope_at(at), re.sub(r"⟦<(\w+).*? as (\w+)>⟧", r"(\1 \2)", text)
     parts = with_parts(scope.names)
     reader = Reader(lambda name: is_constructor(scope, parts, name))
     reader.read(nodes_of(text), set(bound))

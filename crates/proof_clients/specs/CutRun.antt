@@ -13,6 +13,8 @@ use Rattle.jb_journal.specs.Notes.{Known, Stop, committed_by}
 use Rattle.jb_journal.specs.Run.{RanOn}
 use Rattle.jb_journal.specs.RunFaults.{IsNotRun}
 use Rattle.jb_journal.specs.Start.{started_on}
+use Rattle.jb_journal.specs.declared.fault.RunFault.{RunFault}
+use Rattle.jb_journal.specs.declared.fault.RunFault.TheVariants.{Open, Memory, NoThread, Accounts}
 use Rattle.jb_journal.specs.declared.not_run.NotRun.{NotRun}
 use Rattle.jb_journal.specs.declared.options.Commits.{Commits}
 use Rattle.jb_journal.specs.declared.ran.Ran.{Ran}
@@ -41,17 +43,17 @@ CountsNow G last =
     (t : ℕ) (c : Image) → G.honest last → t ≤ G.moment last → G.may_leave last c → G.left_since last t c
 
 -- each image that a crash leaves of the disk now is recovered to the homes of the start with the first of these
--- handles, at least this many
-abbrev pub LeavesFirst : {D : Type 0} → Ghosts D → Begun → List Stopped → D → ℕ → Type 0
-LeavesFirst G b given last least = AllHave G.may_leave last (HasFirst b given least)
+-- handles, at least this many, up to the end of one of the groups into which they are cut at these bounds
+abbrev pub LeavesFirst : {D : Type 0} → Ghosts D → Begun → List Stopped → List ℕ → D → ℕ → Type 0
+LeavesFirst G b given bounds last least = AllHave G.may_leave last (HasFirst b given bounds least)
 
 -- at least those that a client knew to be committed at any of its notes
-abbrev pub LeavesKnown : {D : Type 0} → Ghosts D → Begun → List Stopped → D → Known → Type 0
-LeavesKnown G b given last knew = All (λ n. LeavesFirst G b given last (committed_by n)) knew.notes
+abbrev pub LeavesKnown : {D : Type 0} → Ghosts D → Begun → List Stopped → List ℕ → D → Known → Type 0
+LeavesKnown G b given bounds last knew = All (λ n. LeavesFirst G b given bounds last (committed_by n)) knew.notes
 
 -- What a fuse has left of a run. Over the fuse it was a run as any is (`RanOn`), and the disk is the one that is inside
--- the fuse then. If that is honest, what a crash leaves of it now recovers to the first of the handles that the journal
--- was given, perhaps none, and to all that any client knew to be committed
+-- the fuse then. If that is honest, what a crash leaves of it now recovers to the first groups of the handles that the
+-- journal was given, perhaps none, and to all that any client knew to be committed
 pub record IsCutRun {T D : Type 0} (F : Ghosts (FuseDisk D)) (G : Ghosts D) (disk : D)
     (may : Begun → Shape → Type 0 → ℕ → ℕ → List Stop → Known → T → Type 0) (workers : ℕ) (ran : Ran T D)
     : Type 0 where
@@ -60,13 +62,24 @@ pub record IsCutRun {T D : Type 0} (F : Ghosts (FuseDisk D)) (G : Ghosts D) (dis
   pub last : FuseDisk D
   pub over : RanOn F fuse (started_on F fuse) (may (started_on F fuse)) workers (over_fuse last ran)
   pub same_disk : ran.disk ≡ disk_of last
-  pub now : G.honest ran.disk → LeavesFirst G (started_on F fuse) over.all.ends.since.given ran.disk 0
+  pub now : G.honest ran.disk
+      → LeavesFirst G (started_on F fuse) over.all.ends.since.given over.all.ends.since.bounds ran.disk 0
   pub known : G.honest ran.disk
-      → All (LeavesKnown G (started_on F fuse) over.all.ends.since.given ran.disk) over.all.known
+      → All (LeavesKnown G (started_on F fuse) over.all.ends.since.given over.all.ends.since.bounds ran.disk)
+      over.all.known
+
+-- what a crash leaves now of the disk of a run that has no answer for this: the first of some handles; where the
+-- journal was not opened no clause of a run says it
+abbrev pub LeavesSome : {D : Type 0} → Ghosts D → Begun → D → RunFault → Type 0
+LeavesSome G b last (Open why) = Unit {0}
+LeavesSome G b last Memory = (given : List Stopped) × (bounds : List ℕ) × LeavesFirst G b given bounds last 0
+LeavesSome G b last NoThread = (given : List Stopped) × (bounds : List ℕ) × LeavesFirst G b given bounds last 0
+LeavesSome G b last Accounts = (given : List Stopped) × (bounds : List ℕ) × LeavesFirst G b given bounds last 0
 
 -- What a fuse has left of a run that has no answer: over the fuse it was refused as any is (`IsNotRun`), and the disk
--- is the one that is inside the fuse then
-pub record IsCutNotRun {T D : Type 0} (F : Ghosts (FuseDisk D)) (disk : D) (commits : Commits)
+-- is the one that is inside the fuse then. If that is honest, what a crash leaves of it now recovers to some handles,
+-- perhaps none, unless the journal was not opened
+pub record IsCutNotRun {T D : Type 0} (F : Ghosts (FuseDisk D)) (G : Ghosts D) (disk : D) (commits : Commits)
     (may : Begun → Shape → Type 0 → ℕ → ℕ → List Stop → Known → T → Type 0) (workers : ℕ) (back : NotRun T D)
     : Type 0 where
   pub fuse : FuseDisk D
@@ -74,3 +87,4 @@ pub record IsCutNotRun {T D : Type 0} (F : Ghosts (FuseDisk D)) (disk : D) (comm
   pub last : FuseDisk D
   pub over : IsNotRun F fuse (started_on F fuse) commits (may (started_on F fuse)) workers (not_over_fuse last back)
   pub same_disk : back.disk ≡ disk_of last
+  pub now : G.honest back.disk → LeavesSome G (started_on F fuse) back.disk back.fault

@@ -27,11 +27,11 @@ pub record HadCalls {D : Type 0} (G : Ghosts D) (calls : ℕ) (is_cut : Type 0) 
   pub all : is_cut → passed ≡ calls
 
 -- the size of the blocks and their number stay, and a disk that is honest then was so before
-pub record HasSameShape {D : Type 0} (G : Ghosts D) (first last : D) : Type 0 where
+pub record KeepsShape {D : Type 0} (G : Ghosts D) (first last : D) : Type 0 where
   pub same_size : G.size last ≡ G.size first
   pub same_count : G.count last ≡ G.count first
   pub was_honest : G.honest last → G.honest first
 
 -- a recovery was cut short: it answers a fault of the disk, and no call that was tried has failed
-abbrev pub IsCutShort : {D : Type 0} → (D → ℕ) → D → D → Result Recovered RecoverFault → Type 0
-IsCutShort faults first last answer = (answer ≡ Err DeviceFault) × (faults last ≡ faults first)
+abbrev pub WasCut : {D : Type 0} → (D → ℕ) → D → D → Result Recovered RecoverFault → Type 0
+WasCut faults first last answer = (answer ≡ Err DeviceFault) × (faults last ≡ faults first)

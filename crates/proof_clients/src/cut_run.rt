@@ -34,9 +34,10 @@ pub fn run_until<
     /// ticket, and to all that any client knew to be committed. All that a run promises, it promises of the disk inside
     /// the fuse.
     ensures ran { IfOk result (IsCutRun ⟦<FuseDisk<D> as Disk>⟧ D.Disk disk (W.answers worker.now) options.workers) }
-    /// One that gives no answer says why, as a run does.
-    ensures refused { IfErr result (IsCutNotRun ⟦<FuseDisk<D> as Disk>⟧ disk options.commits (W.answers worker.now)
-        options.workers) }
+    /// One that gives no answer says why, as a run does. What a crash leaves then recovers to some handles, perhaps
+    /// none, unless the journal was not opened.
+    ensures refused { IfErr result (IsCutNotRun ⟦<FuseDisk<D> as Disk>⟧ D.Disk disk options.commits
+        (W.answers worker.now) options.workers) }
 {
     match run(rt, FuseDisk::of(disk, calls), clock, options, worker) {
         Ok(ran) => Ok(taken(ran)),
@@ -75,7 +76,8 @@ fn taken<T, D: Disk>(ran: Ran<T, FuseDisk<D>>) -> Ran<T, D>
 
 /// What is given back of a run over a fuse that has no answer, with the disk inside it.
 fn given_back<T, D: Disk>(back: NotRun<T, FuseDisk<D>>) -> NotRun<T, D>
-    ensures { (back ≡ not_over_fuse back.disk result) × (result.disk ≡ disk_of back.disk) }
+    ensures same { (back ≡ not_over_fuse back.disk result) × (result.disk ≡ disk_of back.disk) }
+    ensures counts_now { CountsNow ⟦<FuseDisk<D> as Disk>⟧ back.disk }
 {
     let NotRun {
         disk,

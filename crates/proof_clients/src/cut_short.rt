@@ -11,7 +11,7 @@ ghost use Rattle.jb_recover.specs.Outcomes.{RecoversAs};
 ghost use Rattle.jb_recover.specs.Passes.{PassFaults};
 ghost use Rattle.jb_recover.specs.Recovers.{Recovers};
 ghost use Rattle.proof_clients.specs.CutCalls.{WereMade};
-ghost use Rattle.proof_clients.specs.CutShort.{HadCalls, IsCutShort, HasSameShape};
+ghost use Rattle.proof_clients.specs.CutShort.{HadCalls, WasCut, KeepsShape};
 ghost use Rattle.proof_clients.specs.Lives.{LeftByLife};
 
 use crate::life;
@@ -30,20 +30,21 @@ pub fn recover_until<D: Disk>(
     disk: D,
     calls: u64,
 ) -> (D, Result<Recovered, RecoverFault>)
-    ensures shape { HasSameShape D.Disk disk result.0 }
+    ensures shape { KeepsShape D.Disk disk result.0 }
     ensures recovers { D.honest result.0 → Recovers (D.size disk) (D.count disk) (D.newest disk)
         (D.newest result.0) result.1 }
-    /// With `settled`: A recovery is cut short before any call of the disk: each image that a crash leaves then could
-    /// have been left before, or recovers to what a whole recovery makes of the image as it was read then; only the
-    /// second where nothing was pending before.
+    /// A recovery is cut short before any call of the disk: each image that a crash leaves then could have been left
+    /// before, or recovers to what a whole recovery makes of the image as it was read then.
+    ///
+    /// With `settled`: Where nothing was pending before, it recovers to that.
     ensures leaves { D.honest result.0 → AllHave D.may_leave result.0
         (λ c. D.may_leave disk c ⊎ RecoversAs (D.size disk) (D.count disk) (D.newest disk) c) }
     ensures settled { D.honest result.0 → Only (D.newest disk) (D.may_leave disk) → AllHave D.may_leave result.0
         (RecoversAs (D.size disk) (D.count disk) (D.newest disk)) }
-    /// The disk had no more calls than it was to have, and exactly so many where the recovery was cut short: it answers
-    /// a fault of the disk then, and no call that was tried has failed.
+    /// The disk of a recovery that is cut short had no more calls than it was to have, and exactly so many where the
+    /// recovery answers a fault of the disk, and no call that was tried has failed.
     ensures calls { D.faults disk < most_faults
-        → HadCalls D.Disk calls (IsCutShort D.faults disk result.0 result.1) disk result.0 }
+        → HadCalls D.Disk calls (WasCut D.faults disk result.0 result.1) disk result.0 }
 {
     let fuse = FuseDisk::of(disk, calls);
     let (fuse, answer) = recover_traced::<FuseDisk<D>, Brand>(alloc, fuse);
@@ -56,7 +57,7 @@ fn recover_traced<D: Disk, F: First<D>>(
     disk: D,
 ) -> (D, Result<Recovered, RecoverFault>)
     requires first { F.is_first disk }
-    ensures shape { HasSameShape D.Disk disk result.0 }
+    ensures shape { KeepsShape D.Disk disk result.0 }
     ensures faults { PassFaults result.1 (D.faults disk) (D.faults result.0) }
     ensures recovers { D.honest result.0 → Recovers (D.size disk) (D.count disk) (D.newest disk)
         (D.newest result.0) result.1 }
@@ -81,16 +82,17 @@ pub fn commit_until<D: Disk>(
     stamp: Stamp,
     calls: u64,
 ) -> (D, bool)
-    ensures shape { HasSameShape D.Disk disk result.0 }
-    /// With `ends`: A commit is cut short before any call of the disk: each image that a crash leaves then could have
-    /// been left before, or is recovered to the homes as they were with the first groups of the batch; with all of them
-    /// where they were reported as committed.
+    ensures shape { KeepsShape D.Disk disk result.0 }
+    /// A commit is cut short before any call of the disk: each image that a crash leaves then could have been left
+    /// before, or is recovered to the homes as they were with the first groups of the batch, freed homes aside.
+    ///
+    /// With `ends`: It has all of them where they were reported as committed.
     ensures leaves { D.honest result.0 → AllHave D.may_leave result.0
         (λ c. D.may_leave disk c
         ⊎ LeftByLife (D.size disk) (D.count disk) (D.newest disk) handles.items false c) }
     ensures ends { D.honest result.0 → result.1 ≡ true → AllHave D.may_leave result.0
         (LeftByLife (D.size disk) (D.count disk) (D.newest disk) handles.items true) }
-    /// The disk had no more calls than it was to have.
+    /// The disk of a commit that is cut short had no more calls than it was to have.
     ensures calls { D.faults disk < most_faults → HadCalls D.Disk calls ⊥ disk result.0 }
 {
     let fuse = FuseDisk::of(disk, calls);
@@ -106,7 +108,7 @@ fn commit_traced<D: Disk, F: First<D>>(
     stamp: Stamp,
 ) -> (D, bool)
     requires first { F.is_first disk }
-    ensures shape { HasSameShape D.Disk disk result.0 }
+    ensures shape { KeepsShape D.Disk disk result.0 }
     ensures leaves { D.honest result.0 → LeavesOnly D.moment D.left_since disk result.0
         (λ c. D.may_leave disk c
         ⊎ LeftByLife (D.size disk) (D.count disk) (D.newest disk) handles.items false c) }

@@ -36,7 +36,12 @@ fn committed_until(test: &impl Bench, calls: u64) -> (MemoryDisk, bool) {
 fn homes_left(test: &impl Bench, disk: &MemoryDisk, choice: &[u32], calls: u64) -> (u8, u8) {
     let mut left = crashed(test, disk, choice);
     let is_whole = is_recovered(test.alloc(), &mut left);
-    check_at(test, is_whole, "no recovery of a commit that is cut at", calls);
+    check_at(
+        test,
+        is_whole,
+        "no recovery of a commit that is cut at",
+        calls,
+    );
     let (mut one, mut two) = ([0; 1024], [0; 1024]);
     read_at(test, &mut left, HOMES, &mut one);
     read_at(test, &mut left, HOMES.saturating_add(1), &mut two);
@@ -78,7 +83,7 @@ fn cut_recovery(
 fn cut_commits(test: &impl Bench) {
     for calls in 0..MOST {
         if cut_commit(test, calls) {
-            return check_at(test, calls == 42, "calls of a whole commit:", calls);
+            return check_at(test, calls == 43, "calls of a whole commit:", calls);
         }
     }
     fail(test, "the commit never ends")
@@ -96,7 +101,7 @@ fn cut_recoveries(test: &impl Bench) {
     );
     for calls in 0..MOST {
         if cut_recovery(test, &image, &mut wanted, calls) {
-            return check_at(test, calls > 9, "calls of a whole recovery:", calls);
+            return check_at(test, calls == 17, "calls of a whole recovery:", calls);
         }
     }
     fail(test, "the recovery never ends")

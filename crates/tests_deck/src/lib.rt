@@ -18,9 +18,9 @@ mod commits;
 #[cfg(test)]
 mod contents;
 #[cfg(test)]
-mod cuts;
-#[cfg(test)]
 mod crashes;
+#[cfg(test)]
+mod cuts;
 #[cfg(test)]
 mod draws;
 #[cfg(test)]
