@@ -9,7 +9,8 @@ use jb_disk::Disk;
 /// of the handles of the history, with those up to this one at least. The marks are some of those with which the desk
 /// was closed.
 pub fn stays<D: Disk, H: Origin>()
-    /// A handle that was waited for stays: what a crash leaves at any moment from the mark to the close has it.
+    /// A handle that was waited for stays: what a crash leaves at any moment from the mark to the close has it, and ends
+    /// between two groups ([example: `ends_between`](crates/proof_clients/src/examples/closing.rt)).
     ensures { ShownStays D.Disk H.begun }
 {}
 

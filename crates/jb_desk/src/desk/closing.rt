@@ -117,10 +117,9 @@ impl<D: Disk + Drop, C: Clock, H: Origin, N: Ledger> Desk<D, C, H, N> {
         /// are durable (n may be 0). If no call of the disk has failed, the homes are as these n say, freed ones aside.
         /// A crash at the end recovers to these n at least. One after a mark recovers to all that were durable at the
         /// mark, at least. Any other recovers to some first handles, perhaps none, or its image could have been left
-        /// before the start ([example: `ends_marked`](crates/proof_clients/src/examples/closing.rt)). The handles are
-        /// cut into groups, of which the trail lists the last, but for those of a batch that failed; and what a crash
-        /// recovers to ends between two of them ([example:
-        /// `ends_between`](crates/proof_clients/src/examples/closing.rt)).
+        /// before the start. The handles are cut into groups, of which the trail lists the last, but for those of a
+        /// batch that failed; and what a crash recovers to ends between two of them ([example:
+        /// `ends_marked`](crates/proof_clients/src/examples/closing.rt)).
         ///
         /// Of a closed desk the stops that were handed to it as seen are the first of its history, and each mark that
         /// was so lasts: if the disk that it gives is honest, it was so at the mark, and what a crash leaves at any
