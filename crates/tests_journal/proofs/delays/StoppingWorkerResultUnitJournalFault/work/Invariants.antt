@@ -7,5 +7,5 @@ use Rattle.tests_journal.proofs.delays.StoppingWorkerResultUnitJournalFault.work
 abbrev pub invariant-loop : goal.invariant-loop
 invariant-loop g l = record {
   client : IsClient g.H.Origin.begun l.client;
-  commits : g.args.self.now.is_awaited ≡ true → when_committed l.client ≡ Meanwhile;
+  commits : l.fn.self.is_awaited ≡ true → when_committed l.client ≡ Meanwhile;
 }
