@@ -3,11 +3,11 @@ ghost use Rattle.std.specs.Prelude.{◌≡◌, ◌+◌, ◌^◌, [], false};
 ghost use Rattle.jb_desk.specs.History.{history_in};
 ghost use Rattle.jb_board.specs.History.{history_id};
 
-use crate::journal::{CLOCK, PARTS, Small, Still, formatted, opened};
+use crate::journal::{CLOCK, PARTS, Still};
 use jb_board::NewHistory;
 use jb_deck::Deck;
 use jb_desk::{Desk, Origin, StopLedger};
-use jb_disk::{Disk, MemoryDisk};
+use jb_disk::Disk;
 use std::alloc::Global;
 use std::process::Abort;
 use std::sync::ledger::{Blank, Ledger};
@@ -43,21 +43,4 @@ pub fn start<D: Disk + Drop, H: Origin, N: Ledger>(
     Desk::start(alloc, handles, changes, marks, deck, CLOCK)
         .ok()
         .expect(rt, "the desk is not started")
-}
-
-/// Starts a desk over the small journal.
-pub fn small<H: Origin, N: Ledger>(
-    rt: &impl Abort,
-    alloc: Global,
-    handles: StopLedger,
-    changes: Blank,
-    marks: NewHistory<Deck<MemoryDisk>>,
-) -> Small<H, N>
-    requires blind { (H.begun.is_known → ⊥) × (H.begun.none_failed → ⊥) }
-    requires handles { (handles.tickets.name ≡ H.name) × (handles.tickets.parts ≡ H.parts) × (H.parts ≡ 2 ^ 61 + 1) }
-    requires histories { (history_in handles ≡ H.history) × (history_id marks ≡ H.marks) }
-    requires changes { (changes.name ≡ N.name) × (changes.parts ≡ N.parts) × (N.parts ≡ 2 ^ 61 + 1) }
-{
-    let deck = opened(alloc, formatted(rt, alloc)).expect(rt, "the journal is not opened");
-    start(rt, alloc, handles, changes, marks, deck)
 }

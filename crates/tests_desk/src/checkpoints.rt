@@ -1,32 +1,24 @@
 //! Groups that are brought home: a checkpoint that fails, and a checkpointer that ends.
 ghost use Rattle.std.specs.Prelude.{◌≡◌, ◌+◌, ◌^◌};
-ghost use Rattle.jb_desk.specs.History.{history_in};
-ghost use Rattle.jb_board.specs.History.{history_id};
 ghost use Rattle.jb_desk.specs.Desks.{desk_id};
 ghost use Rattle.jb_desk.specs.Seats.{desk_of};
 ghost use Rattle.jb_handle.specs.Word.{WordMap};
 
-use crate::blind::{marks, small, start, stops};
-use crate::checks::{check, check_at, fail};
-use crate::closing::{closed, left};
-use crate::journal::{
-    Came, PARTS, Small, Still, commit, formatted, is_one, opened, refused, round_of, seated, write,
-};
-use jb_board::NewHistory;
-use jb_deck::{Checked, CheckpointFault, Deck, ReadHomeFault};
-use jb_desk::{BeginFault, Ended, Origin, RoundFault, Seat, StopLedger, WaitFault};
-use jb_disk::{Disk, MemoryDisk, OneFaultDisk};
+use crate::checks::check_at;
+use crate::closing::{closed, is_closed, left};
+use crate::journal::{Came, Failing, Still, commit, is_one, refused, round_of, seated, write};
+use crate::trials::{Fate, FaultTrial, Look, Trial, run, run_each_fault};
+use jb_deck::{Checked, CheckpointFault, ReadHomeFault};
+use jb_desk::{BeginFault, Origin, RoundFault, Seat, WaitFault};
+use jb_disk::Disk;
 use std::alloc::Global;
-use std::marker::Brand;
 use std::process::Abort;
 use std::sync::Wait;
 use std::sync::atomic::{AtomicBool, Ordering};
-use std::sync::ledger::{Blank, Ledger};
+use std::sync::ledger::Ledger;
 use std::thread;
 use std::thread::Threads;
-
-/// A desk whose disk fails once.
-type Failing<H, N> = Still<OneFaultDisk<MemoryDisk>, H, N>;
+use std::time::Clock;
 
 /// What follows a checkpoint after one handle is committed and another has stopped: what a read of no home into half a
 /// block answers, the next round and a begin, what is answered of both tickets, and the handles, changes and groups at
@@ -100,30 +92,6 @@ fn after_checkpoint<R: Abort + Wait, D: Disk + Drop, H: Origin, N: Ledger>(
     }
 }
 
-/// What is found where this call of the disk fails; `None` where the journal cannot be opened then.
-fn failing<R: Abort + Wait, H: Origin, N: Ledger>(
-    rt: &R,
-    alloc: Global,
-    call: u64,
-    handles: StopLedger,
-    changes: Blank,
-    marks: NewHistory<Deck<OneFaultDisk<MemoryDisk>>>,
-) -> Option<Found>
-    requires blind { (H.begun.is_known → ⊥) × (H.begun.none_failed → ⊥) }
-    requires any { (words : WordMap) → H.begun.stops words }
-    requires handles { (handles.tickets.name ≡ H.name) × (handles.tickets.parts ≡ H.parts) × (H.parts ≡ 2 ^ 61 + 1) }
-    requires histories { (history_in handles ≡ H.history) × (history_id marks ≡ H.marks) }
-    requires changes { (changes.name ≡ N.name) × (changes.parts ≡ N.parts) × (N.parts ≡ 2 ^ 61 + 1) }
-{
-    match opened(alloc, OneFaultDisk::of(formatted(rt, alloc), call)) {
-        Some(deck) => {
-            let desk: Failing<H, N> = start(rt, alloc, handles, changes, marks, deck);
-            Some(after_checkpoint(rt, alloc, desk))
-        }
-        None => None,
-    }
-}
-
 /// Whether the checkpoint and the round after it succeed.
 fn is_whole(found: &Found) -> bool {
     found.checked.is_ok() && is_one(found.second, 1, 3)
@@ -153,26 +121,30 @@ fn check_failed(rt: &impl Abort, call: u64, found: &Found) -> bool {
     true
 }
 
+/// Makes a checkpoint of which this call of the disk fails, and checks what follows it.
+pub fn fate_of<R: Abort + Wait, H: Origin, N: Ledger>(
+    rt: &R,
+    alloc: Global,
+    call: u64,
+    desk: Failing<H, N>,
+) -> Fate
+    requires any { (words : WordMap) → H.begun.stops words }
+    requires parts { (H.parts ≡ 2 ^ 61 + 1) × (N.parts ≡ 2 ^ 61 + 1) }
+{
+    let found = after_checkpoint(rt, alloc, desk);
+    if is_whole(&found) {
+        Fate::Whole
+    } else if check_failed(rt, call, &found) {
+        Fate::Failed
+    } else {
+        Fate::Other
+    }
+}
+
 #[test]
 fn the_round_after_a_failed_checkpoint_fails_the_book(rt: HostRuntime) {
-    let mut has_failed = false;
-    for call in 0..200 {
-        let found = failing::<HostRuntime, Brand, Brand>(
-            &rt,
-            rt.alloc(),
-            call,
-            stops(&rt, rt.alloc()),
-            Blank::new(PARTS),
-            marks(&rt, rt.alloc()),
-        );
-        if let Some(found) = found {
-            if is_whole(&found) {
-                return check(&rt, has_failed, "no call fails in the checkpoint");
-            }
-            has_failed |= check_failed(&rt, call, &found);
-        }
-    }
-    fail(&rt, "some call of the first 200 always fails")
+    let none = "no call fails in the checkpoint";
+    run_each_fault(&rt, rt.alloc(), FaultTrial::Checkpoint, none)
 }
 
 /// How many desks are raced. A checkpointer that asks too late for what is settled left a group in the thirty-first.
@@ -198,92 +170,77 @@ fn crowd<R: Wait, D: Disk, H: Origin, N: Ledger>(
         if is_done.load(Ordering::SeqCst) {
             return;
         }
-        if let Ok(seat) = desk.seat(rt) {
-            let _left = desk.leave(rt, seat);
-        }
+        let _is_shut = is_closed(rt, desk);
     }
 }
 
-/// Runs a checkpointer to its end beside two threads that ask for the book.
-fn run_crowded<
-    R: Threads + Wait + Sync,
-    D: Disk + Send,
-    H: Origin + Send + Sync,
-    N: Ledger + Send + Sync,
->(rt: &R, desk: &Still<D, H, N>) -> Ended {
-    let is_done = AtomicBool::new(false);
-    let (ended, _) = thread::join(
-        rt,
-        || {
-            let ended = desk.run_checkpointer(rt);
-            is_done.store(true, Ordering::SeqCst);
-            ended
-        },
-        || {
-            thread::join(
-                rt,
-                || crowd(rt, desk, &is_done),
-                || crowd(rt, desk, &is_done),
-            )
-        },
-    );
-    ended
-}
-
-/// Checks that no group is left once a checkpointer has ended that ran while the last handle of the desk was
-/// committed.
-fn check_race<
-    R: Abort + Threads + Wait + Sync,
-    D: Disk + Drop + Send,
-    H: Origin + Send + Sync,
-    N: Ledger + Send + Sync,
->(rt: &R, race: u64, desk: Still<D, H, N>)
-    requires any { (words : WordMap) → H.begun.stops words }
-{
-    let (_, ended) = thread::join(rt, || commit_last(rt, &desk), || run_crowded(rt, &desk));
-    let is_empty = desk.checkpoint_round(rt) == Err(CheckpointFault::Nothing);
+/// Runs a checkpointer to its end, and says so to the threads that ask for the book.
+fn checkpoint<R: Abort + Wait, D: Disk, H: Origin, N: Ledger>(
+    rt: &R,
+    race: u64,
+    desk: &Still<D, H, N>,
+    is_done: &AtomicBool,
+) {
+    let ended = desk.run_checkpointer(rt);
+    is_done.store(true, Ordering::SeqCst);
     check_at(
         rt,
         ended.is_shut(),
         "how the checkpointer ends in race",
         race,
     );
+}
+
+/// What each of four threads does: the last handle of the desk is committed while a checkpointer runs beside two threads
+/// that ask for the book.
+fn race_one<R: Abort + Wait, D: Disk, H: Origin, N: Ledger>(
+    rt: &R,
+    race: u64,
+    desk: &Still<D, H, N>,
+    is_done: &AtomicBool,
+    thread: usize,
+)
+    requires { (words : WordMap) → H.begun.stops words }
+{
+    match thread {
+        0 => commit_last(rt, desk),
+        1 => checkpoint(rt, race, desk, is_done),
+        _ => crowd(rt, desk, is_done),
+    }
+}
+
+/// Checks that no group is left once a checkpointer has ended that ran while the last handle of the desk was
+/// committed.
+pub fn check_race<
+    R: Abort + Threads + Wait + Sync,
+    D: Disk + Send,
+    H: Origin + Send + Sync,
+    N: Ledger + Send + Sync,
+>(rt: &R, alloc: Global, race: u64, desk: &Still<D, H, N>)
+    requires { (words : WordMap) → H.begun.stops words }
+{
+    let is_done = AtomicBool::new(false);
+    thread::map_indices(
+        rt,
+        alloc,
+        4,
+        &|k: usize|
+            requires { (words : WordMap) → H.begun.stops words }
+        { race_one(rt, race, desk, &is_done, k) },
+    )
+    .expect(rt, "memory");
+    let is_empty = desk.checkpoint_round(rt) == Err(CheckpointFault::Nothing);
     check_at(rt, is_empty, "a group is left in race", race);
 }
 
-/// Races the threads of a new desk.
-fn ends_with_no_group<
-    R: Abort + Threads + Wait + Sync,
-    H: Origin + Send + Sync,
-    N: Ledger + Send + Sync,
->(
-    rt: &R,
-    alloc: Global,
-    race: u64,
-    handles: StopLedger,
-    changes: Blank,
-    marks: NewHistory<Deck<MemoryDisk>>,
-)
-    requires blind { (H.begun.is_known → ⊥) × (H.begun.none_failed → ⊥) }
-    requires any { (words : WordMap) → H.begun.stops words }
-    requires handles { (handles.tickets.name ≡ H.name) × (handles.tickets.parts ≡ H.parts) × (H.parts ≡ 2 ^ 61 + 1) }
-    requires histories { (history_in handles ≡ H.history) × (history_id marks ≡ H.marks) }
-    requires changes { (changes.name ≡ N.name) × (changes.parts ≡ N.parts) × (N.parts ≡ 2 ^ 61 + 1) }
-{
-    let desk: Small<H, N> = small(rt, alloc, handles, changes, marks);
-    check_race(rt, race, desk)
+/// Races the threads of each of many new desks.
+fn race_all<R: Abort + Threads + Wait + Clock + Sync>(rt: &R, alloc: Global) {
+    for race in 0..RACES {
+        run(rt, alloc, Trial::Look(Look::Race(race)));
+    }
 }
 
 #[test]
 fn a_checkpointer_ends_with_no_group(rt: HostRuntime) {
-    for race in 0..RACES {
-        ends_with_no_group::<HostRuntime, Brand, Brand>(
-            &rt,
-            rt.alloc(),
-            race,
-            stops(&rt, rt.alloc()),
-            Blank::new(PARTS),
-            marks(&rt, rt.alloc()),
-        );
-    }
+    race_all(&rt, rt.alloc())
 }

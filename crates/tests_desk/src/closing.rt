@@ -83,6 +83,11 @@ pub fn check_close<R: Abort + Wait, D: Disk + Drop, H: Origin, N: Ledger>(
     );
 }
 
+/// Fails the test, as closing the desk of this name is not refused.
+fn not_refused(rt: &impl Abort, name: &'static str) {
+    panic!(rt; "{name}: closing is not refused while a seat is out")
+}
+
 /// Checks that closing a desk is refused while a seat is out, and what is counted once the last one has left.
 pub fn check_close_twice<R: Abort + Wait, D: Disk + Drop, H: Origin, N: Ledger>(
     rt: &R,
@@ -100,6 +105,6 @@ pub fn check_close_twice<R: Abort + Wait, D: Disk + Drop, H: Origin, N: Ledger>(
             lefts.push(last).expect(rt, "memory");
             check_close(rt, name, desk, lefts, counts)
         }
-        _ => panic!(rt; "{name}: closing is not refused while a seat is out"),
+        _ => not_refused(rt, name),
     }
 }

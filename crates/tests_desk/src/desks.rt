@@ -1,25 +1,21 @@
 //! Calls of a desk over the small journal, with the answers that its limits give by hand.
 ghost use Rattle.std.specs.Prelude.{◌≡◌, ◌+◌, ◌^◌};
 ghost use Rattle.jb_desk.specs.Desks.{desk_id};
-ghost use Rattle.jb_desk.specs.History.{history_in};
-ghost use Rattle.jb_board.specs.History.{history_id};
 ghost use Rattle.jb_desk.specs.Seats.{desk_of};
 ghost use Rattle.jb_handle.specs.Word.{WordMap};
 
-use crate::blind::{marks, small, stops};
 use crate::checks::check;
 use crate::closing::{check_close, check_close_twice, is_closed, left, over_at};
-use crate::journal::{PARTS, SHAPE, Small, begun, refused, seated, stop};
-use jb_board::{Front, NewHistory};
-use jb_deck::{CheckpointFault, Deck};
-use jb_desk::{BeginFault, EnqueueFault, Left, Origin, Seat, StopLedger, WaitFault};
-use jb_disk::MemoryDisk;
+use crate::journal::{SHAPE, Small, begun, refused, seated, stop};
+use crate::trials::{Look, Trial, run};
+use jb_board::Front;
+use jb_deck::CheckpointFault;
+use jb_desk::{BeginFault, EnqueueFault, Left, Origin, Seat, WaitFault};
 use jb_handle::Handle;
 use std::alloc::Global;
-use std::marker::Brand;
 use std::process::Abort;
 use std::sync::Wait;
-use std::sync::ledger::{Blank, Ledger};
+use std::sync::ledger::Ledger;
 
 /// One handle has stopped.
 const STOPPED: Front = Front {
@@ -73,7 +69,7 @@ fn check_stop<R: Abort + Wait, H: Origin, N: Ledger>(
 }
 
 /// What a seat finds that stops one handle, and what is counted at the end: handles, changes and groups.
-fn one_handle<R: Abort + Wait, H: Origin, N: Ledger>(rt: &R, alloc: Global, desk: Small<H, N>)
+pub fn one_handle<R: Abort + Wait, H: Origin, N: Ledger>(rt: &R, alloc: Global, desk: Small<H, N>)
     requires any { (words : WordMap) → H.begun.stops words }
     requires parts { (H.parts ≡ 2 ^ 61 + 1) × (N.parts ≡ 2 ^ 61 + 1) }
 {
@@ -132,7 +128,7 @@ fn check_foreign<R: Abort + Wait, H: Origin, N: Ledger>(
 
 /// What is answered of a handle that its seat has ended itself, of one that nobody has begun, and of a desk
 /// of which one seat has not left; and what is counted once all have.
-fn strays<R: Abort + Wait, H: Origin, N: Ledger>(rt: &R, alloc: Global, desk: Small<H, N>)
+pub fn strays<R: Abort + Wait, H: Origin, N: Ledger>(rt: &R, alloc: Global, desk: Small<H, N>)
     requires any { (words : WordMap) → H.begun.stops words }
     requires parts { (H.parts ≡ 2 ^ 61 + 1) × (N.parts ≡ 2 ^ 61 + 1) }
 {
@@ -164,7 +160,7 @@ fn check_full<R: Abort + Wait, H: Origin, N: Ledger>(rt: &R, desk: &Small<H, N>)
 }
 
 /// Begins this many handles of 6 credits, one in the other, and asks for more beside them.
-fn beside<R: Abort + Wait, H: Origin, N: Ledger>(rt: &R, desk: &Small<H, N>, count: u32) {
+pub fn beside<R: Abort + Wait, H: Origin, N: Ledger>(rt: &R, desk: &Small<H, N>, count: u32) {
     if count == 0 {
         return check_full(rt, desk);
     }
@@ -175,7 +171,7 @@ fn beside<R: Abort + Wait, H: Origin, N: Ledger>(rt: &R, desk: &Small<H, N>, cou
 }
 
 /// Six seats, one after the other, begin a handle of 6 credits and leave with it.
-fn leavers<R: Abort + Wait, H: Origin, N: Ledger>(rt: &R, desk: &Small<H, N>) {
+pub fn leavers<R: Abort + Wait, H: Origin, N: Ledger>(rt: &R, desk: &Small<H, N>) {
     for _ in 0..6 {
         let handle = begun(rt, desk, seated(rt, desk), 6, "a handle after leavers");
         let (seat, _words) = handle.end();
@@ -183,49 +179,14 @@ fn leavers<R: Abort + Wait, H: Origin, N: Ledger>(rt: &R, desk: &Small<H, N>) {
     }
 }
 
-/// What is asked of a new desk.
-#[derive(Drop)]
-enum Row {
-    OneHandle,
-    Beside,
-    Leavers,
-    Strays,
-}
-
-/// What a new desk answers.
-fn rows<R: Abort + Wait, H: Origin, N: Ledger>(
-    rt: &R,
-    alloc: Global,
-    row: Row,
-    handles: StopLedger,
-    changes: Blank,
-    marks: NewHistory<Deck<MemoryDisk>>,
-)
-    requires blind { (H.begun.is_known → ⊥) × (H.begun.none_failed → ⊥) }
-    requires any { (words : WordMap) → H.begun.stops words }
-    requires handles { (handles.tickets.name ≡ H.name) × (handles.tickets.parts ≡ H.parts) × (H.parts ≡ 2 ^ 61 + 1) }
-    requires histories { (history_in handles ≡ H.history) × (history_id marks ≡ H.marks) }
-    requires changes { (changes.name ≡ N.name) × (changes.parts ≡ N.parts) × (N.parts ≡ 2 ^ 61 + 1) }
-{
-    let desk: Small<H, N> = small(rt, alloc, handles, changes, marks);
-    match row {
-        Row::OneHandle => one_handle(rt, alloc, desk),
-        Row::Beside => beside(rt, &desk, 5),
-        Row::Leavers => leavers(rt, &desk),
-        Row::Strays => strays(rt, alloc, desk),
-    }
-}
-
 #[test]
 fn desks_answer_as_worked_by_hand(rt: HostRuntime) {
-    for row in [Row::OneHandle, Row::Beside, Row::Leavers, Row::Strays] {
-        rows::<HostRuntime, Brand, Brand>(
-            &rt,
-            rt.alloc(),
-            row,
-            stops(&rt, rt.alloc()),
-            Blank::new(PARTS),
-            marks(&rt, rt.alloc()),
-        );
+    for trial in [
+        Trial::OneHandle,
+        Trial::Look(Look::Beside),
+        Trial::Look(Look::Leavers),
+        Trial::Strays,
+    ] {
+        run(&rt, rt.alloc(), trial);
     }
 }

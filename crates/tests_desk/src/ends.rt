@@ -1,24 +1,20 @@
 //! How committers and checkpointers end, and that all that stopped is done then.
 ghost use Rattle.std.specs.Prelude.{◌≡◌, ◌+◌, ◌^◌};
 ghost use Rattle.jb_desk.specs.Desks.{desk_id};
-ghost use Rattle.jb_desk.specs.History.{history_in};
-ghost use Rattle.jb_board.specs.History.{history_id};
 ghost use Rattle.jb_desk.specs.Seats.{desk_of};
 ghost use Rattle.jb_handle.specs.Word.{WordMap};
 
-use crate::blind::{marks, small, stops};
 use crate::checks::check;
 use crate::closing::{check_close, is_closed, left, over_at};
-use crate::journal::{PARTS, Small, refused, retired, seated, write};
-use jb_board::{Front, NewHistory};
-use jb_deck::{CheckpointFault, Deck};
-use jb_desk::{Origin, Retired, Seat, StopLedger};
-use jb_disk::MemoryDisk;
+use crate::journal::{Small, refused, retired, seated, write};
+use crate::trials::{Trial, run};
+use jb_board::Front;
+use jb_deck::CheckpointFault;
+use jb_desk::{Origin, Retired, Seat};
 use std::alloc::Global;
-use std::marker::Brand;
 use std::process::Abort;
 use std::sync::Wait;
-use std::sync::ledger::{Blank, Ledger};
+use std::sync::ledger::Ledger;
 use std::time::Clock;
 
 /// How far the two handles have come at the end.
@@ -76,21 +72,11 @@ fn end<R: Abort + Wait + Clock, H: Origin, N: Ledger>(
     seat
 }
 
-/// Two handles stop at a new desk which is shut then.
-fn desk_ended<R: Abort + Wait + Clock, H: Origin, N: Ledger>(
-    rt: &R,
-    alloc: Global,
-    handles: StopLedger,
-    changes: Blank,
-    marks: NewHistory<Deck<MemoryDisk>>,
-)
-    requires blind { (H.begun.is_known → ⊥) × (H.begun.none_failed → ⊥) }
+/// Two handles stop at a new desk, which is shut then.
+pub fn shut<R: Abort + Wait + Clock, H: Origin, N: Ledger>(rt: &R, alloc: Global, desk: Small<H, N>)
     requires any { (words : WordMap) → H.begun.stops words }
-    requires handles { (handles.tickets.name ≡ H.name) × (handles.tickets.parts ≡ H.parts) × (H.parts ≡ 2 ^ 61 + 1) }
-    requires histories { (history_in handles ≡ H.history) × (history_id marks ≡ H.marks) }
-    requires changes { (changes.name ≡ N.name) × (changes.parts ≡ N.parts) × (N.parts ≡ 2 ^ 61 + 1) }
+    requires parts { (H.parts ≡ 2 ^ 61 + 1) × (N.parts ≡ 2 ^ 61 + 1) }
 {
-    let desk: Small<H, N> = small(rt, alloc, handles, changes, marks);
     let seat = stop_two(rt, &desk, seated(rt, &desk));
     let seat = end(rt, &desk, seat);
     let lefts = left(rt, alloc, &desk, seat);
@@ -100,11 +86,5 @@ fn desk_ended<R: Abort + Wait + Clock, H: Origin, N: Ledger>(
 
 #[test]
 fn a_desk_that_is_shut_ends_with_all_done(rt: HostRuntime) {
-    desk_ended::<HostRuntime, Brand, Brand>(
-        &rt,
-        rt.alloc(),
-        stops(&rt, rt.alloc()),
-        Blank::new(PARTS),
-        marks(&rt, rt.alloc()),
-    );
+    run(&rt, rt.alloc(), Trial::Ends)
 }

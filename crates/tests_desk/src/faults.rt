@@ -1,29 +1,20 @@
 //! A round over a disk that fails once, at each of its calls.
 ghost use Rattle.std.specs.Prelude.{◌≡◌, ◌+◌, ◌^◌};
-ghost use Rattle.jb_desk.specs.History.{history_in};
-ghost use Rattle.jb_board.specs.History.{history_id};
 ghost use Rattle.jb_handle.specs.Word.{WordMap};
 
-use crate::blind::{marks, start, stops};
-use crate::checks::{check, check_at, fail};
+use crate::checks::check_at;
 use crate::closing::{closed, left};
 use crate::journal::{
-    Came, PARTS, Still, begun, formatted, home, is_one, opened, refused, retired, round, seated,
-    stop, write,
+    Came, Failing, Still, begun, home, is_one, refused, retired, round, seated, stop, write,
 };
-use jb_board::NewHistory;
-use jb_deck::Deck;
-use jb_desk::{BeginFault, EnqueueFault, Origin, RoundFault, StopLedger};
-use jb_disk::{Disk, MemoryDisk, OneFaultDisk};
+use crate::trials::{Fate, FaultTrial, run_each_fault};
+use jb_desk::{BeginFault, EnqueueFault, Origin, RoundFault};
+use jb_disk::{Disk, MemoryDisk};
 use jb_recover::recover;
 use std::alloc::Global;
-use std::marker::Brand;
 use std::process::Abort;
 use std::sync::Wait;
-use std::sync::ledger::{Blank, Ledger};
-
-/// A desk whose disk fails once.
-type Failing<H, N> = Still<OneFaultDisk<MemoryDisk>, H, N>;
+use std::sync::ledger::Ledger;
 
 /// What follows a round in which one handle is committed while another is open: what the other's stop and a further
 /// begin answer, how many handles have stopped, whether the committer retires, and the handles and changes at the end.
@@ -106,32 +97,6 @@ fn after_round<R: Abort + Wait, D: Disk + Drop, H: Origin, N: Ledger>(
     (Found { came, answers }, closed.disk)
 }
 
-/// What is found where this call of the disk fails; `None` where the journal cannot be opened then.
-fn failing<R: Abort + Wait, H: Origin, N: Ledger>(
-    rt: &R,
-    alloc: Global,
-    call: u64,
-    handles: StopLedger,
-    changes: Blank,
-    marks: NewHistory<Deck<OneFaultDisk<MemoryDisk>>>,
-) -> Option<Found>
-    requires blind { (H.begun.is_known → ⊥) × (H.begun.none_failed → ⊥) }
-    requires any { (words : WordMap) → H.begun.stops words }
-    requires handles { (handles.tickets.name ≡ H.name) × (handles.tickets.parts ≡ H.parts) × (H.parts ≡ 2 ^ 61 + 1) }
-    requires histories { (history_in handles ≡ H.history) × (history_id marks ≡ H.marks) }
-    requires changes { (changes.name ≡ N.name) × (changes.parts ≡ N.parts) × (N.parts ≡ 2 ^ 61 + 1) }
-{
-    match opened(alloc, OneFaultDisk::of(formatted(rt, alloc), call)) {
-        Some(deck) => {
-            let desk: Failing<H, N> = start(rt, alloc, handles, changes, marks, deck);
-            let (found, disk) = after_round(rt, alloc, desk);
-            check_whole(rt, alloc, call, disk.into_inner());
-            Some(found)
-        }
-        None => None,
-    }
-}
-
 /// Checks what follows a round of which this call of the disk fails.
 fn check_answers(rt: &impl Abort, call: u64, found: &Answers, wanted: &Answers) {
     let is_second = found.second == wanted.second;
@@ -150,36 +115,35 @@ fn check_answers(rt: &impl Abort, call: u64, found: &Answers, wanted: &Answers) 
     check_at(rt, found.changes == wanted.changes, "changes, fault", call);
 }
 
-/// Checks what is found where this call of the disk fails, or is not made. Says whether the round has failed.
-fn check_found(rt: &impl Abort, call: u64, found: &Found) -> bool {
+/// Checks what is found where this call of the disk fails, or is not made. Says whether the round has.
+fn check_found(rt: &impl Abort, call: u64, found: &Found) -> Fate {
     if is_one(found.came, 0, 2) {
         check_answers(rt, call, &found.answers, &COMMITTED);
-        return false;
+        return Fate::Whole;
     }
     let has_failed = matches!(found.came, Came::Failed(RoundFault::DeviceFault(_)));
     check_at(rt, has_failed, "how the round fails, fault", call);
     check_answers(rt, call, &found.answers, &FAILED);
-    true
+    Fate::Failed
+}
+
+/// Makes a round of which this call of the disk fails, and checks what follows it.
+pub fn fate_of<R: Abort + Wait, H: Origin, N: Ledger>(
+    rt: &R,
+    alloc: Global,
+    call: u64,
+    desk: Failing<H, N>,
+) -> Fate
+    requires any { (words : WordMap) → H.begun.stops words }
+    requires parts { (H.parts ≡ 2 ^ 61 + 1) × (N.parts ≡ 2 ^ 61 + 1) }
+{
+    let (found, disk) = after_round(rt, alloc, desk);
+    check_whole(rt, alloc, call, disk.into_inner());
+    check_found(rt, call, &found)
 }
 
 #[test]
 fn close_adds_up_after_each_fault(rt: HostRuntime) {
-    let mut has_failed = false;
-    for call in 0..200 {
-        let found = failing::<HostRuntime, Brand, Brand>(
-            &rt,
-            rt.alloc(),
-            call,
-            stops(&rt, rt.alloc()),
-            Blank::new(PARTS),
-            marks(&rt, rt.alloc()),
-        );
-        if let Some(found) = found {
-            if !check_found(&rt, call, &found) {
-                return check(&rt, has_failed, "no call fails in the round");
-            }
-            has_failed = true;
-        }
-    }
-    fail(&rt, "some call of the first 200 always fails")
+    let none = "no call fails in the round";
+    run_each_fault(&rt, rt.alloc(), FaultTrial::Round, none)
 }

@@ -11,6 +11,7 @@ use crate::closing::check_close;
 use crate::journal::{
     PARTS, Still, begun, formatted, is_one, opened, retired, round, seated, stop, write,
 };
+use crate::read_beside::commit_and_read;
 use jb_block::BlockSize;
 use jb_board::NewHistory;
 use jb_deck::Deck;
@@ -209,7 +210,19 @@ fn second<K: Abort + Wait + Clock, D: Disk, H: Origin, N: Ledger>(
     desk.leave(rt, seat)
 }
 
-/// Two threads stop a handle each, the second one while the disk is at work for the first.
+/// Two threads stop a handle each, the second one while the disk is at work for the first. Gives what their seats leave.
+fn both<
+    R: Abort + Threads + Wait + Clock + Sync,
+    D: Disk + Send,
+    H: Origin + Send + Sync,
+    N: Ledger + Send + Sync,
+>(rt: &R, gate: &Gate, desk: &Still<D, H, N>) -> (Left<H, N>, Left<H, N>)
+    requires { (words : WordMap) → H.begun.stops words }
+{
+    thread::join(rt, || second(rt, desk, gate), || first(rt, desk, gate))
+}
+
+/// Two threads do so, and the desk is closed.
 fn stop_both<
     R: Abort + Threads + Wait + Clock + Sync,
     D: Disk + Drop + Send,
@@ -219,14 +232,31 @@ fn stop_both<
     requires any { (words : WordMap) → H.begun.stops words }
     requires parts { (H.parts ≡ 2 ^ 61 + 1) × (N.parts ≡ 2 ^ 61 + 1) }
 {
-    let (other, one) = thread::join(rt, || second(rt, &desk, gate), || first(rt, &desk, gate));
+    let (other, one) = both(rt, gate, &desk);
     let mut lefts = Vec::new(alloc);
     lefts.push(one).expect(rt, "memory");
     lefts.push(other).expect(rt, "memory");
     check_close(rt, "the desk", desk, lefts, (2, 2, 2))
 }
 
-/// Two threads stop a handle each at a new desk.
+/// Two threads stop a handle each at a desk, or one commits a handle while another reads its home.
+fn meet<
+    R: Abort + Threads + Wait + Clock + Sync,
+    D: Disk + Drop + Send,
+    H: Origin + Send + Sync,
+    N: Ledger + Send + Sync,
+>(rt: &R, alloc: Global, gate: &Gate, is_read: bool, desk: Still<D, H, N>)
+    requires any { (words : WordMap) → H.begun.stops words }
+    requires parts { (H.parts ≡ 2 ^ 61 + 1) × (N.parts ≡ 2 ^ 61 + 1) }
+{
+    if is_read {
+        commit_and_read(rt, alloc, &desk, gate)
+    } else {
+        stop_both(rt, alloc, gate, desk)
+    }
+}
+
+/// They do so at a new desk.
 fn gated<
     'a,
     R: Abort + Threads + Wait + Clock + Sync,
@@ -236,6 +266,7 @@ fn gated<
     rt: &'a R,
     alloc: Global,
     gate: &'a Gate,
+    is_read: bool,
     handles: StopLedger,
     changes: Blank,
     marks: NewHistory<Deck<GateDisk<'a, MemoryDisk, R>>>,
@@ -248,18 +279,18 @@ fn gated<
 {
     let deck = opened(alloc, gated_disk(rt, alloc, gate)).expect(rt, "the journal is not opened");
     let desk: Gated<'_, R, H, N> = start(rt, alloc, handles, changes, marks, deck);
-    stop_both(rt, alloc, gate, desk)
+    meet(rt, alloc, gate, is_read, desk)
+}
+
+/// Does so at a new gate.
+pub fn run_gated<R: Abort + Threads + Wait + Clock + Sync>(rt: &R, alloc: Global, is_read: bool) {
+    let gate = Gate::shut();
+    let handles = stops(rt, alloc);
+    let marks = marks(rt, alloc);
+    gated::<R, Brand, Brand>(rt, alloc, &gate, is_read, handles, Blank::new(PARTS), marks)
 }
 
 #[test]
 fn gate_two_stops(rt: HostRuntime) {
-    let gate = Gate::shut();
-    gated::<HostRuntime, Brand, Brand>(
-        &rt,
-        rt.alloc(),
-        &gate,
-        stops(&rt, rt.alloc()),
-        Blank::new(PARTS),
-        marks(&rt, rt.alloc()),
-    );
+    run_gated(&rt, rt.alloc(), false)
 }

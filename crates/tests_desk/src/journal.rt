@@ -6,14 +6,14 @@ ghost use Rattle.jb_desk.specs.Rounds.{seat_of};
 ghost use Rattle.jb_desk.specs.Seats.{desk_of};
 ghost use Rattle.jb_handle.specs.Word.{WordMap};
 
-use crate::checks::{read_at, write_at};
+use crate::checks::{Never, read_at, write_at};
 use jb_block::{BlockSize, Width, put32};
 use jb_deck::{Deck, Entry};
 use jb_desk::{
     BeginFault, Committer, Desk, EnqueueFault, Origin, Retired, Round, RoundFault, Seat, StopFault,
     Ticket,
 };
-use jb_disk::{Disk, FixedClock, MemoryDisk};
+use jb_disk::{Disk, FixedClock, MemoryDisk, OneFaultDisk};
 use jb_format::format;
 use jb_group::Stamp;
 use jb_handle::{Handle, Shape};
@@ -27,6 +27,9 @@ pub type Still<D, H, N> = Desk<D, FixedClock, H, N>;
 
 /// A desk over the small journal.
 pub type Small<H, N> = Still<MemoryDisk, H, N>;
+
+/// A desk over the small journal whose disk fails once.
+pub type Failing<H, N> = Still<OneFaultDisk<MemoryDisk>, H, N>;
 
 /// The parts of each ledger of a desk.
 pub const PARTS: u64 = (1 << 61) + 1;
@@ -85,6 +88,11 @@ pub fn seated<R: Abort + Wait, D: Disk, H: Origin, N: Ledger>(
     desk.seat(rt).expect(rt, "there is no seat")
 }
 
+/// Fails the test, as this handle is not begun.
+fn not_begun(rt: &impl Abort, what: &'static str, fault: BeginFault) -> Never {
+    panic!(rt; "{what} is not begun: {fault}")
+}
+
 /// Begins a handle that is not refused. Fails the test where it is, and says that it was this one.
 pub fn begun<R: Abort + Wait, D: Disk, H: Origin, N: Ledger>(
     rt: &R,
@@ -97,7 +105,7 @@ pub fn begun<R: Abort + Wait, D: Disk, H: Origin, N: Ledger>(
 {
     match desk.begin(rt, seat, credits) {
         Ok(handle) => handle,
-        Err((_seat, fault)) => panic!(rt; "{what} is not begun: {fault}"),
+        Err((_seat, fault)) => match not_begun(rt, what, fault) {},
     }
 }
 
@@ -126,7 +134,11 @@ pub fn stop<R: Wait, D: Disk, H: Origin, N: Ledger>(
     requires desk { desk_of (holder handle) ≡ desk_id desk.now }
     ensures { desk_of result.0 ≡ desk_id desk.now }
 {
-    match desk.stop(rt, &mut desk.sights(rt), handle) {
+    let stopped = {
+        let mut seen = desk.sights(rt);
+        desk.stop(rt, &mut seen, handle)
+    };
+    match stopped {
         Ok((seat, ticket)) => (seat, Ok(ticket)),
         Err(StopFault::Aborted(seat)) => (seat, Err(EnqueueFault::Aborted)),
         Err(StopFault::NotOpen(handle)) => (desk.abandon(rt, handle), Err(EnqueueFault::NotOpen)),
@@ -200,7 +212,11 @@ pub fn round<R: Wait, D: Disk, H: Origin, N: Ledger>(
     requires desk { desk_of (seat_of committer.old) ≡ desk_id desk.now }
     ensures desk { desk_of (seat_of committer.new) ≡ desk_of (seat_of committer.old) }
 {
-    match desk.commit_round(rt, committer, &mut desk.sights(rt)) {
+    let made = {
+        let mut seen = desk.sights(rt);
+        desk.commit_round(rt, committer, &mut seen)
+    };
+    match made {
         Ok(Round::Idle(_)) => Came::Idle,
         Ok(Round::Committed(done)) => {
             let entries = done.entries();

@@ -1,34 +1,30 @@
 //! Checkpoints at a level: below it nothing is written home.
 ghost use Rattle.std.specs.Prelude.{◌≡◌, ◌+◌, ◌^◌};
 ghost use Rattle.jb_desk.specs.Desks.{desk_id};
-ghost use Rattle.jb_desk.specs.History.{history_in};
-ghost use Rattle.jb_board.specs.History.{history_id};
 ghost use Rattle.jb_desk.specs.Seats.{desk_of};
 ghost use Rattle.jb_handle.specs.Word.{WordMap};
 
-use crate::blind::{marks, small, stops};
 use crate::checks::{check, check_at, check_in, fail};
 use crate::closing::{closed, left};
-use crate::journal::{PARTS, Small, Still, commit, home, seated};
-use jb_board::NewHistory;
-use jb_deck::{CheckedRun, CheckpointFault, Deck};
-use jb_desk::{CheckpointRound, Origin, Seat, StopLedger};
-use jb_disk::{Disk, MemoryDisk};
+use crate::journal::{Small, Still, commit, home, seated};
+use crate::trials::{Look, Trial, run};
+use jb_deck::{CheckedRun, CheckpointFault};
+use jb_desk::{CheckpointRound, Origin, Seat};
+use jb_disk::Disk;
 use std::alloc::Global;
-use std::marker::Brand;
 use std::process::Abort;
 use std::sync::Wait;
-use std::sync::ledger::{Blank, Ledger};
+use std::sync::ledger::Ledger;
 use std::thread;
 use std::thread::Threads;
 use std::time::{Clock, Duration};
 
 /// What a round of a checkpointer answers.
-type Answer = Result<CheckpointRound, CheckpointFault>;
+pub type Answer = Result<CheckpointRound, CheckpointFault>;
 
 /// How many commits, and the level of the round after them; what it answers, and the first byte of home 0 on the disk
 /// then.
-type Row = (u64, u32, Answer, u8);
+pub type Row = (u64, u32, Answer, u8);
 
 /// Commits this many handles one by one, each of which writes the next home.
 fn commit_all<R: Wait, D: Disk, H: Origin, N: Ledger>(
@@ -50,17 +46,17 @@ fn commit_all<R: Wait, D: Disk, H: Origin, N: Ledger>(
 }
 
 /// Checks what a desk comes to that has committed nothing yet.
-fn check_row<R: Abort + Wait, H: Origin, N: Ledger>(
+pub fn check_row<R: Abort + Wait, H: Origin, N: Ledger>(
     rt: &R,
     alloc: Global,
     number: u64,
-    row: &Row,
+    row: Row,
     desk: Small<H, N>,
 )
     requires any { (words : WordMap) → H.begun.stops words }
     requires parts { (H.parts ≡ 2 ^ 61 + 1) × (N.parts ≡ 2 ^ 61 + 1) }
 {
-    let (commits, level, answer, byte) = *row;
+    let (commits, level, answer, byte) = row;
     let seat = commit_all(rt, &desk, seated(rt, &desk), commits);
     let is_told = desk.checkpoint_round_at(rt, level) == answer;
     let lefts = left(rt, alloc, &desk, seat);
@@ -68,26 +64,6 @@ fn check_row<R: Abort + Wait, H: Origin, N: Ledger>(
     let found = home(rt, &mut closed.disk, 0)[0];
     check_in(rt, is_told, number, "the answer after commits:", commits);
     check_in(rt, found == byte, number, "the byte at home:", found.into());
-}
-
-/// A row on a new desk.
-fn level<R: Abort + Wait, H: Origin, N: Ledger>(
-    rt: &R,
-    alloc: Global,
-    number: u64,
-    row: &Row,
-    handles: StopLedger,
-    changes: Blank,
-    marks: NewHistory<Deck<MemoryDisk>>,
-)
-    requires blind { (H.begun.is_known → ⊥) × (H.begun.none_failed → ⊥) }
-    requires any { (words : WordMap) → H.begun.stops words }
-    requires handles { (handles.tickets.name ≡ H.name) × (handles.tickets.parts ≡ H.parts) × (H.parts ≡ 2 ^ 61 + 1) }
-    requires histories { (history_in handles ≡ H.history) × (history_id marks ≡ H.marks) }
-    requires changes { (changes.name ≡ N.name) × (changes.parts ≡ N.parts) × (N.parts ≡ 2 ^ 61 + 1) }
-{
-    let desk: Small<H, N> = small(rt, alloc, handles, changes, marks);
-    check_row(rt, alloc, number, row, desk)
 }
 
 /// The first groups, each of one home, are written home together: one of them, and two.
@@ -118,16 +94,8 @@ static ROWS: [Row; 9] = [
 
 #[test]
 fn nothing_is_written_home_below_the_level(rt: HostRuntime) {
-    for (number, row) in ROWS.iter().enumerate() {
-        level::<HostRuntime, Brand, Brand>(
-            &rt,
-            rt.alloc(),
-            number as u64,
-            row,
-            stops(&rt, rt.alloc()),
-            Blank::new(PARTS),
-            marks(&rt, rt.alloc()),
-        );
+    for (number, &row) in ROWS.iter().enumerate() {
+        run(&rt, rt.alloc(), Trial::Levels(number as u64, row));
     }
 }
 
@@ -180,22 +148,17 @@ fn commit_beside<R: Abort + Wait + Clock, D: Disk, H: Origin, N: Ledger>(
 }
 
 /// Commits beside a checkpointer at the level, which leaves no group once the desk is over.
-fn beside<
+pub fn beside<
     R: Abort + Threads + Wait + Clock + Sync,
     H: Origin + Send + Sync,
     N: Ledger + Send + Sync,
->(rt: &R, alloc: Global, handles: StopLedger, changes: Blank, marks: NewHistory<Deck<MemoryDisk>>)
-    requires blind { (H.begun.is_known → ⊥) × (H.begun.none_failed → ⊥) }
-    requires any { (words : WordMap) → H.begun.stops words }
-    requires handles { (handles.tickets.name ≡ H.name) × (handles.tickets.parts ≡ H.parts) × (H.parts ≡ 2 ^ 61 + 1) }
-    requires histories { (history_in handles ≡ H.history) × (history_id marks ≡ H.marks) }
-    requires changes { (changes.name ≡ N.name) × (changes.parts ≡ N.parts) × (N.parts ≡ 2 ^ 61 + 1) }
+>(rt: &R, desk: &Small<H, N>)
+    requires { (words : WordMap) → H.begun.stops words }
 {
-    let desk: Small<H, N> = small(rt, alloc, handles, changes, marks);
     let (ended, _) = thread::join(
         rt,
         || desk.run_checkpointer_at(rt, LEVEL),
-        || commit_beside(rt, &desk),
+        || commit_beside(rt, desk),
     );
     let last = desk.checkpoint_round(rt);
     check(rt, ended.is_shut(), "the end of the checkpointer");
@@ -205,11 +168,5 @@ fn beside<
 
 #[test]
 fn a_checkpointer_rests_below_its_level(rt: HostRuntime) {
-    beside::<HostRuntime, Brand, Brand>(
-        &rt,
-        rt.alloc(),
-        stops(&rt, rt.alloc()),
-        Blank::new(PARTS),
-        marks(&rt, rt.alloc()),
-    );
+    run(&rt, rt.alloc(), Trial::Look(Look::BesideLevel))
 }

@@ -42,6 +42,8 @@ mod rounds;
 #[cfg(test)]
 mod threads;
 #[cfg(test)]
+mod trials;
+#[cfg(test)]
 mod turns;
 #[cfg(test)]
 mod waiting;

@@ -1,36 +1,35 @@
 //! Desks that live long, whose trail is taken.
 ghost use Rattle.std.specs.Prelude.{◌≡◌, ◌+◌, ◌^◌};
 ghost use Rattle.jb_desk.specs.Desks.{desk_id};
-ghost use Rattle.jb_desk.specs.History.{history_in};
-ghost use Rattle.jb_board.specs.History.{history_id};
 ghost use Rattle.jb_desk.specs.Seats.{desk_of};
 ghost use Rattle.jb_handle.specs.Word.{WordMap};
 
-use crate::blind::{marks, small, stops};
 use crate::checks::check_in;
 use crate::closing::{closed, left};
-use crate::journal::{PARTS, Small, Still, commit, seated};
+use crate::journal::{Small, Still, commit, seated};
+use crate::trials::{Trial, run};
 use jb_block::Memory;
-use jb_board::NewHistory;
-use jb_deck::{Deck, Entry};
-use jb_desk::{Origin, Seat, StopLedger, WaitFault};
-use jb_disk::{Disk, MemoryDisk};
+use jb_deck::Entry;
+use jb_desk::{Origin, Seat, WaitFault};
+use jb_disk::Disk;
 use std::alloc::Global;
-use std::marker::Brand;
 use std::process::Abort;
 use std::sync::Wait;
-use std::sync::ledger::{Blank, Ledger};
+use std::sync::ledger::Ledger;
 
 /// How a desk lives: how many rounds, in each of which a handle stops and is committed, whether a group is brought home
 /// in each, and whether the trail is taken.
-type Life = (u64, bool, bool);
+pub type Life = (u64, bool, bool);
 
 /// What such a life comes to: how many entries were taken, how many the trail has had at most, and how many are left at
 /// the end; and what is answered of the first ticket, and of the last one.
-type Lived = (usize, usize, usize, Answer, Answer);
+pub type Lived = (usize, usize, usize, Answer, Answer);
+
+/// A life, and what it comes to.
+pub type Row = (Life, Lived);
 
 /// What is answered of a ticket.
-type Answer = Result<u32, WaitFault>;
+pub type Answer = Result<u32, WaitFault>;
 
 /// What was taken of a trail.
 #[derive(Drop)]
@@ -130,7 +129,7 @@ fn check_numbers<R: Abort + Wait, D: Disk, H: Origin, N: Ledger>(
     desk: &Still<D, H, N>,
     seat: &mut Seat<H, N>,
     number: u64,
-    row: &(Life, Lived),
+    row: &Row,
 )
     requires desk { desk_of seat.old ≡ desk_id desk.now }
 {
@@ -154,11 +153,11 @@ fn check_trail(rt: &impl Abort, number: u64, lived: Lived, taken: &Taken, trail:
 }
 
 /// Checks what the life of a desk comes to.
-fn outcome<R: Abort + Wait, H: Origin, N: Ledger>(
+pub fn outcome<R: Abort + Wait, H: Origin, N: Ledger>(
     rt: &R,
     alloc: Global,
     number: u64,
-    row: &(Life, Lived),
+    row: &Row,
     desk: Small<H, N>,
 )
     requires any { (words : WordMap) → H.begun.stops words }
@@ -175,32 +174,12 @@ fn outcome<R: Abort + Wait, H: Origin, N: Ledger>(
     check_trail(rt, number, lived, &taken, &closed.trail);
 }
 
-/// The life of a new desk.
-fn live<R: Abort + Wait, H: Origin, N: Ledger>(
-    rt: &R,
-    alloc: Global,
-    number: u64,
-    row: &(Life, Lived),
-    handles: StopLedger,
-    changes: Blank,
-    marks: NewHistory<Deck<MemoryDisk>>,
-)
-    requires blind { (H.begun.is_known → ⊥) × (H.begun.none_failed → ⊥) }
-    requires any { (words : WordMap) → H.begun.stops words }
-    requires handles { (handles.tickets.name ≡ H.name) × (handles.tickets.parts ≡ H.parts) × (H.parts ≡ 2 ^ 61 + 1) }
-    requires histories { (history_in handles ≡ H.history) × (history_id marks ≡ H.marks) }
-    requires changes { (changes.name ≡ N.name) × (changes.parts ≡ N.parts) × (N.parts ≡ 2 ^ 61 + 1) }
-{
-    let desk: Small<H, N> = small(rt, alloc, handles, changes, marks);
-    outcome(rt, alloc, number, row, desk)
-}
-
 /// The entry of the ticket was taken.
 const GONE: Answer = Err(WaitFault::Taken);
 
 /// Where each group is brought home at once, the trail has two entries at most; where none is but for room, the 32
 /// blocks of the log hold ten groups of three, and one group more is home.
-static ROWS: [(Life, Lived); 5] = [
+static ROWS: [Row; 5] = [
     ((100, true, true), (99, 2, 1, GONE, Ok(101))),
     ((100, true, false), (0, 100, 100, Ok(2), Ok(101))),
     ((100, false, true), (90, 11, 10, GONE, Ok(101))),
@@ -210,15 +189,7 @@ static ROWS: [(Life, Lived); 5] = [
 
 #[test]
 fn a_trail_that_is_taken_stays_short(rt: HostRuntime) {
-    for (number, row) in ROWS.iter().enumerate() {
-        live::<HostRuntime, Brand, Brand>(
-            &rt,
-            rt.alloc(),
-            number as u64,
-            row,
-            stops(&rt, rt.alloc()),
-            Blank::new(PARTS),
-            marks(&rt, rt.alloc()),
-        );
+    for (number, &row) in ROWS.iter().enumerate() {
+        run(&rt, rt.alloc(), Trial::Lives(number as u64, row));
     }
 }

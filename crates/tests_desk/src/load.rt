@@ -282,19 +282,19 @@ fn load_of(draws: &mut Draws, seed: u64) -> Load {
     }
 }
 
+/// Runs the load of this number, and checks what it leaves.
+fn run_load<R: Abort + Threads + Wait + Clock + Sync>(rt: &R, alloc: Global, seed: u64) {
+    let mut draws = Draws::of(seed);
+    let load = load_of(&mut draws, seed);
+    let handles = stops(rt, alloc);
+    let marks = marks(rt, alloc);
+    let outcome = outcome_of::<R, Brand, Brand>(rt, alloc, load, handles, Blank::new(PARTS), marks);
+    check_load(rt, alloc, &mut draws, load, outcome)
+}
+
 #[test]
 fn homes_are_those_of_the_tickets_in_order(rt: HostRuntime) {
     for seed in 0..LOADS {
-        let mut draws = Draws::of(seed);
-        let load = load_of(&mut draws, seed);
-        let outcome = outcome_of::<HostRuntime, Brand, Brand>(
-            &rt,
-            rt.alloc(),
-            load,
-            stops(&rt, rt.alloc()),
-            Blank::new(PARTS),
-            marks(&rt, rt.alloc()),
-        );
-        check_load(&rt, rt.alloc(), &mut draws, load, outcome);
+        run_load(&rt, rt.alloc(), seed);
     }
 }

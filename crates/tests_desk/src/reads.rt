@@ -1,23 +1,21 @@
 //! Homes that are read at a desk: after each round and each checkpoint, and where the read fails.
-ghost use Rattle.std.specs.Prelude.{◌≡◌, ◌+◌, ◌^◌};
+ghost use Rattle.std.specs.Prelude.{◌≡◌};
 ghost use Rattle.jb_desk.specs.Desks.{desk_id};
-ghost use Rattle.jb_desk.specs.History.{history_in};
-ghost use Rattle.jb_board.specs.History.{history_id};
 ghost use Rattle.jb_desk.specs.Seats.{desk_of};
 ghost use Rattle.jb_handle.specs.Word.{WordMap};
 
-use crate::blind::{marks, small, start, stops};
 use crate::checks::{check, check_at, check_in, fail};
-use crate::journal::{Came, PARTS, Small, Still, begun, formatted, opened, round_of, seated, stop};
-use jb_board::NewHistory;
-use jb_deck::{Deck, ReadHomeFault};
-use jb_desk::{Origin, Seat, StopLedger};
-use jb_disk::{Disk, MemoryDisk, OneFaultDisk};
+use crate::journal::{Came, Still, begun, round_of, seated, stop};
+use crate::trials::{Fate, FaultTrial, Look, Trial, run, run_failing};
+use jb_deck::ReadHomeFault;
+use jb_desk::{Origin, Seat};
+use jb_disk::Disk;
 use std::alloc::Global;
-use std::marker::Brand;
 use std::process::Abort;
 use std::sync::Wait;
-use std::sync::ledger::{Blank, Ledger};
+use std::sync::ledger::Ledger;
+use std::thread::Threads;
+use std::time::Clock;
 
 /// What each home is filled with.
 type Homes = [u8; 16];
@@ -172,21 +170,10 @@ fn check_steps<R: Abort + Wait, D: Disk, H: Origin, N: Ledger>(rt: &R, desk: &St
 }
 
 /// Takes all steps at a new desk, and then reads into half a block.
-fn stepped<R: Abort + Wait, H: Origin, N: Ledger>(
-    rt: &R,
-    alloc: Global,
-    handles: StopLedger,
-    changes: Blank,
-    marks: NewHistory<Deck<MemoryDisk>>,
-)
-    requires blind { (H.begun.is_known → ⊥) × (H.begun.none_failed → ⊥) }
-    requires any { (words : WordMap) → H.begun.stops words }
-    requires handles { (handles.tickets.name ≡ H.name) × (handles.tickets.parts ≡ H.parts) × (H.parts ≡ 2 ^ 61 + 1) }
-    requires histories { (history_in handles ≡ H.history) × (history_id marks ≡ H.marks) }
-    requires changes { (changes.name ≡ N.name) × (changes.parts ≡ N.parts) × (N.parts ≡ 2 ^ 61 + 1) }
+pub fn stepped<R: Abort + Wait, D: Disk, H: Origin, N: Ledger>(rt: &R, desk: &Still<D, H, N>)
+    requires { (words : WordMap) → H.begun.stops words }
 {
-    let desk: Small<H, N> = small(rt, alloc, handles, changes, marks);
-    check_steps(rt, &desk);
+    check_steps(rt, desk);
     let none = desk.read(rt, &mut desk.sights(rt), 16, &mut [0; 512]);
     let short = desk.read(rt, &mut desk.sights(rt), 15, &mut [0; 512]);
     check(
@@ -203,20 +190,14 @@ fn stepped<R: Abort + Wait, H: Origin, N: Ledger>(
 
 #[test]
 fn homes_are_read_as_they_are_committed(rt: HostRuntime) {
-    stepped::<HostRuntime, Brand, Brand>(
-        &rt,
-        rt.alloc(),
-        stops(&rt, rt.alloc()),
-        Blank::new(PARTS),
-        marks(&rt, rt.alloc()),
-    );
+    run(&rt, rt.alloc(), Trial::Look(Look::Reads))
 }
 
-/// A desk whose disk fails once.
-type Failing<H, N> = Still<OneFaultDisk<MemoryDisk>, H, N>;
-
 /// A read fails, a handle is committed after it, and the home is read again.
-fn check_read<R: Abort + Wait, D: Disk + Drop, H: Origin, N: Ledger>(rt: &R, desk: Still<D, H, N>)
+pub fn fate_of<R: Abort + Wait, D: Disk, H: Origin, N: Ledger>(
+    rt: &R,
+    desk: &Still<D, H, N>,
+) -> Fate
     requires any { (words : WordMap) → H.begun.stops words }
 {
     let read = desk.read(rt, &mut desk.sights(rt), 2, &mut [0; 1024]);
@@ -225,50 +206,23 @@ fn check_read<R: Abort + Wait, D: Disk + Drop, H: Origin, N: Ledger>(rt: &R, des
         read == Err(ReadHomeFault::DeviceFault),
         "the read that fails",
     );
-    take(rt, &desk, 0, Step::Fill(1, 11));
-    take(rt, &desk, 1, Step::Round);
-    check(rt, filled(rt, &desk, 2) == 0, "the home that is read again");
+    take(rt, desk, 0, Step::Fill(1, 11));
+    take(rt, desk, 1, Step::Round);
+    check(rt, filled(rt, desk, 2) == 0, "the home that is read again");
+    Fate::Whole
 }
 
-/// Reads where this call of the disk fails; says whether the journal could be opened then.
-fn failing<R: Abort + Wait, H: Origin, N: Ledger>(
-    rt: &R,
-    alloc: Global,
-    call: u64,
-    handles: StopLedger,
-    changes: Blank,
-    marks: NewHistory<Deck<OneFaultDisk<MemoryDisk>>>,
-) -> bool
-    requires blind { (H.begun.is_known → ⊥) × (H.begun.none_failed → ⊥) }
-    requires any { (words : WordMap) → H.begun.stops words }
-    requires handles { (handles.tickets.name ≡ H.name) × (handles.tickets.parts ≡ H.parts) × (H.parts ≡ 2 ^ 61 + 1) }
-    requires histories { (history_in handles ≡ H.history) × (history_id marks ≡ H.marks) }
-    requires changes { (changes.name ≡ N.name) × (changes.parts ≡ N.parts) × (N.parts ≡ 2 ^ 61 + 1) }
-{
-    match opened(alloc, OneFaultDisk::of(formatted(rt, alloc), call)) {
-        Some(deck) => {
-            let desk: Failing<H, N> = start(rt, alloc, handles, changes, marks, deck);
-            check_read(rt, desk);
-            true
+/// Reads at a desk whose disk fails in a call, the first one with which the journal is opened.
+fn read_failing<R: Abort + Threads + Wait + Clock + Sync>(rt: &R, alloc: Global) {
+    for call in 0..200 {
+        if run_failing(rt, alloc, FaultTrial::Read, call) != Fate::Unopened {
+            return;
         }
-        None => false,
     }
+    fail(rt, "the journal is never opened")
 }
 
 #[test]
 fn a_read_that_fails_fails_nothing_else(rt: HostRuntime) {
-    for call in 0..200 {
-        let is_opened = failing::<HostRuntime, Brand, Brand>(
-            &rt,
-            rt.alloc(),
-            call,
-            stops(&rt, rt.alloc()),
-            Blank::new(PARTS),
-            marks(&rt, rt.alloc()),
-        );
-        if is_opened {
-            return;
-        }
-    }
-    fail(&rt, "the journal is never opened")
+    read_failing(&rt, rt.alloc())
 }

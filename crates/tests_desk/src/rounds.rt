@@ -1,27 +1,20 @@
 //! Rounds of a committer over the small journal, with the answers that its limits give by hand.
 ghost use Rattle.std.specs.Prelude.{◌≡◌, ◌+◌, ◌^◌};
 ghost use Rattle.jb_desk.specs.Desks.{desk_id};
-ghost use Rattle.jb_desk.specs.History.{history_in};
-ghost use Rattle.jb_board.specs.History.{history_id};
 ghost use Rattle.jb_desk.specs.Seats.{desk_of};
 ghost use Rattle.jb_handle.specs.Word.{WordMap};
 
-use crate::blind::{marks, start, stops};
 use crate::checks::check;
 use crate::closing::{check_close, check_close_twice, left, over_at};
-use crate::journal::{
-    Came, PARTS, Small, formatted, is_one, numbered, opened, refused, retired, round_of, seated,
-    write,
-};
-use jb_board::{Front, NewHistory};
-use jb_deck::{Checked, CheckpointFault, Deck};
-use jb_desk::{BeginFault, Origin, RoundFault, Seat, StopLedger, WaitFault};
-use jb_disk::MemoryDisk;
+use crate::journal::{Came, Small, is_one, refused, retired, round_of, seated, write};
+use crate::trials::{Trial, run};
+use jb_board::Front;
+use jb_deck::{Checked, CheckpointFault};
+use jb_desk::{BeginFault, Origin, RoundFault, Seat, WaitFault};
 use std::alloc::Global;
-use std::marker::Brand;
 use std::process::Abort;
 use std::sync::Wait;
-use std::sync::ledger::{Blank, Ledger};
+use std::sync::ledger::Ledger;
 use std::time::Clock;
 
 /// A handle has stopped.
@@ -141,7 +134,7 @@ fn check_shut<R: Abort + Wait + Clock, H: Origin, N: Ledger>(
 }
 
 /// What a seat finds that commits its own handle, and what is counted at the end: handles, changes and groups.
-fn one_round<R: Abort + Wait + Clock, H: Origin, N: Ledger>(
+pub fn one_round<R: Abort + Wait + Clock, H: Origin, N: Ledger>(
     rt: &R,
     alloc: Global,
     desk: Small<H, N>,
@@ -186,7 +179,7 @@ fn check_refused<R: Abort + Wait, H: Origin, N: Ledger>(
 
 /// What two handles find of which each takes a group, where the journal has one number left: tickets, how the round
 /// ends, whether the committer retires then, and how the desk is closed.
-fn no_number<R: Abort + Wait, H: Origin, N: Ledger>(rt: &R, alloc: Global, desk: Small<H, N>)
+pub fn no_number<R: Abort + Wait, H: Origin, N: Ledger>(rt: &R, alloc: Global, desk: Small<H, N>)
     requires any { (words : WordMap) → H.begun.stops words }
     requires parts { (H.parts ≡ 2 ^ 61 + 1) × (N.parts ≡ 2 ^ 61 + 1) }
 {
@@ -200,45 +193,9 @@ fn no_number<R: Abort + Wait, H: Origin, N: Ledger>(rt: &R, alloc: Global, desk:
     check_close_twice(rt, "no number", desk, lefts, last, (2, 12, 0))
 }
 
-/// A new desk over a new journal, or over one with one number left.
-fn rows<R: Abort + Wait + Clock, H: Origin, N: Ledger>(
-    rt: &R,
-    alloc: Global,
-    is_last: bool,
-    handles: StopLedger,
-    changes: Blank,
-    marks: NewHistory<Deck<MemoryDisk>>,
-)
-    requires blind { (H.begun.is_known → ⊥) × (H.begun.none_failed → ⊥) }
-    requires any { (words : WordMap) → H.begun.stops words }
-    requires handles { (handles.tickets.name ≡ H.name) × (handles.tickets.parts ≡ H.parts) × (H.parts ≡ 2 ^ 61 + 1) }
-    requires histories { (history_in handles ≡ H.history) × (history_id marks ≡ H.marks) }
-    requires changes { (changes.name ≡ N.name) × (changes.parts ≡ N.parts) × (N.parts ≡ 2 ^ 61 + 1) }
-{
-    let disk = if is_last {
-        numbered(rt, alloc, 4294967294)
-    } else {
-        formatted(rt, alloc)
-    };
-    let deck = opened(alloc, disk).expect(rt, "the journal is not opened");
-    let desk: Small<H, N> = start(rt, alloc, handles, changes, marks, deck);
-    if is_last {
-        no_number(rt, alloc, desk)
-    } else {
-        one_round(rt, alloc, desk)
-    }
-}
-
 #[test]
 fn rounds_answer_as_worked_by_hand(rt: HostRuntime) {
-    for is_last in [false, true] {
-        rows::<HostRuntime, Brand, Brand>(
-            &rt,
-            rt.alloc(),
-            is_last,
-            stops(&rt, rt.alloc()),
-            Blank::new(PARTS),
-            marks(&rt, rt.alloc()),
-        );
+    for trial in [Trial::OneRound, Trial::NoNumber] {
+        run(&rt, rt.alloc(), trial);
     }
 }

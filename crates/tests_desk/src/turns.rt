@@ -1,19 +1,12 @@
 //! Handles that wait for room are begun in the order in which they came.
-ghost use Rattle.std.specs.Prelude.{◌≡◌, ◌+◌, ◌^◌};
-ghost use Rattle.jb_desk.specs.History.{history_in};
-ghost use Rattle.jb_board.specs.History.{history_id};
 
-use crate::blind::{marks, small, stops};
-use crate::checks::check_at;
-use crate::journal::{PARTS, Small, seated};
-use jb_board::NewHistory;
-use jb_deck::Deck;
-use jb_desk::{Origin, StopLedger};
-use jb_disk::MemoryDisk;
+use crate::checks::{Never, check_at};
+use crate::journal::{Small, seated};
+use crate::trials::{Look, Trial, run};
+use jb_desk::{BeginFault, Origin};
 use std::alloc::Global;
-use std::marker::Brand;
 use std::process::Abort;
-use std::sync::ledger::{Blank, Ledger};
+use std::sync::ledger::Ledger;
 use std::sync::{Mutex, Wait};
 use std::thread;
 use std::thread::Threads;
@@ -24,6 +17,11 @@ const THREADS: usize = 12;
 
 /// How long after one thread the next one comes, in milliseconds.
 const APART: u64 = 50;
+
+/// Fails the test, as the handle of this thread is not begun.
+fn not_begun(rt: &impl Abort, k: usize, fault: BeginFault) -> Never {
+    panic!(rt; "the handle of thread {k} is not begun: {fault}")
+}
 
 /// Begins a handle of six credits, notes that it is begun, and drops it once all threads have come.
 fn come<R: Abort + Wait + Clock, H: Origin, N: Ledger>(
@@ -43,7 +41,7 @@ fn come<R: Abort + Wait + Clock, H: Origin, N: Ledger>(
             let seat = desk.abandon(rt, handle);
             let _left = desk.leave(rt, seat);
         }
-        Err((_seat, fault)) => panic!(rt; "the handle of thread {k} is not begun: {fault}"),
+        Err((_seat, fault)) => match not_begun(rt, k, fault) {},
     }
 }
 
@@ -52,21 +50,9 @@ fn order<
     R: Abort + Threads + Wait + Clock + Sync,
     H: Origin + Send + Sync,
     N: Ledger + Send + Sync,
->(
-    rt: &R,
-    alloc: Global,
-    handles: StopLedger,
-    changes: Blank,
-    marks: NewHistory<Deck<MemoryDisk>>,
-) -> Vec<usize>
-    requires blind { (H.begun.is_known → ⊥) × (H.begun.none_failed → ⊥) }
-    requires handles { (handles.tickets.name ≡ H.name) × (handles.tickets.parts ≡ H.parts) × (H.parts ≡ 2 ^ 61 + 1) }
-    requires histories { (history_in handles ≡ H.history) × (history_id marks ≡ H.marks) }
-    requires changes { (changes.name ≡ N.name) × (changes.parts ≡ N.parts) × (N.parts ≡ 2 ^ 61 + 1) }
-{
-    let desk: Small<H, N> = small(rt, alloc, handles, changes, marks);
+>(rt: &R, alloc: Global, desk: &Small<H, N>) -> Vec<usize> {
     let begun = Mutex::new(Vec::new(alloc));
-    thread::map_indices(rt, alloc, THREADS, &|k| come(rt, &desk, k, &begun)).expect(rt, "memory");
+    thread::map_indices(rt, alloc, THREADS, &|k| come(rt, desk, k, &begun)).expect(rt, "memory");
     begun.into_inner()
 }
 
@@ -87,14 +73,16 @@ fn check_order(rt: &impl Abort, begun: &[usize]) {
     }
 }
 
+/// Checks that handles that wait for room at a new desk are begun in the order in which their threads come.
+pub fn check_turns<
+    R: Abort + Threads + Wait + Clock + Sync,
+    H: Origin + Send + Sync,
+    N: Ledger + Send + Sync,
+>(rt: &R, alloc: Global, desk: &Small<H, N>) {
+    check_order(rt, &order(rt, alloc, desk))
+}
+
 #[test]
 fn handles_that_wait_for_room_are_begun_in_the_order_of_arrival(rt: HostRuntime) {
-    let begun = order::<HostRuntime, Brand, Brand>(
-        &rt,
-        rt.alloc(),
-        stops(&rt, rt.alloc()),
-        Blank::new(PARTS),
-        marks(&rt, rt.alloc()),
-    );
-    check_order(&rt, &begun);
+    run(&rt, rt.alloc(), Trial::Look(Look::Turns))
 }

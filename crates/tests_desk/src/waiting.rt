@@ -1,28 +1,22 @@
 //! A thread that waits for a ticket goes on once the ticket is settled, or cannot be any more; so does a checkpointer
 //! that rests.
-ghost use Rattle.std.specs.Prelude.{◌≡◌, ◌+◌, ◌^◌};
+ghost use Rattle.std.specs.Prelude.{◌≡◌};
 ghost use Rattle.jb_desk.specs.Desks.{desk_id};
-ghost use Rattle.jb_desk.specs.History.{history_in};
 ghost use Rattle.jb_desk.specs.Seats.{desk_of};
-ghost use Rattle.jb_board.specs.History.{history_id};
 ghost use Rattle.jb_handle.specs.Word.{WordMap};
 
-use crate::blind::{marks, start, stops};
 use crate::checks::{check, check_of};
 use crate::gate::{await_flag, has_come};
-use crate::journal::{
-    Came, PARTS, Still, commit, formatted, is_one, numbered, opened, retired, round, seated, write,
-};
-use jb_board::NewHistory;
-use jb_deck::{CheckpointFault, Deck};
-use jb_desk::{Origin, RoundFault, Seat, Sights, StopLedger, WaitFault};
-use jb_disk::{Disk, MemoryDisk, OneFaultDisk};
+use crate::journal::{Came, Still, commit, is_one, retired, round, seated, write};
+use crate::trials::{Fate, FaultTrial, run_failing};
+use jb_deck::CheckpointFault;
+use jb_desk::{Origin, RoundFault, Seat, Sights, WaitFault};
+use jb_disk::Disk;
 use std::alloc::Global;
-use std::marker::Brand;
 use std::process::Abort;
 use std::sync::Wait;
 use std::sync::atomic::{AtomicBool, Ordering};
-use std::sync::ledger::{Blank, Ledger};
+use std::sync::ledger::Ledger;
 use std::thread;
 use std::thread::Threads;
 use std::time::{Clock, Duration};
@@ -32,7 +26,7 @@ const APART: u64 = 100;
 
 /// How a wait ends.
 #[derive(Clone, Copy, PartialEq, Eq)]
-enum End {
+pub enum End {
     /// the ticket is committed
     Committed,
     /// its committer gives up, as the journal has one number for two transactions
@@ -214,63 +208,60 @@ fn rest<R: Wait, D: Disk, H: Origin, N: Ledger>(rt: &R, desk: &Still<D, H, N>, t
     told.is_over.store(true, Ordering::SeqCst);
 }
 
+/// What each of three threads does: one waits for a ticket, one is a checkpointer, and one ends the wait.
+fn act<R: Abort + Wait + Clock, D: Disk, H: Origin, N: Ledger>(
+    rt: &R,
+    desk: &Still<D, H, N>,
+    told: &Told,
+    end: End,
+    thread: usize,
+)
+    requires { (words : WordMap) → H.begun.stops words }
+{
+    match thread {
+        0 => wait(rt, desk, told, end),
+        1 => rest(rt, desk, told),
+        _ => end_wait(rt, desk, told, end),
+    }
+}
+
 /// A thread waits for the ticket of a handle that another one commits or gives up, or whose journal fails, beside a
 /// checkpointer.
-fn waited<
+pub fn fate_of<
     R: Abort + Threads + Wait + Clock + Sync,
+    D: Disk + Send,
     H: Origin + Send + Sync,
     N: Ledger + Send + Sync,
->(
-    rt: &R,
-    alloc: Global,
-    end: End,
-    handles: StopLedger,
-    changes: Blank,
-    marks: NewHistory<Deck<OneFaultDisk<MemoryDisk>>>,
-)
-    requires blind { (H.begun.is_known → ⊥) × (H.begun.none_failed → ⊥) }
-    requires any { (words : WordMap) → H.begun.stops words }
-    requires handles { (handles.tickets.name ≡ H.name) × (handles.tickets.parts ≡ H.parts) × (H.parts ≡ 2 ^ 61 + 1) }
-    requires histories { (history_in handles ≡ H.history) × (history_id marks ≡ H.marks) }
-    requires changes { (changes.name ≡ N.name) × (changes.parts ≡ N.parts) × (N.parts ≡ 2 ^ 61 + 1) }
+>(rt: &R, alloc: Global, end: End, desk: &Still<D, H, N>) -> Fate
+    requires { (words : WordMap) → H.begun.stops words }
 {
-    let disk = if end == End::GivenUp {
-        numbered(rt, alloc, 4294967294)
-    } else {
-        formatted(rt, alloc)
-    };
-    let failing = OneFaultDisk::of(disk, end.call());
-    let deck = opened(alloc, failing).expect(rt, "the journal is not opened");
-    let desk: Still<OneFaultDisk<MemoryDisk>, H, N> = start(
-        rt, alloc, handles, changes, marks, deck,
-    );
     let told = Told {
         has_stopped: AtomicBool::new(false),
         is_awaited: AtomicBool::new(false),
         has_ended: AtomicBool::new(false),
         is_over: AtomicBool::new(false),
     };
-    thread::join(
+    thread::map_indices(
         rt,
-        || thread::join(
-            rt,
-            || wait(rt, &desk, &told, end),
-            || rest(rt, &desk, &told),
-        ),
-        || end_wait(rt, &desk, &told, end),
-    );
+        alloc,
+        3,
+        &|k: usize|
+            requires { (words : WordMap) → H.begun.stops words }
+        { act(rt, desk, &told, end, k) },
+    )
+    .expect(rt, "memory");
+    Fate::Whole
+}
+
+/// A wait that ends so, at a new desk.
+fn check_end<R: Abort + Threads + Wait + Clock + Sync>(rt: &R, alloc: Global, end: End) {
+    let fate = run_failing(rt, alloc, FaultTrial::Wait(end), end.call());
+    check(rt, fate == Fate::Whole, "the journal is not opened");
 }
 
 #[test]
 fn a_commit_ends_the_wait_for_its_ticket(rt: HostRuntime) {
     for end in [End::Committed, End::GivenUp, End::DiskFails, End::HasFailed] {
-        waited::<HostRuntime, Brand, Brand>(
-            &rt,
-            rt.alloc(),
-            end,
-            stops(&rt, rt.alloc()),
-            Blank::new(PARTS),
-            marks(&rt, rt.alloc()),
-        );
+        check_end(&rt, rt.alloc(), end);
     }
 }

@@ -1,7 +1,7 @@
 use Rattle.jb_book.specs.Origin.{unknown}
 use Rattle.jb_desk.specs.History.{history_in}
 use Rattle.jb_board.specs.History.{history_id}
-use Rattle.tests_desk.proofs.load.homes_are_those_of_the_tickets_in_order.Given as goal
+use Rattle.tests_desk.proofs.load.run_load.Given as goal
 
 abbrev pub ghosts-outcome_of-H-Ledger : goal.ghosts-outcome_of-H-Ledger
 ghosts-outcome_of-H-Ledger g a = record { name = a.handles.tickets.name; parts = a.handles.tickets.parts }

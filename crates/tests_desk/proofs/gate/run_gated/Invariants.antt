@@ -1,7 +1,7 @@
 use Rattle.jb_book.specs.Origin.{unknown}
 use Rattle.jb_desk.specs.History.{history_in}
 use Rattle.jb_board.specs.History.{history_id}
-use Rattle.tests_desk.proofs.gate.gate_two_stops.Given as goal
+use Rattle.tests_desk.proofs.gate.run_gated.Given as goal
 
 abbrev pub ghosts-gated-H-Ledger : goal.ghosts-gated-H-Ledger
 ghosts-gated-H-Ledger g a = record { name = a.handles.tickets.name; parts = a.handles.tickets.parts }
