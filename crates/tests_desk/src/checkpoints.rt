@@ -191,8 +191,8 @@ fn checkpoint<R: Abort + Wait, D: Disk, H: Origin, N: Ledger>(
     );
 }
 
-/// What each of four threads does: the last handle of the desk is committed while a checkpointer runs beside two threads
-/// that ask for the book.
+/// What each of four threads does: the last handle of the desk is committed while a checkpointer runs, beside two
+/// threads that ask for the book.
 fn race_one<R: Abort + Wait, D: Disk, H: Origin, N: Ledger>(
     rt: &R,
     race: u64,

@@ -210,7 +210,8 @@ fn second<K: Abort + Wait + Clock, D: Disk, H: Origin, N: Ledger>(
     desk.leave(rt, seat)
 }
 
-/// Two threads stop a handle each, the second one while the disk is at work for the first. Gives what their seats leave.
+/// Two threads stop a handle each, the second one while the disk is at work for the first. Gives what their seats
+/// leave.
 fn both<
     R: Abort + Threads + Wait + Clock + Sync,
     D: Disk + Send,

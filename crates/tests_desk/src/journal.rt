@@ -134,11 +134,7 @@ pub fn stop<R: Wait, D: Disk, H: Origin, N: Ledger>(
     requires desk { desk_of (holder handle) ≡ desk_id desk.now }
     ensures { desk_of result.0 ≡ desk_id desk.now }
 {
-    let stopped = {
-        let mut seen = desk.sights(rt);
-        desk.stop(rt, &mut seen, handle)
-    };
-    match stopped {
+    match desk.stop(rt, &mut desk.sights(rt), handle) {
         Ok((seat, ticket)) => (seat, Ok(ticket)),
         Err(StopFault::Aborted(seat)) => (seat, Err(EnqueueFault::Aborted)),
         Err(StopFault::NotOpen(handle)) => (desk.abandon(rt, handle), Err(EnqueueFault::NotOpen)),
@@ -212,11 +208,7 @@ pub fn round<R: Wait, D: Disk, H: Origin, N: Ledger>(
     requires desk { desk_of (seat_of committer.old) ≡ desk_id desk.now }
     ensures desk { desk_of (seat_of committer.new) ≡ desk_of (seat_of committer.old) }
 {
-    let made = {
-        let mut seen = desk.sights(rt);
-        desk.commit_round(rt, committer, &mut seen)
-    };
-    match made {
+    match desk.commit_round(rt, committer, &mut desk.sights(rt)) {
         Ok(Round::Idle(_)) => Came::Idle,
         Ok(Round::Committed(done)) => {
             let entries = done.entries();

@@ -84,11 +84,7 @@ fn stop_again<R: Wait, D: Disk, H: Origin, N: Ledger>(
     requires desk { desk_of (holder handle) ≡ desk_id desk.now }
     ensures { desk_of result.0 ≡ desk_id desk.now }
 {
-    let stopped = {
-        let mut seen = desk.sights(rt);
-        desk.stop(rt, &mut seen, handle)
-    };
-    match stopped {
+    match desk.stop(rt, &mut desk.sights(rt), handle) {
         Ok((seat, ticket)) => (seat, Ok(ticket)),
         Err(StopFault::Memory(handle)) => stop(rt, desk, handle),
         Err(StopFault::Aborted(seat)) => (seat, Err(EnqueueFault::Aborted)),
