@@ -12,7 +12,7 @@ use Rattle.std.proofs.lemmas.List.{drop-drop, length-take-le, take_all, take_at,
 use Rattle.std.proofs.lemmas.Nat.{from_be_bytes-to_be_bytes_8}
 use Rattle.std.proofs.lemmas.List.Folds.{find-append, find_at, find_past, find-set}
 use Rattle.std.proofs.lemmas.List.Quantifiers.{position-Some}
-use Rattle.example_store.specs.Tables.{Changes, number_in, slots_in, value_in}
+use Rattle.example_store.specs.Tables.{ChangesValue, slot_number, slots_in, value_in}
 use Rattle.example_store.specs.declared.table.Slot.{Slot}
 
 abbrev pub is : ℕ → Slot → Bool
@@ -62,7 +62,7 @@ others-stay xs i was other y had old new =
     (apart _ other (λ e. old (sym e ∙ key)))
     (apart y.key other (λ e. new (sym e))))
 
-pub put-own : (xs : List Slot) (i key value : ℕ) → position (is key) xs ≡ Some i → Changes key (Some value) (value_in xs) (value_in (set xs i (record { key = key; value = value })))
+pub put-own : (xs : List Slot) (i key value : ℕ) → position (is key) xs ≡ Some i → ChangesValue key (Some value) (value_in xs) (value_in (set xs i (record { key = key; value = value })))
 put-own xs i key value at =
     let first = position-Some (is key) xs i free at in
     record {
@@ -70,7 +70,7 @@ put-own xs i key value at =
       others = λ other some differ. others-stay xs i key other _ first.1 differ differ;
     }
 
-pub put-free : (xs : List Slot) (i key value : ℕ) → position (is key) xs ≡ None → position (is 0) xs ≡ Some i → Changes key (Some value) (value_in xs) (value_in (set xs i (record { key = key; value = value })))
+pub put-free : (xs : List Slot) (i key value : ℕ) → position (is key) xs ≡ None → position (is 0) xs ≡ Some i → ChangesValue key (Some value) (value_in xs) (value_in (set xs i (record { key = key; value = value })))
 put-free xs i key value none at =
     let first = position-Some (is 0) xs i free at in
     record {
@@ -81,12 +81,12 @@ put-free xs i key value none at =
 -- ---- the slots of a block, one after the other
 
 abbrev pub slot_in : List ℕ → ℕ → Slot
-slot_in bytes at = record { key = number_in bytes at; value = number_in bytes (at + 8) }
+slot_in bytes at = record { key = slot_number bytes at; value = slot_number bytes (at + 8) }
 
 abbrev mk : ℕ → ℕ → Slot
 mk n v = record { key = n; value = v }
 
-pub read-more : (bytes : List ℕ) (slots : List Slot) (at key value : ℕ) → length slots ≡ 64 → at < 64 → key ≡ number_in bytes (16 * at) → value ≡ number_in bytes (16 * at + 8)
+pub read-more : (bytes : List ℕ) (slots : List Slot) (at key value : ℕ) → length slots ≡ 64 → at < 64 → key ≡ slot_number bytes (16 * at) → value ≡ slot_number bytes (16 * at + 8)
     → take at slots ++ slots_in (64 - at) (drop (16 * at) bytes) ≡ slots_in 64 bytes
     → take (at + 1) (set slots at (record { key = key; value = value })) ++ slots_in (64 - (at + 1)) (drop (16 * (at + 1)) bytes) ≡ slots_in 64 bytes
 unfolding slots_in
@@ -95,8 +95,8 @@ read-more bytes slots at key value long before is-key is-value were =
     let left : ℕ = 64 - (at + 1) in
     let k : ℕ = 16 * at in
     let one-less : 64 - at ≡ suc left = omega (arith, before) in
-    let value-is : number_in (drop k bytes) 8 ≡ value = ap (λ bs. from_be_bytes w64 (take 8 bs)) (drop-drop 8 k bytes) ∙ sym is-value in
-    let slot-is : slot_in (drop k bytes) 0 ≡ new = ap (λ v. mk (number_in bytes k) v) value-is ∙ ap (λ n. mk n value) (sym is-key) in
+    let value-is : slot_number (drop k bytes) 8 ≡ value = ap (λ bs. from_be_bytes w64 (take 8 bs)) (drop-drop 8 k bytes) ∙ sym is-value in
+    let slot-is : slot_in (drop k bytes) 0 ≡ new = ap (λ v. mk (slot_number bytes k) v) value-is ∙ ap (λ n. mk n value) (sym is-key) in
     let rest-is : drop 16 (drop k bytes) ≡ drop (16 * (at + 1)) bytes = drop-drop 16 k bytes ∙ ap (λ m. drop m bytes) (omega arith) in
     let step : slots_in (64 - at) (drop k bytes) ≡ new ∷ slots_in left (drop (16 * (at + 1)) bytes) =
     ap (λ n. slots_in n (drop k bytes)) one-less ∙ ap (λ s. s ∷ slots_in left (drop 16 (drop k bytes))) slot-is ∙ ap (λ bs. new ∷ slots_in left bs) rest-is in
@@ -185,7 +185,7 @@ freed-none key old now at within has freed = record {
   gone = λ some. gone-more key now at (get_or now at free) (take (at + 1) now) (freed.gone some) (apart _ key has) (take_more now at free within);
 }
 
-pub freed-all : (key : ℕ) (old now : List Slot) (at : ℕ) → length now ≤ at → Freed key old now at → Changes key None (value_in old) (value_in now)
+pub freed-all : (key : ℕ) (old now : List Slot) (at : ℕ) → length now ≤ at → Freed key old now at → ChangesValue key None (value_in old) (value_in now)
 freed-all key old now at end freed = record {
   own = λ some. ap (option_map (λ s. s.value)) (ap (find (is key)) (sym (take_all at now end)) ∙ freed.gone some);
   others = freed.others;

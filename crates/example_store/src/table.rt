@@ -2,7 +2,7 @@
 ghost use Rattle.std.specs.Int.{w64, to_be_bytes};
 ghost use Rattle.std.specs.Prelude.{◌+◌, ◌++◌, ◌≡◌, ◌<◌, ◌≤◌, ◌^◌, drop, length, take, None, Some, OnOk, nat_eq};
 ghost use Rattle.std.specs.List.{position};
-ghost use Rattle.example_store.specs.Tables.{Changes, number_in, slots_in, value_in};
+ghost use Rattle.example_store.specs.Tables.{ChangesValue, slot_number, slots_in, value_in};
 
 use crate::failed::Failed;
 
@@ -32,7 +32,7 @@ pub struct Table {
 impl Table {
     ghost use Rattle.std.specs.Prelude.{◌≡◌, None, Some, OnOk, nat_eq};
     ghost use Rattle.std.specs.List.{position};
-    ghost use Rattle.example_store.specs.Tables.{Changes, slots_in, value_in};
+    ghost use Rattle.example_store.specs.Tables.{ChangesValue, slots_in, value_in};
 
     /// The table that a home block has. A block that was never written has no keys.
     pub fn of_block(block: &Block) -> Table
@@ -81,7 +81,7 @@ impl Table {
     /// # Errors
     /// `NoRoom` where the key has no slot, and no slot is free.
     pub fn put(&mut self, key: u64, value: u64) -> Result<(), Failed>
-        ensures { OnOk result (Changes key (Some value) (value_in self.old.slots) (value_in self.new.slots)) }
+        ensures { OnOk result (ChangesValue key (Some value) (value_in self.old.slots) (value_in self.new.slots)) }
     {
         let at = match self.place(key) {
             Some(own) => own,
@@ -96,7 +96,7 @@ impl Table {
 
     /// Takes a key out.
     pub fn delete(&mut self, key: u64)
-        ensures { Changes key None (value_in self.old.slots) (value_in self.new.slots) }
+        ensures { ChangesValue key None (value_in self.old.slots) (value_in self.new.slots) }
     {
         for at in 0..SLOTS {
             if self.slots[at].key == key {
@@ -109,7 +109,7 @@ impl Table {
 /// The number in the eight bytes from this one on.
 fn number_at(block: &Block, at: usize) -> u64
     requires { at + 8 ≤ length block.now }
-    ensures { result ≡ number_in block.now at }
+    ensures { result ≡ slot_number block.now at }
 {
     let mut bytes = [0; 8];
     bytes.copy_from_slice(&block[at..at + 8]);
