@@ -1,1 +1,2 @@
 mod StoreKeeps
+pub mod TableLemmas

@@ -1,13 +1,15 @@
 -- What the store keeps of what it has acknowledged.
-use Rattle.std.specs.Prelude.{◌≡◌, ◌⊎◌, ℕ, ◌≤◌, All, List, [], ◌∷◌, ◌++◌, length, Result, Ok, Err}
+use Rattle.std.specs.Prelude.{◌≡◌, ◌≢◌, ◌⊎◌, Option, ℕ, ◌≤◌, All, List, [], ◌∷◌, ◌++◌, length, Result, Ok, Err}
 use Rattle.jb_journal.specs.Client.{one_block}
-use Rattle.jb_journal.specs.Notes.{Note, AreInNotes, IsInNotes, Known, Stop}
+use Rattle.jb_journal.specs.Names.{Begun}
+use Rattle.jb_journal.specs.Notes.{Note, AreInNotes, IsInNotes, Known, ReadsAs, Stop}
 use Rattle.jb_journal.specs.OpenFile.{WasRecoveredOrMade}
 use Rattle.jb_journal.specs.Run.{RanOn}
 use Rattle.jb_journal.specs.Names.{Ghosts, Starts, FileDisk, ImageGeometry, as_file}
 use Rattle.jb_journal.specs.Start.{started_on}
 use Rattle.jb_journal.specs.Stays.{HandleStays}
 use Rattle.jb_journal.specs.declared.ran.Ran.{Ran}
+use Rattle.example_store.specs.Tables.{value_at}
 use Rattle.example_store.specs.declared.failed.Failed.{Failed}
 
 -- one handle more, which leaves these bytes in this home and touches no other, and is known to be committed
@@ -30,6 +32,18 @@ PutsBlock home bytes old new notes (Err fault) = MayHaveStopped old new
 abbrev pub PutsHome : {E : Type 0} → ℕ → List Stop → List Stop → List Note → Result Unit E → Type 0
 PutsHome home old new notes (Ok unit) = (bytes : List ℕ) × IsPut home bytes old new notes
 PutsHome home old new notes (Err fault) = MayHaveStopped old new
+
+-- a home was read, with what the calls that read it promise of its bytes, and the bytes say this
+pub record WasRead (b : Begun) (sure : Type 0) (before after : Known) (home : ℕ) (says : List ℕ → Type 0) : Type 0 where
+  pub bytes : List ℕ
+  pub read : ReadsAs b sure before after home bytes
+  pub said : says bytes
+
+-- one handle more, which is known to be committed, and leaves bytes in this home that say this of the key; 0 is no key
+pub record PutsAt (key : ℕ) (value : Option ℕ) (home : ℕ) (old new : List Stop) (notes : List Note) : Type 0 where
+  pub bytes : List ℕ
+  pub put : IsPut home bytes old new notes
+  pub said : key ≢ 0 → value_at bytes key ≡ value
 
 -- these handles are known to be committed, but the last one at most
 pub record AreInNotesButOne (notes : List Note) (stops : List Stop) : Type 0 where

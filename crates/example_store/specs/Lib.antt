@@ -1,1 +1,2 @@
 pub mod AcknowledgedPuts
+pub mod Tables

@@ -1,8 +1,9 @@
 //! The store: each key is in one home block, and each change of it is a handle.
-ghost use Rattle.std.specs.Prelude.{◌≡◌, ◌%◌};
-ghost use Rattle.jb_journal.specs.Client.{MayWait, client_known, client_stops};
+ghost use Rattle.std.specs.Prelude.{◌≡◌, ◌%◌, None, OnOk, IfOk, Some};
+ghost use Rattle.jb_journal.specs.Client.{MayWait, client_honest, client_known, client_stops};
 ghost use Rattle.jb_journal.specs.Notes.{KnowsMore};
-ghost use Rattle.example_store.specs.AcknowledgedPuts.{PutsHome, PutsBlock};
+ghost use Rattle.example_store.specs.Tables.{slots_in, value_at};
+ghost use Rattle.example_store.specs.AcknowledgedPuts.{PutsAt, PutsBlock, PutsHome, WasRead};
 
 use crate::failed::Failed;
 use crate::table::{BYTES, Block, Table};
@@ -29,6 +30,9 @@ pub fn put<'a, D: Disk, C: Clock, R: Wait + time::Clock, H: Origin, N: Ledger>(
     ensures puts { PutsHome (key % 32) (client_stops client.old) (client_stops client.new)
         (client_known client.new).notes
         result }
+    /// A put that is done has left bytes in the home of its key that say the value at it.
+    ensures value { OnOk result (PutsAt key (Some value) (key % 32) (client_stops client.old) (client_stops client.new)
+        (client_known client.new).notes) }
 {
     let mut table = table_of(client, key)?;
     table.put(key, value)?;
@@ -48,6 +52,9 @@ pub fn get<'a, D: Disk, C: Clock, R: Wait + time::Clock, H: Origin, N: Ledger>(
     ensures client { MayWait H.begun client.new }
     ensures begins { KnowsMore (client_known client.old) (client_known client.new) }
     ensures kept { client_stops client.new ≡ client_stops client.old }
+    /// A get answers what the bytes say at its key that a read of the key's home gave.
+    ensures value { IfOk result (λ value. WasRead H.begun (client_honest client.new) (client_known client.old)
+        (client_known client.new) (key % 32) (λ bytes. value ≡ value_at bytes key)) }
 {
     let table = table_of(client, key)?;
     Ok(table.get(key))
@@ -67,6 +74,9 @@ pub fn delete<'a, D: Disk, C: Clock, R: Wait + time::Clock, H: Origin, N: Ledger
     ensures puts { PutsHome (key % 32) (client_stops client.old) (client_stops client.new)
         (client_known client.new).notes
         result }
+    /// A delete that is done has left bytes in the home of its key that say nothing at it.
+    ensures value { OnOk result (PutsAt key None (key % 32) (client_stops client.old) (client_stops client.new)
+        (client_known client.new).notes) }
 {
     let mut table = table_of(client, key)?;
     table.delete(key);
@@ -82,6 +92,8 @@ fn table_of<'a, D: Disk, C: Clock, R: Wait + time::Clock, H: Origin, N: Ledger>(
     ensures client { MayWait H.begun client.new }
     ensures begins { KnowsMore (client_known client.old) (client_known client.new) }
     ensures kept { client_stops client.new ≡ client_stops client.old }
+    ensures reads { IfOk result (λ table. WasRead H.begun (client_honest client.new) (client_known client.old)
+        (client_known client.new) (key % 32) (λ bytes. table.slots ≡ slots_in 64 bytes)) }
 {
     let mut block: Block = [0; BYTES];
     client.read(key % HOMES, &mut block)?;

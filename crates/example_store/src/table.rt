@@ -1,5 +1,8 @@
 //! One home block as a table of keys and values.
-ghost use Rattle.std.specs.Prelude.{◌+◌, ◌≤◌, length};
+ghost use Rattle.std.specs.Int.{w64, to_be_bytes};
+ghost use Rattle.std.specs.Prelude.{◌+◌, ◌++◌, ◌≡◌, ◌<◌, ◌≤◌, ◌^◌, drop, length, take, None, Some, OnOk, nat_eq};
+ghost use Rattle.std.specs.List.{position};
+ghost use Rattle.example_store.specs.Tables.{ChangesValue, slot_number, slots_in, value_in};
 
 use crate::failed::Failed;
 
@@ -27,8 +30,14 @@ pub struct Table {
 }
 
 impl Table {
+    ghost use Rattle.std.specs.Prelude.{◌≡◌, None, Some, OnOk, nat_eq};
+    ghost use Rattle.std.specs.List.{position};
+    ghost use Rattle.example_store.specs.Tables.{ChangesValue, slots_in, value_in};
+
     /// The table that a home block has. A block that was never written has no keys.
-    pub fn of_block(block: &Block) -> Table {
+    pub fn of_block(block: &Block) -> Table
+        ensures { result.slots ≡ slots_in 64 block.now }
+    {
         let mut slots = [FREE; SLOTS];
         for at in 0..SLOTS {
             slots[at] = Slot {
@@ -40,41 +49,58 @@ impl Table {
     }
 
     /// The home block of the table.
-    pub fn block(&self) -> Block {
+    pub fn block(&self) -> Block
+        ensures { slots_in 64 result ≡ self.now.slots }
+    {
         let mut block: Block = [0; BYTES];
         for at in 0..SLOTS {
             let slot = self.slots[at];
-            block[16 * at..16 * at + 8].copy_from_slice(&slot.key.to_be_bytes());
-            block[16 * at + 8..16 * at + 16].copy_from_slice(&slot.value.to_be_bytes());
+            put_number(&mut block, 16 * at, slot.key);
+            put_number(&mut block, 16 * at + 8, slot.value);
         }
         block
     }
 
     /// The value at a key.
-    pub fn get(&self, key: u64) -> Option<u64> {
-        let slot = self.slots.iter().find(|slot| slot.key == key)?;
-        Some(slot.value)
+    pub fn get(&self, key: u64) -> Option<u64>
+        ensures { result ≡ value_in self.now.slots key }
+    {
+        let at = self.place(key)?;
+        Some(self.slots[at].value)
+    }
+
+    /// The first slot that has this key.
+    fn place(&self, key: u64) -> Option<usize>
+        ensures { result ≡ position (λ slot. nat_eq slot.key key) self.now.slots }
+    {
+        self.slots.iter().position(|slot| slot.key == key)
     }
 
     /// Puts a value at a key, in its slot or in a free one.
     ///
     /// # Errors
     /// `NoRoom` where the key has no slot, and no slot is free.
-    pub fn put(&mut self, key: u64, value: u64) -> Result<(), Failed> {
-        let own = self.slots.iter().position(|slot| slot.key == key);
-        let free = self.slots.iter().position(|slot| slot.key == 0);
-        let Some(at) = own.or(free) else {
-            return Err(Failed::NoRoom(SLOTS));
+    pub fn put(&mut self, key: u64, value: u64) -> Result<(), Failed>
+        ensures { OnOk result (ChangesValue key (Some value) (value_in self.old.slots) (value_in self.new.slots)) }
+    {
+        let at = match self.place(key) {
+            Some(own) => own,
+            None => match self.place(0) {
+                Some(free) => free,
+                None => return Err(Failed::NoRoom(SLOTS)),
+            },
         };
         self.slots[at] = Slot { key, value };
         Ok(())
     }
 
     /// Takes a key out.
-    pub fn delete(&mut self, key: u64) {
-        for slot in &mut self.slots {
-            if slot.key == key {
-                *slot = FREE;
+    pub fn delete(&mut self, key: u64)
+        ensures { ChangesValue key None (value_in self.old.slots) (value_in self.new.slots) }
+    {
+        for at in 0..SLOTS {
+            if self.slots[at].key == key {
+                self.slots[at] = FREE;
             }
         }
     }
@@ -83,8 +109,18 @@ impl Table {
 /// The number in the eight bytes from this one on.
 fn number_at(block: &Block, at: usize) -> u64
     requires { at + 8 ≤ length block.now }
+    ensures { result ≡ slot_number block.now at }
 {
     let mut bytes = [0; 8];
     bytes.copy_from_slice(&block[at..at + 8]);
     u64::from_be_bytes(bytes)
+}
+
+/// Writes the number into the eight bytes from this one on; all other bytes stay.
+fn put_number(block: &mut Block, at: usize, number: u64)
+    requires { at + 8 ≤ length block.old }
+    ensures written { block.new ≡ take at block.old ++ (to_be_bytes w64 number ++ drop (at + 8) block.old) }
+    ensures fits { number < 2 ^ 64 }
+{
+    block[at..at + 8].copy_from_slice(&number.to_be_bytes());
 }

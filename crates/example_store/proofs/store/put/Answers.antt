@@ -1,9 +1,18 @@
-use Rattle.std.proofs.Common.{rules, subst}
+use Rattle.std.proofs.Common.{rules, ap, subst, ◌∙◌}
 use Rattle.jb_journal.specs.Client.{client_stops}
 use Rattle.example_store.specs.AcknowledgedPuts.{MayHaveStopped}
+use Rattle.example_store.proofs.StoreKeeps.{put_after}
+use Rattle.example_store.specs.Tables.{value_in}
 use Rattle.example_store.proofs.store.put.Goals as goal
 
 pub returns-in_err-write-clause-puts : goal.returns-in_err-write-clause-puts
 returns-in_err-write-clause-puts g c =
     let more : MayHaveStopped (client_stops c.args.client.now) (client_stops c.write.new.client) = subst (λ l. MayHaveStopped l (client_stops c.write.new.client)) c.table_of.ensures.kept c.in_err-write.ensures.puts in
     search (rules, more)
+
+pub returns-clause-value : goal.returns-clause-value
+returns-clause-value g c = record {
+  bytes = c.block.result;
+  put = put_after _ c.block.result _ _ _ _ c.table_of.ensures.kept c.in_ok-write.ensures.puts;
+  said = λ some. ap (λ slots. value_in slots c.args.key) c.block.ensures ∙ c.in_ok-put.ensures.own some;
+}
