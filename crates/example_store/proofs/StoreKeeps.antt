@@ -2,8 +2,8 @@
 use Rattle.std.proofs.Common.{◌≡◌, ℕ, ◌+◌, List, [], ◌∷◌, ◌++◌, length, Result, Ok, Err, slice_get, get_or, inl, inr, refl, sym, ap, subst, ◌∙◌, arith, append-nil}
 use Rattle.std.proofs.lemmas.List.Elements.{All-push}
 use Rattle.jb_journal.specs.Client.{one_block}
-use Rattle.jb_journal.specs.Names.{Ghosts}
-use Rattle.jb_journal.specs.Notes.{Note, AreInNotes, IsInNotes, Known, KnowsMore, Stop}
+use Rattle.jb_journal.specs.Names.{Begun, Ghosts}
+use Rattle.jb_journal.specs.Notes.{Note, AreInNotes, IsInNotes, Known, KnowsMore, ReadsAs, Stop}
 use Rattle.jb_journal.specs.Run.{RanOn}
 use Rattle.jb_journal.specs.Start.{started_on}
 use Rattle.jb_journal.specs.declared.ran.Ran.{Ran}
@@ -45,6 +45,16 @@ puts_home home bytes old mid new notes (Err fault) same more = subst (λ l. MayH
 -- a block was put, after nothing was stopped
 pub put_after : (home : ℕ) (bytes : List ℕ) (old mid new : List Stop) (notes : List Note) → mid ≡ old → IsPut home bytes mid new notes → IsPut home bytes old new notes
 put_after home bytes old mid new notes same put = subst (λ l. IsPut home bytes l new notes) same put
+
+-- a read says no less where more is sure
+pub read_sure : (b : Begun) (sure more : Type 0) (before after : Known) (home : ℕ) (found : List ℕ) → (more → sure) → ReadsAs b sure before after home found → ReadsAs b more before after home found
+read_sure b sure more before after home found so read = record {
+  given = read.given;
+  tickets = read.tickets;
+  are = read.are;
+  sees = read.sees;
+  stands = λ known held. read.stands known (so held);
+}
 
 -- with what its bytes say
 pub puts_at : {E : Type 0} (key : ℕ) (value : Option ℕ) (home : ℕ) (bytes : List ℕ) (old mid new : List Stop) (notes : List Note) (r : Result (Unit {0}) E) → mid ≡ old → (key ≢ 0 → value_at bytes key ≡ value) → PutsBlock home bytes mid new notes r → OnOk r (PutsAt key value home old new notes)

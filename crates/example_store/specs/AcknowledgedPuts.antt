@@ -2,7 +2,7 @@
 use Rattle.std.specs.Prelude.{◌≡◌, ◌≢◌, ◌⊎◌, Option, ℕ, ◌≤◌, All, List, [], ◌∷◌, ◌++◌, length, Result, Ok, Err}
 use Rattle.jb_journal.specs.Client.{one_block}
 use Rattle.jb_journal.specs.Names.{Begun}
-use Rattle.jb_journal.specs.Notes.{Note, AreInNotes, IsInNotes, Known, ReadsAs, Stop}
+use Rattle.jb_journal.specs.Notes.{Note, AreInNotes, IsInNotes, Known, KnowsMore, ReadsAs, Stop}
 use Rattle.jb_journal.specs.OpenFile.{WasRecoveredOrMade}
 use Rattle.jb_journal.specs.Run.{RanOn}
 use Rattle.jb_journal.specs.Names.{Ghosts, Starts, FileDisk, ImageGeometry, as_file}
@@ -44,6 +44,17 @@ pub record PutsAt (key : ℕ) (value : Option ℕ) (home : ℕ) (old new : List 
   pub bytes : List ℕ
   pub put : IsPut home bytes old new notes
   pub said : key ≢ 0 → value_at bytes key ≡ value
+
+-- the home was read before, and its new bytes say of all other keys what those said that were read
+pub record KeepsOthers (b : Begun) (sure : Type 0) (before after : Known) (key home : ℕ) (old new : List Stop)
+    : Type 0 where
+  pub seen : Known
+  pub grows : KnowsMore seen after
+  pub was : List ℕ
+  pub read : ReadsAs b sure before seen home was
+  pub bytes : List ℕ
+  pub put : IsPut home bytes old new after.notes
+  pub stay : (other : ℕ) → other ≢ 0 → other ≢ key → value_at bytes other ≡ value_at was other
 
 -- these handles are known to be committed, but the last one at most
 pub record AreInNotesButOne (notes : List Note) (stops : List Stop) : Type 0 where

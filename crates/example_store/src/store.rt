@@ -3,7 +3,7 @@ ghost use Rattle.std.specs.Prelude.{◌≡◌, ◌%◌, None, OnOk, IfOk, Some};
 ghost use Rattle.jb_journal.specs.Client.{MayWait, client_honest, client_known, client_stops};
 ghost use Rattle.jb_journal.specs.Notes.{KnowsMore};
 ghost use Rattle.example_store.specs.Tables.{slots_in, value_at};
-ghost use Rattle.example_store.specs.AcknowledgedPuts.{PutsAt, PutsBlock, PutsHome, WasRead};
+ghost use Rattle.example_store.specs.AcknowledgedPuts.{KeepsOthers, PutsAt, PutsBlock, PutsHome, WasRead};
 
 use crate::failed::Failed;
 use crate::table::{BYTES, Block, Table};
@@ -33,6 +33,9 @@ pub fn put<'a, D: Disk, C: Clock, R: Wait + time::Clock, H: Origin, N: Ledger>(
     /// A put that is done has left bytes in the home of its key that say the value at it.
     ensures value { OnOk result (PutsAt key (Some value) (key % 32) (client_stops client.old) (client_stops client.new)
         (client_known client.new).notes) }
+    /// A put that is done leaves what the home's bytes said of all other keys when it read them.
+    ensures others { OnOk result (KeepsOthers H.begun (client_honest client.new) (client_known client.old)
+        (client_known client.new) key (key % 32) (client_stops client.old) (client_stops client.new)) }
 {
     let mut table = table_of(client, key)?;
     table.put(key, value)?;
@@ -111,6 +114,7 @@ fn write<'a, D: Disk, C: Clock, R: Wait + time::Clock, H: Origin, N: Ledger>(
     ensures begins { KnowsMore (client_known client.old) (client_known client.new) }
     ensures puts { PutsBlock (key % 32) block.now (client_stops client.old) (client_stops client.new)
         (client_known client.new).notes result }
+    ensures honest { OnOk result (client_honest client.new → client_honest client.old) }
 {
     let (_, ticket) = client.change(1, |handle: &mut Handle<()>| -> Result<(), TouchFault> {
         handle.write(key % HOMES, block)

@@ -1,7 +1,7 @@
 use Rattle.std.proofs.Common.{rules, ap, subst, ◌∙◌}
-use Rattle.jb_journal.specs.Client.{client_stops}
+use Rattle.jb_journal.specs.Client.{client_known, client_stops}
 use Rattle.example_store.specs.AcknowledgedPuts.{MayHaveStopped}
-use Rattle.example_store.proofs.StoreKeeps.{put_after}
+use Rattle.example_store.proofs.StoreKeeps.{put_after, read_sure}
 use Rattle.example_store.specs.Tables.{value_in}
 use Rattle.example_store.proofs.store.put.Goals as goal
 
@@ -16,3 +16,16 @@ returns-clause-value g c = record {
   put = put_after _ c.block.result _ _ _ _ c.table_of.ensures.kept c.in_ok-write.ensures.puts;
   said = λ some. ap (λ slots. value_in slots c.args.key) c.block.ensures ∙ c.in_ok-put.ensures.own some;
 }
+
+pub returns-clause-others : goal.returns-clause-others
+returns-clause-others g c =
+    let was = c.in_ok-table.ensures.reads in
+    record {
+      seen = client_known c.table_of.new.client;
+      grows = c.write.ensures.begins;
+      was = was.bytes;
+      read = read_sure _ _ _ _ _ _ _ c.in_ok-write.ensures.honest was.read;
+      bytes = c.block.result;
+      put = put_after _ c.block.result _ _ _ _ c.table_of.ensures.kept c.in_ok-write.ensures.puts;
+      stay = λ other some differ. ap (λ slots. value_in slots other) c.block.ensures ∙ c.in_ok-put.ensures.others other some differ ∙ ap (λ slots. value_in slots other) was.said;
+    }
