@@ -9,9 +9,7 @@ use Rattle.jb_journal.specs.Start.{started_on}
 use Rattle.jb_journal.specs.declared.ran.Ran.{Ran}
 use Rattle.jb_journal.proofs.ClientNotes.{noted-on}
 use Rattle.jb_journal.proofs.KnownStays.{all-stay}
-use Rattle.example_store.specs.AcknowledgedPuts.{Acknowledges, AreInNotesButOne, IsLast, IsPut, Keeps, MayHaveStopped, PutsAt, PutsBlock, PutsHome}
-use Rattle.std.proofs.Common.{◌≢◌, Option, OnOk}
-use Rattle.example_store.specs.Tables.{value_at}
+use Rattle.example_store.specs.AcknowledgedPuts.{Acknowledges, AreInNotesButOne, IsLast, IsPut, Keeps, MayHaveStopped}
 use Rattle.example_store.specs.declared.failed.Failed.{Failed}
 
 -- what is known stays known
@@ -37,11 +35,6 @@ put_noted home bytes before after old new more each put =
 pub same_noted : (before after : Known) (old new : List Stop) → KnowsMore before after → AreInNotes before.notes old → new ≡ old → AreInNotes after.notes new
 same_noted before after old new more each same = subst (AreInNotes after.notes) (sym same) (are_noted_on before after more old each)
 
--- a block was put, or perhaps was, after nothing was stopped
-pub puts_home : {E : Type 0} (home : ℕ) (bytes : List ℕ) (old mid new : List Stop) (notes : List Note) (r : Result (Unit {0}) E) → mid ≡ old → PutsBlock home bytes mid new notes r → PutsHome home old new notes r
-puts_home home bytes old mid new notes (Ok unit) same put = (bytes, subst (λ l. IsPut home bytes l new notes) same put)
-puts_home home bytes old mid new notes (Err fault) same more = subst (λ l. MayHaveStopped l new) same more
-
 -- a block was put, after nothing was stopped
 pub put_after : (home : ℕ) (bytes : List ℕ) (old mid new : List Stop) (notes : List Note) → mid ≡ old → IsPut home bytes mid new notes → IsPut home bytes old new notes
 put_after home bytes old mid new notes same put = subst (λ l. IsPut home bytes l new notes) same put
@@ -55,11 +48,6 @@ read_sure b sure more before after home found so read = record {
   sees = read.sees;
   stands = λ known held. read.stands known (so held);
 }
-
--- with what its bytes say
-pub puts_at : {E : Type 0} (key : ℕ) (value : Option ℕ) (home : ℕ) (bytes : List ℕ) (old mid new : List Stop) (notes : List Note) (r : Result (Unit {0}) E) → mid ≡ old → (key ≢ 0 → value_at bytes key ≡ value) → PutsBlock home bytes mid new notes r → OnOk r (PutsAt key value home old new notes)
-puts_at key value home bytes old mid new notes (Ok unit) same said put = record { bytes = bytes; put = subst (λ l. IsPut home bytes l new notes) same put; said = said }
-puts_at key value home bytes old mid new notes (Err fault) same said more = tt
 
 -- whatever is answered then
 pub ack : (known : Known) (stops : List Stop) (r : Result (Unit {0}) Failed) → AreInNotes known.notes stops → Acknowledges stops known.notes r

@@ -80,10 +80,14 @@ pub fn delete<'a, D: Disk, C: Clock, R: Wait + time::Clock, H: Origin, N: Ledger
     /// A delete that is done has left bytes in the home of its key that say nothing at it.
     ensures value { OnOk result (PutsAt key None (key % 32) (client_stops client.old) (client_stops client.new)
         (client_known client.new).notes) }
+    /// A delete that is done leaves what the home's bytes said of all other keys when it read them.
+    ensures others { OnOk result (KeepsOthers H.begun (client_honest client.new) (client_known client.old)
+        (client_known client.new) key (key % 32) (client_stops client.old) (client_stops client.new)) }
 {
     let mut table = table_of(client, key)?;
     table.delete(key);
-    write(client, key, &table.block())
+    write(client, key, &table.block())?;
+    Ok(())
 }
 
 /// The table that has the key, as it is committed. All that was put is committed, since each change waits.
