@@ -47,7 +47,7 @@ pub fn misread<D: Disk, E: Disk>(reader: &mut HomeReader<D>, disk: &mut E) -> Op
 }
 
 /// A reader of a disk that can be read.
-pub fn reader_of<D: Disk>(test: &impl Bench, disk: D) -> HomeReader<D> {
+pub fn reader_of<D: Disk + Drop>(test: &impl Bench, disk: D) -> HomeReader<D> {
     let Ok(reader) = HomeReader::open(test.alloc(), disk) else {
         return fail(test, "a reader");
     };
