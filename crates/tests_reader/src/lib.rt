@@ -1,4 +1,4 @@
-//! Tests of homes that are read by an index of the log.
+//! Tests of homes that are read by an index of the log, and of lengths of journals.
 #![tactic(auto)]
 
 #[cfg(test)]
@@ -9,6 +9,8 @@ mod checks;
 mod files;
 #[cfg(test)]
 mod homes;
+#[cfg(test)]
+mod lengths;
 #[cfg(test)]
 mod logs;
 #[cfg(test)]

@@ -90,8 +90,9 @@ pub const BAD: [Laid; 5] = [
 
 /// Puts these blocks on a disk of blocks of 1 KiB.
 pub fn put_blocks<D: Disk>(test: &impl Bench, disk: &mut D, blocks: &[Laid]) {
-    for (place, rows) in blocks {
-        write_at(test, disk, *place, &block_with(rows));
+    for block in blocks {
+        let (place, rows) = *block;
+        write_at(test, disk, place, &block_with(rows));
     }
     disk.sync().must(test, "a sync")
 }
