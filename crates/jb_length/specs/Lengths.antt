@@ -1,5 +1,5 @@
 -- Which handles a new journal of some length takes, whatever blocks they touch.
-use Rattle.std.specs.Prelude.{◌≡◌, ◌+◌, ◌-◌, ◌/◌, ◌<◌, ◌≤◌, ◌^◌, ℕ, Bool, max}
+use Rattle.std.specs.Prelude.{◌+◌, ◌-◌, ◌/◌, ◌<◌, ◌≤◌, ◌^◌, ℕ, Bool, max}
 use Rattle.std.specs.Int.{div_ceil}
 use Rattle.jb_block.specs.Capacity.{tags_in}
 
@@ -24,4 +24,4 @@ TakesHandles wide size journal credits = handle_blocks wide size credits ≤ new
 pub record IsLeastLength (wide : Bool) (size credits least : ℕ) : Type 0 where
   pub length : MayBeLength least
   pub takes : TakesHandles wide size least credits
-  pub least : (journal : ℕ) → MayBeLength journal → TakesHandles wide size journal credits → least ≤ journal
+  pub shortest : (journal : ℕ) → MayBeLength journal → TakesHandles wide size journal credits → least ≤ journal

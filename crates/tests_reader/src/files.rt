@@ -76,9 +76,17 @@ fn check_readers(rt: &impl FileHost) {
     let mut reader = opened(rt);
     let mut disk = opened(rt).close();
     let home = misread(&mut reader, &mut disk);
-    check(&test, home.is_none(), "a home is not read as a peek gives it");
+    check(
+        &test,
+        home.is_none(),
+        "a home is not read as a peek gives it",
+    );
     let held = open_image(rt, NAME, BlockSize::OneKib, Opening::Change).err();
-    check(&test, held == Some(ImageFault::InUse), "an image that is read");
+    check(
+        &test,
+        held == Some(ImageFault::InUse),
+        "an image that is read",
+    );
     drop(reader);
     let after = fs::read(rt, NAME).must(&test, "the bytes of the image then");
     check(&test, before == after, "the bytes have changed")

@@ -7,6 +7,7 @@ use jb_recover::{PeekFault, peek};
 use tests_support::{Bench, fail};
 
 /// What is answered of a home, and the bytes, which were zeros.
+#[derive(Drop)]
 pub struct Home {
     pub answer: Result<(), PeekFault>,
     pub bytes: [u8; 1024],

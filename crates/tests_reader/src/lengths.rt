@@ -67,11 +67,29 @@ fn takes(row: &Row, journal: u32) -> bool {
 /// Checks a row.
 fn check_length(test: &impl Test, row: &Row) {
     let journal = least_journal(row.size, row.width, row.credits);
-    check_in(test, journal == row.least, row.name, "the shortest journal", 0);
+    check_in(
+        test,
+        journal == row.least,
+        row.name,
+        "the shortest journal",
+        0,
+    );
     if let Some(least) = journal {
-        check_in(test, takes(row, least), row.name, "a journal of", u64::from(least));
+        check_in(
+            test,
+            takes(row, least),
+            row.name,
+            "a journal of",
+            u64::from(least),
+        );
         let less = least.saturating_sub(1);
-        check_in(test, !takes(row, less), row.name, "a journal of", u64::from(less));
+        check_in(
+            test,
+            !takes(row, less),
+            row.name,
+            "a journal of",
+            u64::from(less),
+        );
     }
 }
 
