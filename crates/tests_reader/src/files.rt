@@ -4,9 +4,9 @@ use crate::checks::{By, FileHost};
 use crate::homes::misread;
 use crate::logs::{ESCAPED, Laid, put_blocks};
 use jb_block::BlockSize;
-use jb_disk::{Disk, FileDisk};
+use jb_disk::{Disk, FileDisk, Unknown};
 use jb_image::{ImageFault, ImageGeometry, Opening, create_image, open_image};
-use jb_reader::{HomeReader, OpenReadFault, ReaderFault, open_read};
+use jb_reader::{HomeReader, OpenReadFault, ReaderFault, open_read, open_read_holding};
 use jb_recover::PeekFault;
 use jb_super::SuperFault;
 use std::fs;
@@ -35,6 +35,14 @@ fn opened(rt: &impl FileHost) -> HomeReader<FileDisk> {
         return fail(&test, "an image is not opened for reading");
     };
     reader
+}
+
+/// The disk of another reader.
+fn another<R: FileHost>(rt: &R) -> FileDisk {
+    let Ok(reader) = open_read_holding::<Unknown, R>(rt, NAME, BlockSize::OneKib) else {
+        return fail(&By(rt, rt.alloc()), "a second reader");
+    };
+    reader.close()
 }
 
 /// Checks that there is no image, makes one with a transaction in its log, and holds it for change meanwhile.
@@ -74,7 +82,7 @@ fn check_readers(rt: &impl FileHost) {
     let test = By(rt, rt.alloc());
     let before = fs::read(rt, NAME).must(&test, "the bytes of the image");
     let mut reader = opened(rt);
-    let mut disk = opened(rt).close();
+    let mut disk = another(rt);
     let home = misread(&mut reader, &mut disk);
     check(
         &test,
