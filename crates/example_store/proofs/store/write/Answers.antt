@@ -1,12 +1,23 @@
-use Rattle.std.proofs.Common.{rules, inr, ◌∙◌}
-use Rattle.jb_journal.specs.Client.{client_stops}
-use Rattle.example_store.specs.AcknowledgedPuts.{MayHaveStopped}
+use Rattle.std.proofs.Common.{rules, ◌≡◌, ◌⊎◌, inr, ◌∙◌}
+use Rattle.jb_journal.specs.Client.{client_known, client_stops}
+use Rattle.example_store.specs.Handles.{StopsBlock}
+use Rattle.example_store.proofs.StoreCalls.{goes-then}
 use Rattle.example_store.proofs.store.write.Goals as goal
+
+pub returns-in_err-wait-clause-goes_on : goal.returns-in_err-wait-clause-goes_on
+returns-in_err-wait-clause-goes_on g c = goes-then _ _ _ c.change.ensures.goes_on c.wait.ensures.goes_on
 
 pub returns-in_err-wait-clause-puts : goal.returns-in_err-wait-clause-puts
 returns-in_err-wait-clause-puts g c =
-    let more : MayHaveStopped (client_stops c.args.client.now) (client_stops c.wait.new.self) = inr ((_, _), c.wait.ensures.kept ∙ c.in_ok-ticket.ensures.changed.stopped) in
+    let put : StopsBlock _ c.args.block.now (client_known c.args.client.now) (client_stops c.args.client.now) (client_stops c.wait.new.self) =
+    record { ticket = _; stopped = c.wait.ensures.kept ∙ c.in_ok-ticket.ensures.changed.stopped; later = c.in_ok-ticket.ensures.later } in
+    let more : (client_stops c.wait.new.self ≡ client_stops c.args.client.now) ⊎ StopsBlock _ c.args.block.now (client_known c.args.client.now) (client_stops c.args.client.now) (client_stops c.wait.new.self) = inr put in
     search (rules, more)
 
-pub returns-clause-honest : goal.returns-clause-honest
-returns-clause-honest g c = λ held. c.change.ensures.goes_on.honest (c.wait.ensures.goes_on.honest held)
+pub returns-clause-goes_on : goal.returns-clause-goes_on
+returns-clause-goes_on g c = goes-then _ _ _ c.change.ensures.goes_on c.wait.ensures.goes_on
+
+pub returns-clause-puts : goal.returns-clause-puts
+returns-clause-puts g c =
+    (record { ticket = _; stopped = c.wait.ensures.kept ∙ c.in_ok-ticket.ensures.changed.stopped; later = c.in_ok-ticket.ensures.later },
+    (_, c.in_ok-wait.ensures.noted))
