@@ -1,7 +1,7 @@
 -- Commands one after another: what they make of a map, their changes, and their replies.
 use Rattle.std.proofs.Common.{◌≡◌, ◌≢◌, ℕ, zero, suc, ◌+◌, ◌<◌, ◌≤◌, Bool, true, false, nat_eq, cond, All, List, [], ◌∷◌, ◌++◌, length, get_or, slice_get, take, drop, Option, Some, None, refl, sym, ap, ap₂, subst, ◌∙◌, arith}
 use Rattle.std.proofs.lemmas.Bool.{eq-eqb}
-use Rattle.std.proofs.lemmas.List.{length-append, take-append-drop, take-append-le, take_at, take_more}
+use Rattle.std.proofs.lemmas.List.{length-append, take-append-drop, take-append-le, take_all, take_more}
 use Rattle.std.proofs.lemmas.List.Elements.{All-head, All-tail, All-take, filter-append, filter_more}
 use Rattle.std.proofs.lemmas.Option.{same_Some}
 use Rattle.example_store.specs.Commands.{HasKey, LeavesKey, after_command, after_commands, changes_among, is_change, replies_to, reply_to}
@@ -48,15 +48,8 @@ module _ (xs : List Command) (i : ℕ) where
   -- and make of a map what these commands make of it
   pub after-made : (m : Mapping) (many : ℕ) → many ≡ length (changes_among (take i xs)) → after_commands m (take many (changes_among xs)) ≡ after_commands m (take i xs)
   after-made m many all =
-      ap (after_commands m) (take-changes many (omega (arith, all)) ∙ take-all)
+      ap (after_commands m) (take-changes many (omega (arith, all)) ∙ take_all many (changes_among (take i xs)) (omega (arith, all)))
       ∙ changes-same m (take i xs)
-    where
-      take-all : take many (changes_among (take i xs)) ≡ changes_among (take i xs)
-      take-all = ap (λ n. take n (changes_among (take i xs))) all ∙ whole (changes_among (take i xs))
-        where
-          whole : (l : List Command) → take (length l) l ≡ l
-          whole [] = refl
-          whole (c ∷ l) = ap (λ r. c ∷ r) (whole l)
 
   -- one command more
   module _ (c : Command) (within : i < length xs) (is : c ≡ get_or xs i c) where

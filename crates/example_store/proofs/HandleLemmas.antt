@@ -212,7 +212,7 @@ module _ (b : Begun) (sure : Type 0) (before after : Known) (old new : List Stop
     stop-later = (change.put.later, tt)
 
     -- a change that was made makes of the map what its command does
-    change-leaves : IsAlone b sure after new → key ≢ 0 → (m : Mapping) → LeavesMap b.homes m (as_stopped old) → LeavesMap b.homes (with_value m key value) (as_stopped new)
+    pub change-leaves : IsAlone b sure after new → key ≢ 0 → (m : Mapping) → LeavesMap b.homes m (as_stopped old) → LeavesMap b.homes (with_value m key value) (as_stopped new)
     change-leaves alone some m leaves =
         let stood = stand-all before change.seen change.knew old stand in
         let all = all-before change.seen after old new (stop ∷ []) change.put.stopped change.knows stood stop-later alone.0 in
@@ -223,7 +223,7 @@ module _ (b : Begun) (sure : Type 0) (before after : Known) (old new : List Stop
         (λ other exists differ at. change.changes.others other exists differ ∙ was other exists at))
 
     module _ (command : Command) (makes : (m : Mapping) → after_command m command ≡ with_value m key value) (named : HasKey command → key ≢ 0) (one : length (changes_among (command ∷ [])) ≡ 1) where
-      pub change-may : MayChange b sure command before after old new
+      abbrev pub change-may : MayChange b sure command before after old new
       change-may = record {
         more = stop ∷ [];
         stopped = change.put.stopped;
@@ -246,7 +246,7 @@ module _ (b : Begun) (sure : Type 0) (before after : Known) (old new : List Stop
           knows = knows-then before change.seen after change.knew change.knows
 
   -- where no handle stopped, none of the changes of the command was made
-  pub none-may : new ≡ old → (command : Command) → ((m : Mapping) → length (changes_among (command ∷ [])) ≡ 0 → after_command m command ≡ m) → MayChange b sure command before after old new
+  abbrev pub none-may : new ≡ old → (command : Command) → ((m : Mapping) → length (changes_among (command ∷ [])) ≡ 0 → after_command m command ≡ m) → MayChange b sure command before after old new
   none-may same command keeps = record {
     more = [];
     stopped = same ∙ sym (append-nil old);

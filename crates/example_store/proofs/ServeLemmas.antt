@@ -4,7 +4,7 @@ use Rattle.std.proofs.Math.ListN.{length-map}
 use Rattle.std.proofs.lemmas.List.{length_push, map-append, take_all, take_at, take-append-le}
 use Rattle.std.proofs.lemmas.List.Elements.{All-get_or, All-take}
 use Rattle.jb_journal.specs.Names.{Begun, StandsIn, Stopped}
-use Rattle.jb_journal.specs.Notes.{AreInNotes, Known, KnowsMore, Stop}
+use Rattle.jb_journal.specs.Notes.{AreInNotes, IsInNotes, Known, KnowsMore, Stop}
 use Rattle.example_store.specs.Commands.{HasKey, after_command, after_commands, changes_among, replies_to, reply_to}
 use Rattle.example_store.specs.Handles.{IsAlone, IsObeyed, LeavesMap, MayChange, RiseFrom, as_stopped}
 use Rattle.example_store.specs.Maps.{Mapping, map_of}
@@ -37,7 +37,7 @@ module _ (commands : List Command) (b : Begun) where
 
   none-leaves : LeaveFirst []
   none-leaves zero few key some found stands = ap (λ text. value_at text key) stands
-  none-leaves (suc many) few = absurd (omega (arith, few))
+  none-leaves (suc many) few key some found stands = absurd (omega (arith, few))
 
   -- before the first of them
   pub going-none : (sure : Type 0) (stops : List Stop) (known : Known) (replies : List Reply) → stops ≡ [] → replies ≡ [] → Going sure stops known replies 0
@@ -157,7 +157,7 @@ module _ (commands : List Command) (b : Begun) where
         whole = all ended whole;
         stand = g.stand;
         rise = g.rise;
-        noted = All-take _ (length (changes_among (take (length replies) commands))) stops g.noted;
+        noted = All-take (λ (s : Stop). (number : ℕ) × IsInNotes known.notes s.0 number) (length (changes_among (take (length replies) commands))) stops g.noted;
         each = (let each = g.each in omega (arith, each));
         few = (let each = g.each in let rise = changes-rise commands (length replies) in
             let same : suc (length replies) ≡ length replies + 1 = omega arith in

@@ -30,7 +30,7 @@ read-sure b sure more before after home found so read = record {
 }
 
 -- a home was read as a table, this was changed, and its block was put
-pub changed-key : (b : Begun) (sure more : Type 0) (key : ℕ) (value : Option ℕ) (before seen after : Known) (old mid new : List Stop) (was now : List Slot) (bytes : List ℕ)
+abbrev pub changed-key : (b : Begun) (sure more : Type 0) (key : ℕ) (value : Option ℕ) (before seen after : Known) (old mid new : List Stop) (was now : List Slot) (bytes : List ℕ)
     → WasRead b sure before seen (key % 32) (λ text. was ≡ slots_in 64 text) → KnowsMore before seen → KnowsMore seen after → (more → sure) → mid ≡ old
     → ChangesValue key value (value_in was) (value_in now) → slots_in 64 bytes ≡ now → StopsBlock (key % 32) bytes seen mid new
     → ChangesKey b more key value before after old new

@@ -1,5 +1,5 @@
 -- What the store keeps, from what is said of its run.
-use Rattle.std.proofs.Common.{◌≡◌, ◌≢◌, ◌⊎◌, inl, inr, ⊎_elim, ℕ, suc, ◌+◌, ◌%◌, ◌<◌, ◌≤◌, All, List, [], ◌∷◌, ◌++◌, length, slice_get, get_or, take, drop, Option, Some, Result, Ok, Err, refl, sym, ap, subst, ◌∙◌, arith, append-nil, length-append, sum_by, eq-eqb}
+use Rattle.std.proofs.Common.{◌≡◌, ◌≢◌, ◌⊎◌, inl, inr, ⊎_elim, ℕ, suc, ◌+◌, ◌%◌, ◌<◌, ◌≤◌, All, List, [], ◌∷◌, ◌++◌, length, slice_get, get_or, take, drop, Option, Some, Result, Ok, Err, refl, sym, ap, subst, ◌∙◌, arith, append-nil, length-append, sum_by, eq-eqb, zero-add}
 use Rattle.std.proofs.Math.ListN.{length-map}
 use Rattle.std.proofs.lemmas.List.{get_or-take, length-take-le, take-append-drop, take-take}
 use Rattle.std.proofs.lemmas.List.Elements.{All-take}
@@ -85,8 +85,8 @@ start-leaves homes key some found stands = ap (λ text. value_at text key) stand
 -- what a crash leaves while the journal is opened
 pub opening-says : (size count : ℕ) (base c : Image) (changes : List Command) → FollowsEntry size count base c → SaysFirst size count (map_on size count base) changes 0 c
 opening-says size count base c changes entry = ⊎_elim
-    (λ is. of (entry.sb) _ is)
-    (λ is. of (revoking entry.sb) _ is)
+    (λ is. of entry.sb (entry.sb.sequence + 1) is)
+    (λ is. of (revoking entry.sb) (entry.sb.sequence + 1) is)
     (opening-recovered size count base c entry)
   where
     of : (own : Superblock) (next : ℕ) → IsRecoveredTo own next size count (recovered_home size count base) [] c → SaysFirst size count (map_on size count base) changes 0 c
@@ -161,14 +161,15 @@ module _ {D : Type 0} (G : Ghosts D) (disk : D) (commands : List Command) (ran :
           let many : has.many ≤ length stops = omega (arith, to, low) in
           let first : take has.many given ≡ take has.many (as_stopped stops) = ap (take has.many) given-are ∙ take-take has.many (length given) (as_stopped stops) to in
           let made : take has.many (changes_among commands) ≡ take has.many (begun_changes commands served) = take-changes commands (length served.replies.items + 1) has.many (omega (arith, many, few)) in
-          let leaves : LeavesMap b.homes (after_commands (map_of b.homes) (take has.many (begun_changes commands served))) (take has.many given) =
+          let m : Mapping = after_commands (map_of b.homes) (take has.many (begun_changes commands served)) in
+          let leaves : LeavesMap b.homes m (take has.many given) =
           subst (λ (x : List Command × List Stopped). LeavesMap b.homes (after_commands (map_of b.homes) x.0) x.1) (λ i. (made i, sym first i)) (s.leaves (alone honest) keys has.many many) in
           record {
             many = has.many;
             from = has.from;
             to = omega (arith, many, few);
-            says = recovered-says b.own _ b.size b.count b.homes (take has.many given) c has.recovered _ leaves;
-            again = again-says b.own _ b.size b.count b.homes (take has.many given) c has.recovered _ leaves;
+            says = recovered-says b.own (b.own.sequence + 1 + has.groups) b.size b.count b.homes (take has.many given) c has.recovered m leaves;
+            again = again-says b.own (b.own.sequence + 1 + has.groups) b.size b.count b.homes (take has.many given) c has.recovered m leaves;
           }
 
       ever-first : G.honest ran.disk → All HasKey commands → (c : Image) → G.left_since ran.disk (G.moment disk) c
@@ -187,7 +188,7 @@ module _ {D : Type 0} (G : Ghosts D) (disk : D) (commands : List Command) (ran :
           let n = length (replied_changes commands served) in
           let stop : Stop = (0, one_block 0 []) in
           let one = s.noted change stop (let long = length-take-le n stops each in omega (arith, lt, long)) in
-          let at : (get_or (take n stops) change stop).0 ≡ change = ap (λ (t : Stop). t.0) (get_or-take n stops change stop lt) ∙ ticket-is 0 stops whole.tickets change stop (omega (arith, lt, each)) in
+          let at : (get_or (take n stops) change stop).0 ≡ change = ap (λ (t : Stop). t.0) (get_or-take n stops change stop lt) ∙ (ticket-is 0 stops whole.tickets change stop (omega (arith, lt, each)) ∙ zero-add change) in
           (one.0, subst (λ ticket. IsInNotes known.notes ticket one.0) at one.1)
 
       pub kept : ran.answers.items ≡ served ∷ [] → on.all.known ≡ known ∷ [] → Keeps G disk commands ran

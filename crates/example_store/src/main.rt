@@ -74,8 +74,7 @@ fn serve<S: Start + Send, R: Files<File = File> + AllocGlobal + Threads + Wait +
 fn answered<D: Drop>(ran: Ran<Served, D>) -> Result<(), Failed>
     ensures { OnOk result (EndedWell ran) }
 {
-    let (_disk, answers) = ran.durable().map_err(JournalFault::from)?;
-    let mut answers = answers;
+    let (_disk, mut answers) = ran.durable().map_err(JournalFault::from)?;
     match answers.pop() {
         Some(Served { ended, .. }) => ended,
         None => Ok(()),

@@ -21,7 +21,7 @@ returns-in_ok-put-in-Put-clause-obeys g c =
     let key = c.in-Put.key in
     let value = c.in-Put.value in
     let put = c.in_ok-put-in-Put.ensures.puts in
-    change-obeyed _ _ _ _ _ _ c.requires.client.client.own c.requires.noted key (Some value) put.0 (Put key value) (λ m. refl) (λ some. some) refl put.1.0 put.1.1 (Stored key) (λ m. refl)
+    rw c.in-Put.is (change-obeyed _ _ _ _ _ _ c.requires.client.client.own c.requires.noted key (Some value) put.0 (Put key value) (λ m. refl) (λ some. some) refl put.1.0 put.1.1 (Stored key) (λ m. refl))
 
 pub returns-in_err-value-in-Get-clause-obeys : goal.returns-in_err-value-in-Get-clause-obeys
 returns-in_err-value-in-Get-clause-obeys g c =
@@ -31,7 +31,7 @@ returns-in_err-value-in-Get-clause-obeys g c =
 
 pub returns-in_ok-value-in-Get-clause-obeys : goal.returns-in_ok-value-in-Get-clause-obeys
 returns-in_ok-value-in-Get-clause-obeys g c =
-    get-obeyed _ _ _ _ _ _ c.requires.client.client.own c.requires.noted c.get.ensures.kept c.get.ensures.goes_on.knows c.in-Get.key _ c.in_ok-value-in-Get.ensures.value
+    rw c.in-Get.is (get-obeyed _ _ _ _ _ _ c.requires.client.client.own c.requires.noted c.get.ensures.kept c.get.ensures.goes_on.knows c.in-Get.key _ c.in_ok-value-in-Get.ensures.value)
 
 pub returns-in_err-delete-in-Delete-clause-obeys : goal.returns-in_err-delete-in-Delete-clause-obeys
 returns-in_err-delete-in-Delete-clause-obeys g c =
@@ -46,4 +46,4 @@ pub returns-in_ok-delete-in-Delete-clause-obeys : goal.returns-in_ok-delete-in-D
 returns-in_ok-delete-in-Delete-clause-obeys g c =
     let key = c.in-Delete.key in
     let put = c.in_ok-delete-in-Delete.ensures.puts in
-    change-obeyed _ _ _ _ _ _ c.requires.client.client.own c.requires.noted key None put.0 (Delete key) (λ m. refl) (λ some. some) refl put.1.0 put.1.1 (Deleted key) (λ m. refl)
+    rw c.in-Delete.is (change-obeyed _ _ _ _ _ _ c.requires.client.client.own c.requires.noted key None put.0 (Delete key) (λ m. refl) (λ some. some) refl put.1.0 put.1.1 (Deleted key) (λ m. refl))

@@ -1,5 +1,5 @@
-use Rattle.std.proofs.Common.{rules, ◌≡◌, ◌⊎◌, inr, ◌∙◌}
-use Rattle.jb_journal.specs.Client.{client_known, client_stops}
+use Rattle.std.proofs.Common.{rules, ◌≡◌, ◌⊎◌, ◌%◌, [], ◌∷◌, ◌++◌, inr}
+use Rattle.jb_journal.specs.Client.{client_known, client_stops, one_block}
 use Rattle.example_store.specs.Handles.{StopsBlock}
 use Rattle.example_store.proofs.StoreCalls.{goes-then}
 use Rattle.example_store.proofs.store.write.Goals as goal
@@ -9,9 +9,9 @@ returns-in_err-wait-clause-goes_on g c = goes-then _ _ _ c.change.ensures.goes_o
 
 pub returns-in_err-wait-clause-puts : goal.returns-in_err-wait-clause-puts
 returns-in_err-wait-clause-puts g c =
-    let put : StopsBlock _ c.args.block.now (client_known c.args.client.now) (client_stops c.args.client.now) (client_stops c.wait.new.self) =
-    record { ticket = _; stopped = c.wait.ensures.kept ∙ c.in_ok-ticket.ensures.changed.stopped; later = c.in_ok-ticket.ensures.later } in
-    let more : (client_stops c.wait.new.self ≡ client_stops c.args.client.now) ⊎ StopsBlock _ c.args.block.now (client_known c.args.client.now) (client_stops c.args.client.now) (client_stops c.wait.new.self) = inr put in
+    let stopped : client_stops c.wait.new.self ≡ client_stops c.args.client.now ++ (c.in_ok-ticket.ticket, one_block (c.args.key % 32) c.args.block.now) ∷ [] = search rules in
+    let more : (client_stops c.wait.new.self ≡ client_stops c.args.client.now) ⊎ StopsBlock (c.args.key % 32) c.args.block.now (client_known c.args.client.now) (client_stops c.args.client.now) (client_stops c.wait.new.self) =
+    inr (record { ticket = c.in_ok-ticket.ticket; stopped = stopped; later = c.in_ok-ticket.ensures.later }) in
     search (rules, more)
 
 pub returns-clause-goes_on : goal.returns-clause-goes_on
@@ -19,5 +19,5 @@ returns-clause-goes_on g c = goes-then _ _ _ c.change.ensures.goes_on c.wait.ens
 
 pub returns-clause-puts : goal.returns-clause-puts
 returns-clause-puts g c =
-    (record { ticket = _; stopped = c.wait.ensures.kept ∙ c.in_ok-ticket.ensures.changed.stopped; later = c.in_ok-ticket.ensures.later },
-    (_, c.in_ok-wait.ensures.noted))
+    let stopped : client_stops c.wait.new.self ≡ client_stops c.args.client.now ++ (c.in_ok-ticket.ticket, one_block (c.args.key % 32) c.args.block.now) ∷ [] = search rules in
+    (record { ticket = c.in_ok-ticket.ticket; stopped = stopped; later = c.in_ok-ticket.ensures.later }, (_, c.in_ok-wait.ensures.noted))
