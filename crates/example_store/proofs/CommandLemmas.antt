@@ -1,15 +1,13 @@
 -- Commands one after another: what they make of a map, their changes, and their replies.
-use Rattle.std.proofs.Common.{◌≡◌, ◌≢◌, ℕ, zero, suc, ◌+◌, ◌<◌, ◌≤◌, Bool, true, false, nat_eq, cond, All, List, [], ◌∷◌, ◌++◌, length, get_or, slice_get, take, drop, Option, Some, None, refl, sym, ap, ap₂, subst, ◌∙◌, arith}
-use Rattle.std.proofs.lemmas.Bool.{eq-eqb}
+use Rattle.std.proofs.Common.{◌≡◌, ◌≢◌, ℕ, zero, suc, ◌+◌, ◌<◌, ◌≤◌, nat_eq, cond, All, List, [], ◌∷◌, ◌++◌, length, get_or, slice_get, take, drop, Option, Some, None, refl, sym, ap, ap₂, ◌∙◌, arith}
 use Rattle.std.proofs.lemmas.List.{length-append, take-append-drop, take-append-le, take_all, take_more}
-use Rattle.std.proofs.lemmas.List.Elements.{All-head, All-tail, All-take, filter-append, filter_more}
+use Rattle.std.proofs.lemmas.List.Elements.{All-head, All-tail, All-take, filter-append}
 use Rattle.std.proofs.lemmas.Option.{same_Some}
 use Rattle.example_store.specs.Commands.{HasKey, LeavesKey, after_command, after_commands, changes_among, is_change, replies_to, reply_to}
 use Rattle.example_store.specs.Maps.{Mapping, with_value}
 use Rattle.example_store.specs.NextRun.{GetFindsPut}
 use Rattle.example_store.specs.declared.command.Command.{Command}
 use Rattle.example_store.specs.declared.command.Command.TheVariants.{Put, Get, Delete}
-use Rattle.example_store.specs.declared.command.Reply.{Reply}
 use Rattle.example_store.specs.declared.command.Reply.TheVariants.{Found}
 use Rattle.example_store.proofs.TableLemmas.{apart, same}
 

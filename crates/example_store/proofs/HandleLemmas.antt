@@ -1,6 +1,6 @@
 -- The handles of one client: which tickets they have where they are all, what a read of a home shows of them, and what
 -- they make of the map that the homes say.
-use Rattle.std.proofs.Common.{◌≡◌, ◌≢◌, ◌⊎◌, inl, inr, ℕ, zero, suc, ◌+◌, ◌%◌, ◌<◌, ◌≤◌, Bool, true, false, nat_eq, cond, All, List, [], ◌∷◌, ◌++◌, length, get_or, Option, Some, None, refl, sym, ap, subst, ◌∙◌, arith, append-nil, length-append}
+use Rattle.std.proofs.Common.{◌≡◌, ◌≢◌, ℕ, zero, suc, ◌+◌, ◌%◌, ◌<◌, ◌≤◌, Bool, true, false, nat_eq, cond, All, List, [], ◌∷◌, ◌++◌, length, get_or, Option, Some, None, refl, sym, ap, subst, ◌∙◌, arith, append-nil, length-append}
 use Rattle.std.specs.Cmp.{nat_cmp_total}
 use Rattle.std.specs.FinMap as map
 use Rattle.std.specs.Option.{option_or}
@@ -16,10 +16,10 @@ use Rattle.jb_handle.proofs.TouchedHomes.{word-append}
 use Rattle.jb_book.proofs.ShownTickets.{same-out, ticket-at}
 use Rattle.jb_journal.proofs.ClientNotes.{first-trans, noted-on, stands-on}
 use Rattle.jb_journal.specs.Client.{one_block}
-use Rattle.jb_journal.specs.Names.{Begun, Copy, IsFirstPart, IsInHistory, StandsBy, StandsIn, Stopped, TicketsFrom, Word, WordMap, word}
+use Rattle.jb_journal.specs.Names.{Begun, Copy, IsInHistory, StandsBy, StandsIn, Stopped, TicketsFrom, WordMap, word}
 use Rattle.jb_journal.specs.Notes.{AreInNotes, IsInNotes, Known, KnowsMore, ReadsAs, Stop}
 use Rattle.example_store.specs.Commands.{HasKey, after_command, changes_among, reply_to}
-use Rattle.example_store.specs.Handles.{AreAll, ChangesKey, IsAlone, IsObeyed, LeavesMap, MayChange, RiseFrom, StopsBlock, WasRead, as_stopped}
+use Rattle.example_store.specs.Handles.{AreAll, ChangesKey, IsAlone, IsObeyed, LeavesMap, MayChange, RiseFrom, WasRead, as_stopped}
 use Rattle.example_store.specs.Maps.{Mapping, with_value}
 use Rattle.example_store.specs.Tables.{value_at}
 use Rattle.example_store.specs.declared.command.Command.{Command}

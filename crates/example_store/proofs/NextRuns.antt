@@ -1,5 +1,5 @@
 -- A run of what a crash has left of another run.
-use Rattle.std.proofs.Common.{◌≡◌, ◌≢◌, ℕ, zero, suc, ◌<◌, ◌≤◌, All, List, [], ◌∷◌, length, slice_get, take, Some, refl, sym, ap, subst, ◌∙◌, arith, ⊎_elim}
+use Rattle.std.proofs.Common.{◌≡◌, ℕ, zero, suc, ◌<◌, All, List, [], ◌∷◌, length, slice_get, take, Some, sym, ap, subst, ◌∙◌, arith, ⊎_elim}
 use Rattle.std.proofs.lemmas.List.{take-take}
 use Rattle.std.proofs.lemmas.List.Elements.{All-take}
 use Rattle.jb_block.specs.Size.{bytes_of}
@@ -7,10 +7,10 @@ use Rattle.jb_disk.specs.Image.{Image}
 use Rattle.jb_disk.specs.File.{content_of, count_of, size_of_blocks}
 use Rattle.jb_image.specs.Create.{WasMade}
 use Rattle.jb_recover.specs.Outcomes.{recovered}
-use Rattle.jb_journal.specs.Names.{FileDisk, ImageGeometry, Starts, as_file}
+use Rattle.jb_journal.specs.Names.{FileDisk, ImageGeometry, Starts}
 use Rattle.jb_journal.specs.OpenFile.{WasRecovered, WasRecoveredOrMade}
 use Rattle.jb_journal.specs.declared.ran.Ran.{Ran}
-use Rattle.example_store.specs.Commands.{HasKey, LeavesKey, after_commands, replies_to}
+use Rattle.example_store.specs.Commands.{HasKey, LeavesKey, after_commands}
 use Rattle.example_store.specs.Keeps.{begun_changes}
 use Rattle.example_store.specs.Maps.{Mapping, map_in_file, map_on}
 use Rattle.example_store.specs.NextRun.{IsRunAgain, SecondRunFindsPut, SecondRunGoesOn}

@@ -1,11 +1,11 @@
 -- What a worker has done of its commands, one command after another.
-use Rattle.std.proofs.Common.{◌≡◌, ℕ, zero, suc, ◌+◌, ◌<◌, ◌≤◌, Bool, true, false, leb, leb-true, leb-false, All, List, [], ◌∷◌, ◌++◌, length, get_or, take, map, Result, Ok, Err, OnOk, refl, sym, ap, ap₂, subst, ◌∙◌, arith, length-append}
+use Rattle.std.proofs.Common.{◌≡◌, ℕ, zero, suc, ◌+◌, ◌<◌, ◌≤◌, Bool, true, false, leb, leb-true, leb-false, All, List, [], ◌∷◌, ◌++◌, length, get_or, take, Result, Ok, Err, OnOk, refl, sym, ap, ap₂, subst, ◌∙◌, arith, length-append}
 use Rattle.std.proofs.Math.ListN.{length-map}
 use Rattle.std.proofs.lemmas.List.{length_push, map-append, take_all, take_at, take-append-le}
 use Rattle.std.proofs.lemmas.List.Elements.{All-get_or, All-take}
 use Rattle.jb_journal.specs.Names.{Begun, StandsIn, Stopped}
 use Rattle.jb_journal.specs.Notes.{AreInNotes, IsInNotes, Known, KnowsMore, Stop}
-use Rattle.example_store.specs.Commands.{HasKey, after_command, after_commands, changes_among, replies_to, reply_to}
+use Rattle.example_store.specs.Commands.{HasKey, after_commands, changes_among, replies_to}
 use Rattle.example_store.specs.Handles.{IsAlone, IsObeyed, LeavesMap, MayChange, RiseFrom, as_stopped}
 use Rattle.example_store.specs.Maps.{Mapping, map_of}
 use Rattle.example_store.specs.Serves.{Serves}

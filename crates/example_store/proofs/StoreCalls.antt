@@ -1,12 +1,13 @@
 -- One call of a client after another: how it goes on, and what a change of a key is made of.
-use Rattle.std.proofs.Common.{◌≡◌, ℕ, ◌%◌, List, [], ◌∷◌, ◌++◌, Option, ap, ◌∙◌}
+use Rattle.std.proofs.Common.{◌≡◌, ◌⊎◌, ℕ, ◌%◌, List, [], ◌∷◌, ◌++◌, Option, Result, Ok, Err, IsErr, ap, ◌∙◌}
+use Rattle.std.proofs.lemmas.Bool.{false≢true}
 use Rattle.jb_board.specs.declared.place.Place.{Ghosts as Places}
 use Rattle.jb_book.specs.declared.origin.Origin.{Ghosts as OriginGhosts}
 use Rattle.jb_journal.specs.Client.{ClientGoesOn, client_known, one_block}
 use Rattle.jb_journal.specs.Names.{Begun, Ghosts}
 use Rattle.jb_journal.specs.Notes.{Known, KnowsMore, ReadsAs, Stop}
 use Rattle.jb_journal.specs.declared.client.Client.{Client}
-use Rattle.example_store.specs.Handles.{ChangesKey, StopsBlock, WasRead}
+use Rattle.example_store.specs.Handles.{ChangesKey, PutsBlock, StopsBlock, WasRead}
 use Rattle.example_store.specs.Tables.{ChangesValue, slots_in, value_in}
 use Rattle.example_store.specs.declared.table.Slot.{Slot}
 use Rattle.example_store.proofs.HandleLemmas.{knows-then}
@@ -28,6 +29,11 @@ read-sure b sure more before after home found so read = record {
   sees = read.sees;
   stands = λ known held. read.stands known (so held);
 }
+
+-- what is answered to a block after a fault
+pub puts-err : {E : Type 0} (home : ℕ) (bytes : List ℕ) (before after : Known) (old new : List Stop) (r : Result (Unit {0}) E) → IsErr r → (new ≡ old) ⊎ StopsBlock home bytes before old new → PutsBlock home bytes before after old new r
+puts-err home bytes before after old new (Ok unit) fails may = absurd (false≢true fails)
+puts-err home bytes before after old new (Err fault) fails may = may
 
 -- a home was read as a table, this was changed, and its block was put
 abbrev pub changed-key : (b : Begun) (sure more : Type 0) (key : ℕ) (value : Option ℕ) (before seen after : Known) (old mid new : List Stop) (was now : List Slot) (bytes : List ℕ)

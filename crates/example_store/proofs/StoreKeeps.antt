@@ -1,5 +1,5 @@
 -- What the store keeps, from what is said of its run.
-use Rattle.std.proofs.Common.{◌≡◌, ◌≢◌, ◌⊎◌, inl, inr, ⊎_elim, ℕ, suc, ◌+◌, ◌%◌, ◌<◌, ◌≤◌, All, List, [], ◌∷◌, ◌++◌, length, slice_get, get_or, take, drop, Option, Some, Result, Ok, Err, refl, sym, ap, subst, ◌∙◌, arith, append-nil, length-append, sum_by, eq-eqb, zero-add}
+use Rattle.std.proofs.Common.{◌≡◌, ◌≢◌, ◌⊎◌, inl, inr, ⊎_elim, ℕ, suc, ◌+◌, ◌%◌, ◌<◌, ◌≤◌, All, List, [], ◌∷◌, length, slice_get, get_or, take, drop, refl, sym, ap, subst, ◌∙◌, arith, append-nil, length-append, sum_by, eq-eqb, zero-add}
 use Rattle.std.proofs.Math.ListN.{length-map}
 use Rattle.std.proofs.lemmas.List.{get_or-take, length-take-le, take-append-drop, take-take}
 use Rattle.std.proofs.lemmas.List.Elements.{All-take}
@@ -16,14 +16,14 @@ use Rattle.jb_deck.proofs.Lives.{opening-recovered}
 use Rattle.jb_book.proofs.ShownTickets.{same-out}
 use Rattle.jb_book.specs.Since.{HasFirst, Since}
 use Rattle.jb_journal.specs.Client.{AreHonest, one_block}
-use Rattle.jb_journal.specs.Names.{AreAllStops, Begun, Ghosts, IsFirstPart, IsInHistory, OpenDeck, StandsBy, StandsIn, Stopped, TicketsFrom, WordMap, joined, with_places, word}
+use Rattle.jb_journal.specs.Names.{AreAllStops, Begun, Ghosts, IsFirstPart, IsInHistory, StandsIn, Stopped, TicketsFrom, WordMap, joined, with_places}
 use Rattle.jb_journal.specs.Notes.{IsInNotes, Known, KnownLasts, Stop}
 use Rattle.jb_journal.specs.Run.{RanOn}
 use Rattle.jb_journal.specs.Start.{started_on}
 use Rattle.jb_journal.specs.declared.ran.Ran.{Ran}
 use Rattle.jb_journal.proofs.ClientNotes.{noted-stays}
 use Rattle.jb_journal.proofs.KnownStays.{lasts-at}
-use Rattle.example_store.specs.Commands.{HasKey, after_commands, changes_among, replies_to}
+use Rattle.example_store.specs.Commands.{HasKey, after_commands, changes_among}
 use Rattle.example_store.specs.Handles.{AreAll, IsAlone, LeavesMap, RiseFrom, as_stopped}
 use Rattle.example_store.specs.Keeps.{Keeps, SaysFirst, begun_changes, replied_changes}
 use Rattle.example_store.specs.Maps.{Mapping, map_of, map_on}

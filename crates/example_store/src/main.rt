@@ -8,7 +8,8 @@
 //! `IMAGE` is made where there is no such file. Without it the disk is in memory.
 #![tactic(auto)]
 
-ghost use Rattle.std.specs.Prelude.{All, IfOk, IfSome, OnOk};
+ghost use Rattle.std.specs.Prelude.{◌≡◌, All, IfOk, IfSome, OnOk};
+ghost use Rattle.jb_journal.specs.Run.{AllSettled};
 ghost use Rattle.example_store.specs.Commands.{HasKey};
 ghost use Rattle.example_store.specs.Keeps.{IsServedIn, EndedWell, Keeps, KeepsInImage};
 
@@ -71,10 +72,18 @@ fn serve<S: Start + Send, R: Files<File = File> + AllocGlobal + Threads + Wait +
 }
 
 /// What the worker answered, once all that it changed is committed.
+fn durable_answers<D: Drop>(ran: Ran<Served, D>) -> Result<Vec<Served>, JournalFault>
+    ensures { IfOk result (λ answers. AllSettled ran × (answers ≡ ran.answers)) }
+{
+    let (_disk, answers) = ran.durable()?;
+    Ok(answers)
+}
+
+/// How the worker ended.
 fn answered<D: Drop>(ran: Ran<Served, D>) -> Result<(), Failed>
     ensures { OnOk result (EndedWell ran) }
 {
-    let (_disk, mut answers) = ran.durable().map_err(JournalFault::from)?;
+    let mut answers = durable_answers(ran)?;
     match answers.pop() {
         Some(Served { ended, .. }) => ended,
         None => Ok(()),

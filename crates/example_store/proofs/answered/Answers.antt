@@ -1,4 +1,4 @@
-use Rattle.std.proofs.Common.{rules, ◌≡◌, ℕ, ◌-◌, List, [], ◌∷◌, ◌++◌, length, take, Result, Ok, Err, OnOk, refl, sym, ap, subst, ◌∙◌, arith}
+use Rattle.std.proofs.Common.{◌≡◌, ℕ, ◌-◌, List, [], ◌∷◌, ◌++◌, length, take, Result, Ok, Err, OnOk, refl, sym, ap, subst, ◌∙◌, arith, append-nil}
 use Rattle.std.specs.Prelude.{IsOk}
 use Rattle.std.proofs.lemmas.List.{same_from_push}
 use Rattle.jb_journal.specs.Run.{AllSettled}
@@ -18,8 +18,18 @@ one-whole ran settled front served are (Ok unit) ends =
 none-whole : {D : Type 0} (ran : Ran Served D) → AllSettled ran → ran.answers.items ≡ [] → EndedWell ran
 none-whole ran settled none = (settled, λ one is. absurd (let long = ap length (sym is ∙ none) in let never : ⊥ = omega (arith, long) in never))
 
+none-left : (n : ℕ) (items front : List Served) → n ≡ 0 → front ≡ take (n - 1) items → front ≡ []
+none-left n items front zero is = is ∙ ap (λ k. take k items) (let none : n - 1 ≡ 0 = omega (arith, zero) in none)
+
 pub returns-in-Some : goal.returns-in-Some
-returns-in-Some c d = let durable = d.durable in let pop = d.pop in let map_err = d.map_err in let given = d.in_ok-_disk in let some = d.in-Some in ?
+returns-in-Some c d =
+    let given = d.in_ok-answers.ensures in
+    one-whole d.args.ran given.0 d.pop.new.self.items d.in-Some.field-0 (ap (λ v. v.items) (sym given.1) ∙ d.in-Some.ensures.items) d.in-Some.field-0.ended refl
 
 pub returns : goal.returns
-returns c = ?
+returns c d =
+    let given = d.in_ok-answers.ensures in
+    let none = d.in-None.ensures in
+    none-whole d.args.ran given.0
+    (ap (λ v. v.items) (sym given.1) ∙ none.items ∙ append-nil d.pop.new.self.items
+    ∙ none-left _ d.in_ok-answers.answers.items d.pop.new.self.items none.cases.0 none.rest)

@@ -1,4 +1,4 @@
-use Rattle.std.proofs.Common.{rules, refl, arith, ◌≡◌, Some, None, ⊎_elim}
+use Rattle.std.proofs.Common.{rules, refl, arith, Some, None, ⊎_elim}
 use Rattle.jb_journal.specs.Client.{client_honest, client_known, client_stops}
 use Rattle.example_store.specs.Handles.{MayChange}
 use Rattle.example_store.specs.declared.command.Command.TheVariants.{Put, Get, Delete}
