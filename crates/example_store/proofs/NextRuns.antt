@@ -63,10 +63,13 @@ module _ {S T : Type 0} (start : Starts S) (after : Starts T) where
       λ key some.
       ap (λ (x : (ℕ × ℕ) × Image). map_on x.0.0 x.0.1 x.1 key)
       (λ i. ((same-size geometry commands more ran again change is i, is.as_many i), begins geometry commands more ran again change is i))
-      ∙ says.again key some in
-      (says.many, says.from, says.to,
-      now.told is.honest_again is.more_keys
-      ∙ agree-replies _ _ (replied_among more now.served.replies.items) (All-take HasKey (length now.served.replies.items) more is.more_keys) agree)
+      ∙ says.again key some in (
+        says.many,
+        says.from,
+        says.to,
+        now.told is.honest_again is.more_keys
+            ∙ agree-replies _ _ (replied_among more now.served.replies.items) (All-take HasKey (length now.served.replies.items) more is.more_keys) agree,
+      )
 
   pub second-finds : SecondRunFindsPut start after
   second-finds geometry commands more ran again change is key value get at left asked kept within =

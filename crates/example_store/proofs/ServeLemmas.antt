@@ -105,8 +105,10 @@ module _ (commands : List Command) (b : Begun) where
             let whole : length may.more ≡ length (changes_among (command ∷ [])) = omega (arith, gt, few, long, one, at_most) in
             let all : many ≡ length (changes_among (take (n + 1) commands)) = let each = going.each in omega (arith, gt, few, long, one, at_most, one-more, each) in
             subst (λ (x : Mapping × List Stopped). LeavesMap b.homes x.0 x.1)
-            (λ i. (sym (after-made commands (n + 1) started many all ∙ after-more commands n command within is started) i,
-            sym (take_all many (as_stopped new) (let same = length-map new stopped_as in omega (arith, same, gt, long, one, at_most))) i))
+            (λ i. (
+              sym (after-made commands (n + 1) started many all ∙ after-more commands n command within is started) i,
+              sym (take_all many (as_stopped new) (let same = length-map new stopped_as in omega (arith, same, gt, long, one, at_most))) i,
+            ))
             (may.leaves alone (has-key keys) whole so_far (now-leaves leaves))
 
     -- it fails

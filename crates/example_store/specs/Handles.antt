@@ -1,5 +1,6 @@
 -- What the store's calls do to the homes: by handles of one home, and as changes of the map that the homes say.
-use Rattle.std.specs.Prelude.{◌≡◌, ◌≢◌, ◌⊎◌, ◌%◌, ◌≤◌, ℕ, suc, Option, List, [], ◌∷◌, ◌++◌, length, map, Result, Ok, Err}
+use Rattle.std.specs.Prelude.{◌≡◌, ◌≢◌, ◌⊎◌, ◌%◌, ◌≤◌, ℕ, suc, Option, List, [], ◌∷◌, ◌++◌, length, map, Result, Ok}
+use Rattle.std.specs.Prelude.{Err}
 use Rattle.jb_journal.specs.Client.{one_block}
 use Rattle.jb_journal.specs.Names.{Begun, StandsBy, Stopped, TicketsFrom, word}
 use Rattle.jb_journal.specs.Notes.{AreInNotes, IsInNotes, Known, KnowsMore, ReadsAs, Stop}
@@ -82,8 +83,8 @@ LeavesMap homes m handles =
     → value_at found key ≡ m key
 
 -- What a command does at most: it stops as many handles as it is to make changes, or none, with tickets higher than
--- those of all handles that were known before. Where its client is alone, and it has stopped as many, these make of each
--- map that the handles before have left what the command makes of it
+-- those of all handles that were known before. Where its client is alone, and it has stopped as many, these make of
+-- each map that the handles before have left what the command makes of it
 pub record MayChange (b : Begun) (sure : Type 0) (command : Command) (before after : Known) (old new : List Stop)
     : Type 0 where
   pub more : List Stop
@@ -94,8 +95,8 @@ pub record MayChange (b : Begun) (sure : Type 0) (command : Command) (before aft
       → (m : Mapping) → LeavesMap b.homes m (as_stopped old)
       → LeavesMap b.homes (after_command m command) (as_stopped new)
 
--- A command is obeyed: it has made its change, if it is to make one, and this is known to be committed. Where its client
--- is alone it is replied to by each map that the handles before have left
+-- A command is obeyed: it has made its change, if it is to make one, and this is known to be committed. Where its
+-- client is alone it is replied to by each map that the handles before have left
 pub record IsObeyed (b : Begun) (sure : Type 0) (command : Command) (before after : Known) (old new : List Stop)
     (reply : Reply) : Type 0 where
   pub made : MayChange b sure command before after old new

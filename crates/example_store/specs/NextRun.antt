@@ -24,9 +24,9 @@ GetFindsPut =
     → slice_get (replies_to m commands) get ≡ Some (Found key (Some value))
 
 module _ {S T : Type 0} (start : Starts S) (after : Starts T) where
-  -- The store was run in a file, and replied to this change. A crash at some time since it was known to be committed has
-  -- left what the file held when it was opened again, with as many blocks and its journal recovered; and the store was
-  -- run in it with further commands. No command is of the key 0, and the file was honest all the time
+  -- The store was run in a file, and replied to this change. A crash at some time since it was known to be committed
+  -- has left what the file held when it was opened again, with as many blocks and its journal recovered; and the store
+  -- was run in it with further commands. No command is of the key 0, and the file was honest all the time
   pub record IsRunAgain (geometry : ImageGeometry) (commands more : List Command) (ran : Ran Served (FileDisk S start))
       (again : Ran Served (FileDisk T after)) (change : ℕ) : Type 0 where
     pub first : KeepsInImage geometry commands ran
@@ -43,8 +43,8 @@ module _ {S T : Type 0} (start : Starts S) (after : Starts T) where
     pub honest_then : IsHonest second.opened
     pub honest_again : IsHonest again.disk
 
-  -- the second run replies by the map that the first changes of the first run have made of what its homes said, all that
-  -- were replied to up to this one at least
+  -- the second run replies by the map that the first changes of the first run have made of what its homes said, all
+  -- that were replied to up to this one at least
   abbrev pub SecondRunGoesOn : Type 0
   SecondRunGoesOn =
       (geometry : ImageGeometry) (commands more : List Command) (ran : Ran Served (FileDisk S start))
@@ -56,8 +56,8 @@ module _ {S T : Type 0} (start : Starts S) (after : Starts T) where
       (after_commands (map_in_file is.first.opened) (take many (begun_changes commands is.first.keeps.served)))
       (replied_among more is.second.keeps.served.replies.items))
 
-  -- so a get of the second run is replied the value of a put that the first run has replied to, where no command that was
-  -- begun after it has changed its key
+  -- so a get of the second run is replied the value of a put that the first run has replied to, where no command that
+  -- was begun after it has changed its key
   abbrev pub SecondRunFindsPut : Type 0
   SecondRunFindsPut =
       (geometry : ImageGeometry) (commands more : List Command) (ran : Ran Served (FileDisk S start))

@@ -51,8 +51,8 @@ fn serve_disk<D: Disk + Drop + Send, R: AllocGlobal + Threads + Wait + Clock + S
     disk: D,
     serving: &Serving,
 ) -> Result<Ran<Served, D>, JournalFault>
-    /// The store replies to its commands by the map that the homes of its disk say, and what it has replied to stays,
-    /// whenever a crash comes, if the disk that is given back is honest.
+    /// The store replies to its commands by the map that the homes of its disk say, 0 being no key, and what it has
+    /// replied to stays, whenever a crash comes, if the disk that is given back is honest.
     ensures { IfOk result (Keeps D.Disk disk serving.now.commands.items) }
 {
     Ok(run(rt, disk, SystemClock::new(rt), Options::new(1), serving)?)
@@ -65,7 +65,7 @@ fn serve<S: Start + Send, R: Files<File = File> + AllocGlobal + Threads + Wait +
     geometry: ImageGeometry,
     serving: &Serving,
 ) -> Result<Ran<Served, FileDisk<S>>, JournalFault>
-    /// The store does so in the very file that was opened or made.
+    /// Of an image that holds of the very file that was opened with its journal recovered, or made.
     ensures { IfOk result (KeepsInImage geometry serving.now.commands.items) }
 {
     Ok(run_image(rt, image, geometry, Options::new(1), serving)?)

@@ -10,7 +10,7 @@ returns-in_err-write-clause-goes_on g c = goes-then _ _ _ c.table_of.ensures.goe
 pub returns-in_err-write-clause-puts : goal.returns-in_err-write-clause-puts
 returns-in_err-write-clause-puts g c =
     let more : (client_stops c.write.new.client ≡ client_stops c.args.client.now)
-        ⊎ ChangesKey g.H.Origin.begun (client_honest c.write.new.client) c.args.key None (client_known c.args.client.now) (client_known c.write.new.client) (client_stops c.args.client.now) (client_stops c.write.new.client) =
+    ⊎ ChangesKey g.H.Origin.begun (client_honest c.write.new.client) c.args.key None (client_known c.args.client.now) (client_known c.write.new.client) (client_stops c.args.client.now) (client_stops c.write.new.client) =
     ⊎_elim (λ same. inl (same ∙ c.table_of.ensures.kept))
     (λ put. inr (changed-key _ _ _ c.args.key None _ _ _ _ _ _ _ _ c.block.result c.in_ok-table.ensures.reads c.table_of.ensures.goes_on.knows c.write.ensures.goes_on.knows c.write.ensures.goes_on.honest c.table_of.ensures.kept
     c.delete.ensures c.block.ensures put))
@@ -22,6 +22,8 @@ returns-clause-goes_on g c = goes-then _ _ _ c.table_of.ensures.goes_on c.write.
 
 pub returns-clause-puts : goal.returns-clause-puts
 returns-clause-puts g c =
-    let put = c.in_ok-write.ensures.puts in
-    (changed-key _ _ _ c.args.key None _ _ _ _ _ _ _ _ c.block.result c.in_ok-table.ensures.reads c.table_of.ensures.goes_on.knows c.write.ensures.goes_on.knows c.write.ensures.goes_on.honest c.table_of.ensures.kept
-    c.delete.ensures c.block.ensures put.0, put.1)
+    let put = c.in_ok-write.ensures.puts in (
+      changed-key _ _ _ c.args.key None _ _ _ _ _ _ _ _ c.block.result c.in_ok-table.ensures.reads c.table_of.ensures.goes_on.knows c.write.ensures.goes_on.knows c.write.ensures.goes_on.honest c.table_of.ensures.kept
+          c.delete.ensures c.block.ensures put.0,
+      put.1,
+    )
