@@ -1,0 +1,6 @@
+mod AccountBalances
+mod ClientSteps
+mod HandlesPosted
+mod MoneyHeld
+mod PostingPlaces
+mod RunPosted
