@@ -1,4 +1,5 @@
 mod AccountBalances
+mod AccountExamples
 mod ClientSteps
 mod HandlesPosted
 mod MoneyHeld

@@ -1,16 +1,16 @@
 -- A run whose handles are posted: each of those that the journal was given is, and so the money is conserved.
-use Rattle.std.proofs.Common.{◌≡◌, ℕ, zero, suc, ◌+◌, ◌<◌, Bool, true, false, cond, List, [], ◌∷◌, All, length, get_or, map, nat_eq, sum_by, Result, Option, Some, None, slice_get, inl, inr, refl, sym, ap, subst, ◌∙◌, ⊎_elim, append-nil, arith}
+use Rattle.std.proofs.Common.{◌≡◌, ℕ, zero, suc, ◌+◌, ◌<◌, ◌≤◌, Bool, true, false, cond, List, [], ◌∷◌, All, length, get_or, map, nat_eq, sum_by, Result, Option, Some, None, slice_get, inl, inr, refl, sym, ap, subst, ◌∙◌, ⊎_elim, append-nil, arith}
 use Rattle.std.proofs.lemmas.Bool.{eqb-true, eq-eqb}
-use Rattle.std.proofs.lemmas.List.{length-map}
+use Rattle.std.proofs.lemmas.List.{length-map, take_all}
 use Rattle.std.proofs.lemmas.List.Elements.{All-append, All-weaker}
 use Rattle.std.proofs.lemmas.List.Sums.{sum_by-cons}
 use Rattle.std.proofs.lemmas.Option.{same_Some, slice_get_within}
 use Rattle.jb_board.proofs.EntryPlaces.{at-place}
-use Rattle.jb_disk.specs.Image.{Image}
+use Rattle.jb_disk.specs.Image.{Image, block}
 use Rattle.jb_handle.specs.declared.shape.Shape.{Shape}
 use Rattle.jb_journal.proofs.KnownStays.{ticket-at}
 use Rattle.jb_journal.specs.Client.{AreHonest}
-use Rattle.jb_journal.specs.Names.{Begun, Ghosts, IsFirstPart, StandsIn, Stopped, WordMap, joined, with_places}
+use Rattle.jb_journal.specs.Names.{Begun, Ghosts, IsFirstPart, StandsBy, StandsIn, Stopped, WordMap, joined, with_places, word}
 use Rattle.jb_journal.specs.Notes.{Known, Stop}
 use Rattle.jb_journal.specs.Run.{RanAll, RanOn}
 use Rattle.jb_journal.specs.Start.{started_on}
@@ -114,6 +114,7 @@ conserved G disk ps ran are on =
     let given = all.ends.since.given in
     let through : G.honest ran.disk → HoldsThroughout b given = λ held. throughout b tt ps are given (given-posted G b ps 4 on.shape ran all held) in
     let same = all.ends.same_disk in
+    let whole : length given ≤ length given = omega arith in
     record {
       postings = ps;
       follow = are;
@@ -123,6 +124,8 @@ conserved G disk ps ran are on =
           (λ early. ⊎_elim (λ before. inl before) (λ entry. inr (entry-recovers b given (G.newest disk) c (λ home. refl) (through held) entry)) early)
           (λ first. inr (first-recover b given all.ends.since.bounds 0 c (through held) first))
           ((all.ends.since.since tt (subst G.honest (sym same) held)).ever c (subst (λ d. G.left_since d (G.moment disk) c) (sym same) left));
+      home = λ held none. through held (length given) (λ home. block (G.newest ran.disk) (b.own.maxlen + home)) (omega arith)
+          (λ home. subst (λ hs. StandsBy (word hs home) (b.homes home) (block (G.newest ran.disk) (b.own.maxlen + home))) (sym (take_all (length given) given whole)) (all.home none tt held home));
     }
 
 -- ---- what is told of a run

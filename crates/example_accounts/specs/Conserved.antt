@@ -1,8 +1,8 @@
 -- What the accounts hold throughout a run, and after it, whenever a crash comes.
-use Rattle.std.specs.Prelude.{◌≡◌, ◌⊎◌, ℕ, ◌≤◌, All, List, length, map, take, None, Result}
+use Rattle.std.specs.Prelude.{◌≡◌, ◌⊎◌, ℕ, ◌+◌, ◌≤◌, All, List, length, map, take, None, Some, Result}
 use Rattle.std.specs.Global.{Vec}
 use Rattle.jb_deck.specs.Open.{recovered_home}
-use Rattle.jb_disk.specs.Image.{Image}
+use Rattle.jb_disk.specs.Image.{Image, block}
 use Rattle.jb_journal.specs.Names.{Begun, FileDisk, Ghosts, ImageGeometry, IsFirstPart, StandsBy, Starts, Stopped}
 use Rattle.jb_journal.specs.Names.{as_file, word}
 use Rattle.jb_journal.specs.OpenFile.{WasRecoveredOrMade}
@@ -33,9 +33,10 @@ pub record RecoversMoney (b : Begun) (given : List Stopped) (c : Image) : Type 0
   pub holds : money_in (recovered_home b.size b.count c) ≡ money_after (money_in b.homes) handles
 
 -- What was run on this disk conserves the money of the accounts, if the disk that is given back is honest: after each
--- first handles by ticket of those that the journal was given; and in what a crash leaves, at any time since the run
--- began, once it is recovered, unless it was left before. All handles that stopped are posted, those of all threads in
--- one list, in which each begins with what the one before has left
+-- first handles by ticket of those that the journal was given; in what a crash leaves, at any time since the run
+-- began, once it is recovered, unless it was left before; and on that disk, where no block of the log is in use. All
+-- handles that stopped are posted, those of all threads in one list, in which each begins with what the one before has
+-- left
 pub record Conserves {T D : Type 0} (G : Ghosts D) (disk : D) (ran : Ran T D) : Type 0 where
   pub postings : List Posting
   pub follow : ArePostings None postings
@@ -44,6 +45,9 @@ pub record Conserves {T D : Type 0} (G : Ghosts D) (disk : D) (ran : Ran T D) : 
   pub holds : G.honest ran.disk → HoldsThroughout (started_on G disk) on.all.ends.since.given
   pub crash : G.honest ran.disk → (c : Image) → G.left_since ran.disk (G.moment disk) c
       → G.left_since disk (G.moment disk) c ⊎ RecoversMoney (started_on G disk) on.all.ends.since.given c
+  pub home : G.honest ran.disk → ran.in_log ≡ Some 0
+      → money_in (λ home. block (G.newest ran.disk) ((started_on G disk).own.maxlen + home))
+      ≡ money_after (money_in (started_on G disk).homes) (length on.all.ends.since.given)
 
 -- the same of the file of an image: it was opened with its journal recovered, or its journal was made in it, and the
 -- run of that very file conserves the money of its accounts
