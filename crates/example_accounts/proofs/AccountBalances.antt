@@ -1,5 +1,5 @@
 -- The balances in home blocks, and what a handle's words make of them.
-use Rattle.std.proofs.Common.{◌≡◌, ◌≢◌, ℕ, zero, suc, ◌+◌, ◌<◌, ◌≤◌, Bool, true, false, cond, List, [], ◌∷◌, length, get_or, set, replicate, nat_eq, sum, Option, Some, None, refl, sym, ap, subst, ◌∙◌, ⊎_elim, inr, arith}
+use Rattle.std.proofs.Common.{◌≡◌, ◌≢◌, ℕ, zero, suc, ◌+◌, ◌<◌, ◌≤◌, Bool, true, false, cond, List, [], ◌∷◌, length, get_or, set, replicate, nat_cmp, nat_eq, sum, Option, Some, None, refl, sym, ap, subst, ◌∙◌, ⊎_elim, inr, arith}
 use Rattle.std.specs.FinMap as map
 use Rattle.std.specs.Cmp.{nat_cmp_total, unsigned_tied}
 use Rattle.std.specs.Option.{option_or}
@@ -7,7 +7,7 @@ use Rattle.std.proofs.lemmas.Bool.{cases_eq, eqb-true, eq-eqb}
 use Rattle.std.proofs.lemmas.List.{ext_get_or, get_or-replicate, get_or-set_other, get_or-set_same, length-set}
 use Rattle.std.proofs.lemmas.List.Sums.{get_or-le-sum_by, sum_by-set}
 use Rattle.jb_journal.specs.Names.{Copy, Free, StandsBy, Word, WordMap}
-use Rattle.example_accounts.specs.Accounts.{IsMove, LeavesBalance, LeavesBalances, PutsBalance, SaysBalance, balance_in, balances_from, balances_in, money_after, moved_by, opening_balances}
+use Rattle.example_accounts.specs.Accounts.{IsMove, LeavesBalance, LeavesBalances, PutsBalance, PutsTwo, SaysBalance, balance_in, balances_from, balances_in, money_after, moved_by, opening_balances}
 use Rattle.example_accounts.specs.Postings.{OpensOrMoves}
 use Rattle.example_accounts.specs.declared.moves.Move.{Move}
 
@@ -68,8 +68,11 @@ pub opening-leaves : (before : List ℕ) (words : WordMap) → ((account : ℕ) 
 opening-leaves before words says account lt = says-leaves words account 1000 (get_or before account 0) (get_or opening_balances account 0) (says account lt) (get_or-replicate 100 account 1000 0 lt)
 
 -- money is moved
-pub move-leaves : (before : List ℕ) (m : Move) (none one two : WordMap) → length before ≡ 100 → IsMove before m → none ≡ map.empty → PutsBalance m.from m.less none one → PutsBalance m.to m.more one two → LeavesBalances before (moved_by m before) two
-move-leaves before m none one two long is empty first second account lt =
+pub move-leaves : (before : List ℕ) (m : Move) (none two : WordMap) → length before ≡ 100 → IsMove before m → none ≡ map.empty → PutsTwo m.from m.less m.to m.more none two → LeavesBalances before (moved_by m before) two
+move-leaves before m none two long is empty puts account lt =
+    let one = puts.mid in
+    let first = puts.first in
+    let second = puts.second in
     let mid = set before m.from m.less in
     let after = set mid m.to m.more in
     let within-to : m.to < length mid = let w = is.within.1 in omega (arith, w, length-set before m.from m.less, long) in

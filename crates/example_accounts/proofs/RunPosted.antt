@@ -2,7 +2,7 @@
 use Rattle.std.proofs.Common.{◌≡◌, ℕ, zero, suc, ◌+◌, ◌<◌, ◌≤◌, Bool, true, false, cond, List, [], ◌∷◌, All, length, get_or, map, nat_eq, sum_by, Result, Option, Some, None, slice_get, inl, inr, refl, sym, ap, subst, ◌∙◌, ⊎_elim, append-nil, arith}
 use Rattle.std.proofs.lemmas.Bool.{eqb-true, eq-eqb}
 use Rattle.std.proofs.lemmas.List.{length-map, take_all}
-use Rattle.std.proofs.lemmas.List.Elements.{All-append, All-weaker}
+use Rattle.std.proofs.lemmas.List.Elements.{All-append, All-nil, All-weaker}
 use Rattle.std.proofs.lemmas.List.Sums.{sum_by-cons}
 use Rattle.std.proofs.lemmas.Option.{same_Some, slice_get_within}
 use Rattle.jb_board.proofs.EntryPlaces.{at-place}
@@ -27,7 +27,7 @@ use Rattle.example_accounts.proofs.MoneyHeld.{entry-recovers, first-recover, thr
 
 -- what holds of each of some lists holds of all that are joined
 all-joined : {A : Type 0} (P : A → Type 0) (lists : List (List A)) → ((at : ℕ) (none : List A) → at < length lists → All P (get_or lists at none)) → All P (joined lists)
-all-joined P [] each k d lt = absurd (omega (arith, lt))
+all-joined P [] each = All-nil P
 all-joined P (xs ∷ lists) each = All-append P xs (joined lists) (each 0 [] (omega arith)) (all-joined P lists (λ at none lt. each (suc at) none (omega (arith, lt))))
 
 -- a list that is not empty has an element
@@ -35,16 +35,15 @@ some-of : {A : Type 0} (xs : List A) (n : ℕ) → n < length xs → A
 some-of [] n lt = absurd (omega (arith, lt))
 some-of (x ∷ xs) n lt = x
 
+-- the first element, where it weighs something, or one of the others
+first-weight : {A : Type 0} (f : A → ℕ) (x : A) (xs : List A) (w : ℕ) → f x ≡ w → (f x ≡ 0 → (k : ℕ) × (y : A) × (slice_get xs k ≡ Some y) × (0 < f y)) → (k : ℕ) × (y : A) × (slice_get (x ∷ xs) k ≡ Some y) × (0 < f y)
+first-weight f x xs zero none others = let rest = others none in (suc rest.0, rest.1, rest.2, rest.3)
+first-weight f x xs (suc w) one others = (0, x, refl, omega (arith, one))
+
 -- an element of some weight, where all weigh something
 some-weight : {A : Type 0} (f : A → ℕ) (xs : List A) → 0 < sum_by f xs → (k : ℕ) × (x : A) × (slice_get xs k ≡ Some x) × (0 < f x)
 some-weight f [] some = absurd (omega (arith, some))
-some-weight {A} f (x ∷ xs) some = go (f x) refl
-  where
-    go : (w : ℕ) → f x ≡ w → (k : ℕ) × (y : A) × (slice_get (x ∷ xs) k ≡ Some y) × (0 < f y)
-    go zero none =
-        let rest = some-weight f xs (omega (arith, some, sum_by-cons f x xs, none)) in
-        (suc rest.0, rest.1, rest.2, rest.3)
-    go (suc w) one = (0, x, refl, omega (arith, one))
+some-weight f (x ∷ xs) some = first-weight f x xs (f x) refl (λ none. some-weight f xs (omega (arith, some, sum_by-cons f x xs, none)))
 
 -- the weight of the entries with this ticket
 abbrev at_ticket : ℕ → Stop → ℕ

@@ -71,3 +71,9 @@ pub record PutsBalance (account balance : ℕ) (old new : WordMap) : Type 0 wher
   pub bytes : List ℕ
   pub says : balance_in bytes ≡ balance
   pub are : new ≡ map.insert old account (Copy bytes)
+
+-- the same of the homes of two accounts, one after the other
+pub record PutsTwo (from less to more : ℕ) (old new : WordMap) : Type 0 where
+  pub mid : WordMap
+  pub first : PutsBalance from less old mid
+  pub second : PutsBalance to more mid new

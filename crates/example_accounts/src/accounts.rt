@@ -2,15 +2,15 @@
 ghost use Rattle.std.specs.Int.{w64, to_be_bytes};
 ghost use Rattle.std.specs.Prelude.{◌+◌, ◌++◌, ◌<◌, ◌≡◌, ◌≤◌, ◌^◌, ◌↔◌, MatchOption, IsTrue, OnOk, drop, sum};
 ghost use Rattle.jb_handle.specs.Handle.{changes_of};
-ghost use Rattle.example_accounts.specs.Accounts.{PutsBalance, SaysBalance, balance_in};
+ghost use Rattle.example_accounts.specs.Accounts.{PutsBalance, SaysBalance, balance_in, opening_balances};
 
 use jb_journal::{BlockSize, Handle, TouchFault};
 
 /// How many accounts there are.
 pub const ACCOUNTS: usize = 100;
 
-/// What each account holds at first.
-pub const OPENING: u64 = 1_000;
+/// What each account is opened with.
+const OPENING: u64 = 1_000;
 
 /// The size of a block, and how many bytes that is.
 pub const SIZE: BlockSize = BlockSize::OneKib;
@@ -78,6 +78,13 @@ pub fn put(handle: &mut Handle<()>, account: usize, balance: u64) -> Result<(), 
     ensures { OnOk result (PutsBalance account balance (changes_of handle.old).words (changes_of handle.new).words) }
 {
     handle.write(account as u64, &block_of(balance))
+}
+
+/// What each account holds once all are opened.
+pub fn opening() -> Balances
+    ensures { result ≡ opening_balances }
+{
+    [OPENING; ACCOUNTS]
 }
 
 /// Opens all accounts, as a part of a handle.

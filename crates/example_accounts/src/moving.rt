@@ -1,12 +1,13 @@
 //! The accounts are opened, and money is moved between them, by many threads.
-ghost use Rattle.std.specs.Prelude.{◌≡◌, All, None};
+ghost use Rattle.std.specs.Prelude.{◌≡◌, ◌<◌, All, None, OnOk, length};
+ghost use Rattle.jb_handle.specs.Handle.{changes_of};
 ghost use Rattle.jb_journal.specs.Client.{ClientGoesOn, MayWait, client_honest, client_known, client_stops};
 ghost use Rattle.jb_journal.specs.declared.options.Commits.TheVariants.{Meanwhile};
 ghost use Rattle.jb_journal.specs.Names.{IsFirstPart, StandsIn};
-ghost use Rattle.example_accounts.specs.Accounts.{IsMove, moved_by, opening_balances};
+ghost use Rattle.example_accounts.specs.Accounts.{IsMove, PutsTwo, moved_by, opening_balances};
 ghost use Rattle.example_accounts.specs.Postings.{ComesAfter, IsPosted, IsPosting, StopsOrNot, last_posting};
 
-use crate::accounts::{ACCOUNTS, OPENING, are_empty, open_all, put};
+use crate::accounts::{ACCOUNTS, are_empty, open_all, opening, put};
 use crate::cashbook::Cashbook;
 use crate::finding::found;
 use crate::moves::{Move, Wish};
@@ -110,7 +111,7 @@ impl<L: Place> Moving<L> {
             return Ok(None);
         }
         let ticket = stop_opening(client)?;
-        let after = [OPENING; ACCOUNTS];
+        let after = opening();
         self.post(&mut book, seen, Posting {
             ticket,
             before,
@@ -193,9 +194,12 @@ fn stop_move<'a, D: Disk, C: Clock, R: Wait + time::Clock, H: Origin, N: Ledger>
         less,
         more,
     } = granted;
-    let (_, ticket) = client.change(2, |handle: &mut Handle<()>| -> Result<(), TouchFault> {
+    let (_, ticket) = client.change(2, |handle: &mut Handle<()>| -> Result<(), TouchFault>
+        ensures { OnOk result (PutsTwo from less to more (changes_of handle.old).words (changes_of handle.new).words) }
+    {
         put(handle, from, less)?;
-        put(handle, to, more)
+        put(handle, to, more)?;
+        Ok(())
     })?;
     Ok(ticket)
 }

@@ -1,5 +1,5 @@
 //! Runs of the workers: on any disk, and in the file of an image.
-ghost use Rattle.std.specs.Prelude.{◌≡◌, [], IfOk, All, map, vec_capacity, vec_len};
+ghost use Rattle.std.specs.Prelude.{◌≡◌, ◌≤◌, [], IfOk, All, map, vec_capacity, vec_len};
 ghost use Rattle.jb_board.specs.History.{history_id};
 ghost use Rattle.jb_journal.specs.Names.{IsFirstPart};
 ghost use Rattle.example_accounts.specs.Conserved.{Conserves, ConservesInImage, IsTold, ended_of};
@@ -9,7 +9,8 @@ use crate::moving::{Moved, Moving};
 use crate::posting::Posting;
 use jb_board::{Appender, History, NewHistory, Place};
 use jb_journal::{
-    Disk, FileDisk, ImageGeometry, JournalFault, Options, Ran, Start, SystemClock, run, run_image,
+    Disk, FileDisk, ImageGeometry, JournalFault, Options, Ran, Start, SystemClock,
+    open_or_create_holding, run,
 };
 use std::alloc::Global;
 use std::fs::File;
@@ -46,7 +47,7 @@ pub fn move_on_disk<D: Disk + Drop + Send, R: AllocGlobal + Threads + Wait + Clo
 /// The same in the image of this name, which is made where there is none.
 ///
 /// # Errors
-/// Those of [`run_image`], and `Memory` likewise.
+/// Those of [`open_or_create_holding`], and those of a disk.
 pub fn move_in_image<
     S: Start + Send,
     R: Files<File = File> + AllocGlobal + Threads + Wait + Clock + Sync,
@@ -59,8 +60,8 @@ pub fn move_in_image<
     /// The same of one file, which was opened with its journal recovered, or in which its journal was made.
     ensures { IfOk result (ConservesInImage geometry) }
 {
-    let (history, outcomes) = room(rt.alloc())?;
-    move_in_image_by::<Brand, S, R>(rt, image, geometry, moves, history, outcomes)
+    let disk = open_or_create_holding::<S, R>(rt, image, geometry)?;
+    Ok(move_on_disk(rt, disk, moves)?)
 }
 
 /// A new history of postings, and room for how the workers end.
@@ -96,28 +97,6 @@ fn move_by<
         Options::new(WORKERS),
         &moving,
     )?;
-    Ok(moving.told(ran, outcomes))
-}
-
-/// The same in an image.
-fn move_in_image_by<
-    L: Place + Send + Sync,
-    S: Start + Send,
-    R: Files<File = File> + AllocGlobal + Threads + Wait + Clock + Sync,
->(
-    rt: &R,
-    image: &str,
-    geometry: ImageGeometry,
-    moves: u64,
-    history: NewHistory<Posting>,
-    outcomes: Vec<Outcome>,
-) -> Result<Ran<Outcome, FileDisk<S>>, JournalFault>
-    requires history { history_id history ≡ L.history }
-    requires room { (outcomes.items ≡ []) × (vec_len outcomes ≡ 0) × (vec_capacity outcomes ≡ 4) }
-    ensures { IfOk result (ConservesInImage geometry) }
-{
-    let moving = Moving::<L>::new(moves, history);
-    let ran = run_image(rt, image, geometry, Options::new(WORKERS), &moving)?;
     Ok(moving.told(ran, outcomes))
 }
 

@@ -28,6 +28,9 @@ loop-account-preserved g c =
           (cases_eq other account);
     }
 
+pub returns-in_err-read-clause-goes_on : goal.returns-in_err-read-clause-goes_on
+returns-in_err-read-clause-goes_on g c = goes-trans c.args.client.now c.loop-account.client c.read.new.self c.loop-account.invariant.goes_on c.read.ensures.goes_on
+
 pub returns-clause-found : goal.returns-clause-found
 returns-clause-found g c = λ none known held.
     all-balances g.H.Origin.begun.homes c.loop-account.balances c.loop-account.invariant.long
