@@ -1,5 +1,5 @@
 -- The balances in home blocks, and what a handle's words make of them.
-use Rattle.std.proofs.Common.{◌≡◌, ◌≢◌, ℕ, zero, suc, ◌+◌, ◌<◌, ◌≤◌, Bool, true, false, cond, List, [], ◌∷◌, length, get_or, set, replicate, nat_cmp, nat_eq, sum, Option, Some, None, refl, sym, ap, subst, ◌∙◌, ⊎_elim, inr, arith}
+use Rattle.std.proofs.Common.{◌≡◌, ℕ, zero, suc, ◌+◌, ◌<◌, Bool, true, false, cond, List, length, get_or, set, nat_cmp, nat_eq, sum, Option, Some, None, refl, sym, ap, subst, ◌∙◌, ⊎_elim, inr, arith}
 use Rattle.std.specs.FinMap as map
 use Rattle.std.specs.Cmp.{nat_cmp_total, unsigned_tied}
 use Rattle.std.specs.Option.{option_or}

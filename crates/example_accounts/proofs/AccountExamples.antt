@@ -1,10 +1,9 @@
 -- Small cases of the definitions: what they hold of, and what they do not.
-use Rattle.std.proofs.Common.{◌≡◌, ℕ, ◌+◌, ◌<◌, List, [], ◌∷◌, get_or, replicate, set, sum, Some, None, inl, inr, refl, sym, ap, ⊎_elim, arith}
+use Rattle.std.proofs.Common.{◌≡◌, ◌+◌, [], ◌∷◌, Some, refl, arith}
 use Rattle.example_accounts.specs.Accounts.{IsMove, LeavesBalance, balance_in, money_after, opening_balances}
-use Rattle.example_accounts.specs.Postings.{ComesAfter, OpensOrMoves}
-use Rattle.example_accounts.specs.declared.moves.Move.{Move}
+use Rattle.example_accounts.specs.Postings.{ComesAfter}
 use Rattle.example_accounts.specs.declared.posting.Posting.{Posting}
-use Rattle.jb_journal.specs.Names.{Copy, Free}
+use Rattle.jb_journal.specs.Names.{Free}
 
 -- 3 * 256 + 232 in eight bytes, whatever follows
 thousand : balance_in (0 ∷ 0 ∷ 0 ∷ 0 ∷ 0 ∷ 0 ∷ 3 ∷ 232 ∷ 9 ∷ []) ≡ 1000

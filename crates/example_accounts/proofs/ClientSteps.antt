@@ -1,5 +1,5 @@
 -- A client's calls one after another, and what its changes and its reads say.
-use Rattle.std.proofs.Common.{◌≡◌, ℕ, ◌+◌, ◌<◌, List, [], ◌∷◌, ◌++◌, All, length, get_or, Some, Ok, Err, slice_get, refl, sym, ap, subst, ◌∙◌, arith}
+use Rattle.std.proofs.Common.{◌≡◌, ℕ, List, [], ◌∷◌, ◌++◌, All, Some, Err, slice_get, refl, subst, ◌∙◌, arith}
 use Rattle.std.specs.Borrow.{MutBor}
 use Rattle.std.specs.Fn.{Once}
 use mathlib.Core.List.{IsPrefix}
@@ -17,7 +17,6 @@ use Rattle.jb_journal.specs.Notes.{Known, ReadsAs, Stop}
 use Rattle.jb_journal.specs.declared.client.Client.{Client}
 use Rattle.jb_journal.specs.declared.fault.HandleFault.{HandleFault}
 use Rattle.jb_journal.specs.declared.fault.HandleFault.TheVariants.{Begin, Refused, Aborted, NotOpen, Memory}
-use Rattle.example_accounts.specs.Accounts.{balance_in}
 
 pub goes-trans : {D C R H N : Type 0} {Q : Ghosts D} {O : OriginGhosts H} {P : Places H} (one two three : Client D C R H N Q O P) → ClientGoesOn one two → ClientGoesOn two three → ClientGoesOn one three
 goes-trans {Q = Q} one two three p q = record {

@@ -1,5 +1,5 @@
 -- What the accounts hold after each first handles, where each handle is posted.
-use Rattle.std.proofs.Common.{◌≡◌, ℕ, zero, suc, ◌+◌, ◌<◌, ◌≤◌, List, [], ◌∷◌, ◌++◌, length, get_or, take, sum, Option, Some, None, slice_get, refl, sym, ap, subst, ◌∙◌, ⊎_elim, arith}
+use Rattle.std.proofs.Common.{◌≡◌, ℕ, zero, suc, ◌+◌, ◌<◌, ◌≤◌, List, [], length, get_or, take, sum, Option, Some, None, slice_get, refl, sym, ap, subst, ◌∙◌, ⊎_elim, arith}
 use Rattle.std.specs.FinMap as map
 use Rattle.std.specs.Option.{option_or}
 use Rattle.std.proofs.lemmas.List.{take_more}
@@ -13,7 +13,7 @@ use Rattle.jb_deck.specs.Open.{FollowsEntry, home_by, recovered_home}
 use Rattle.jb_book.specs.Since.{HasFirst}
 use Rattle.jb_journal.specs.Names.{Begun, StandsBy, Stopped, WordMap, word}
 use Rattle.example_accounts.specs.Accounts.{LeavesBalances, balance_in, balances_in, money_after}
-use Rattle.example_accounts.specs.Conserved.{AreAfter, HoldsThroughout, RecoversMoney}
+use Rattle.example_accounts.specs.Conserved.{HoldsThroughout, RecoversMoney}
 use Rattle.example_accounts.specs.Postings.{ArePostings, IsPosted}
 use Rattle.example_accounts.specs.declared.posting.Posting.{Posting}
 use Rattle.example_accounts.proofs.AccountBalances.{all-balances, balance-at, holds-next, length-balances, money-next, money-start}

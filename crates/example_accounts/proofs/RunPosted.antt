@@ -1,22 +1,22 @@
 -- A run whose handles are posted: each of those that the journal was given is, and so the money is conserved.
-use Rattle.std.proofs.Common.{◌≡◌, ℕ, zero, suc, ◌+◌, ◌<◌, ◌≤◌, Bool, true, false, cond, List, [], ◌∷◌, All, length, get_or, map, nat_eq, sum_by, Result, Option, Some, None, slice_get, inl, inr, refl, sym, ap, subst, ◌∙◌, ⊎_elim, append-nil, arith}
+use Rattle.std.proofs.Common.{◌≡◌, ℕ, zero, suc, ◌+◌, ◌<◌, ◌≤◌, Bool, true, false, cond, List, [], ◌∷◌, All, length, get_or, nat_eq, sum_by, Result, Some, None, slice_get, inl, inr, refl, sym, ap, subst, ◌∙◌, ⊎_elim, append-nil, arith}
 use Rattle.std.proofs.lemmas.Bool.{eqb-true, eq-eqb}
 use Rattle.std.proofs.lemmas.List.{length-map, take_all}
 use Rattle.std.proofs.lemmas.List.Elements.{All-append, All-nil, All-weaker}
 use Rattle.std.proofs.lemmas.List.Sums.{sum_by-cons}
 use Rattle.std.proofs.lemmas.Option.{same_Some, slice_get_within}
 use Rattle.jb_board.proofs.EntryPlaces.{at-place}
-use Rattle.jb_disk.specs.Image.{Image, block}
+use Rattle.jb_disk.specs.Image.{block}
 use Rattle.jb_handle.specs.declared.shape.Shape.{Shape}
 use Rattle.jb_journal.proofs.KnownStays.{ticket-at}
 use Rattle.jb_journal.specs.Client.{AreHonest}
-use Rattle.jb_journal.specs.Names.{Begun, Ghosts, IsFirstPart, StandsBy, StandsIn, Stopped, WordMap, joined, with_places, word}
-use Rattle.jb_journal.specs.Notes.{Known, Stop}
+use Rattle.jb_journal.specs.Names.{Begun, Ghosts, StandsBy, StandsIn, Stopped, WordMap, joined, with_places, word}
+use Rattle.jb_journal.specs.Notes.{Stop}
 use Rattle.jb_journal.specs.Run.{RanAll, RanOn}
 use Rattle.jb_journal.specs.Start.{started_on}
 use Rattle.jb_journal.specs.declared.journal_fault.JournalFault.{JournalFault}
 use Rattle.jb_journal.specs.declared.ran.Ran.{Ran}
-use Rattle.example_accounts.specs.Conserved.{Conserves, HoldsThroughout, IsTold, ended_of, with_answers}
+use Rattle.example_accounts.specs.Conserved.{Conserves, HoldsThroughout, IsTold, ended_of}
 use Rattle.example_accounts.specs.Postings.{ArePostings, IsPosted}
 use Rattle.example_accounts.specs.declared.moving.Moved.{Moved}
 use Rattle.example_accounts.specs.declared.posting.Posting.{Posting}

@@ -1,6 +1,6 @@
 -- Postings: what the handles of a run make of the accounts, in the order of their tickets.
-use Rattle.std.specs.Prelude.{◌≡◌, ◌⊎◌, ℕ, ◌<◌, ◌≤◌, List, [], ◌∷◌, ◌++◌, length, sum, Option, Some, None, Result, Ok, Err}
-use Rattle.std.specs.FinMap as map
+use Rattle.std.specs.Prelude.{◌≡◌, ◌⊎◌, ℕ, ◌<◌, ◌≤◌, List, [], ◌∷◌, ◌++◌, length, sum, Option, Some, None, Result, Ok}
+use Rattle.std.specs.Prelude.{Err}
 use Rattle.jb_journal.specs.Names.{Begun, StandsIn, WordMap}
 use Rattle.jb_journal.specs.Notes.{Known, Stop}
 use Rattle.jb_journal.specs.declared.journal_fault.JournalFault.{JournalFault}

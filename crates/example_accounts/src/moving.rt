@@ -112,11 +112,15 @@ impl<L: Place> Moving<L> {
         }
         let ticket = stop_opening(client)?;
         let after = opening();
-        self.post(&mut book, seen, Posting {
-            ticket,
-            before,
-            after,
-        });
+        self.post(
+            &mut book,
+            seen,
+            Posting {
+                ticket,
+                before,
+                after,
+            },
+        );
         Ok(Some(ticket))
     }
 
@@ -142,11 +146,15 @@ impl<L: Place> Moving<L> {
         };
         let ticket = stop_move(client, granted)?;
         let after = granted.after(&before);
-        self.post(&mut book, seen, Posting {
-            ticket,
-            before,
-            after,
-        });
+        self.post(
+            &mut book,
+            seen,
+            Posting {
+                ticket,
+                before,
+                after,
+            },
+        );
         Ok(Some(ticket))
     }
 
@@ -194,13 +202,16 @@ fn stop_move<'a, D: Disk, C: Clock, R: Wait + time::Clock, H: Origin, N: Ledger>
         less,
         more,
     } = granted;
-    let (_, ticket) = client.change(2, |handle: &mut Handle<()>| -> Result<(), TouchFault>
-        ensures { OnOk result (PutsTwo from less to more (changes_of handle.old).words (changes_of handle.new).words) }
-    {
-        put(handle, from, less)?;
-        put(handle, to, more)?;
-        Ok(())
-    })?;
+    let (_, ticket) = client.change(
+        2,
+        |handle: &mut Handle<()>| -> Result<(), TouchFault>
+            ensures { OnOk result (PutsTwo from less to more (changes_of handle.old).words (changes_of handle.new).words) }
+        {
+            put(handle, from, less)?;
+            put(handle, to, more)?;
+            Ok(())
+        },
+    )?;
     Ok(ticket)
 }
 

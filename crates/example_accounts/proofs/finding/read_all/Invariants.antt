@@ -1,4 +1,4 @@
-use Rattle.std.proofs.Common.{◌≡◌, ℕ, ◌<◌, List, [], get_or, length}
+use Rattle.std.proofs.Common.{◌≡◌, ℕ, ◌<◌, [], get_or, length}
 use Rattle.jb_journal.specs.Client.{ClientGoesOn, MayWait, client_honest, client_known, client_stops}
 use Rattle.example_accounts.specs.Accounts.{balance_in}
 use Rattle.example_accounts.proofs.finding.read_all.Given as goal

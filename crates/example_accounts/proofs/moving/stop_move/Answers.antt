@@ -1,4 +1,4 @@
-use Rattle.std.proofs.Common.{rules, ap, subst, ◌∙◌}
+use Rattle.std.proofs.Common.{rules, ap, subst}
 use Rattle.jb_handle.specs.Handle.{changes_of}
 use Rattle.jb_handle.specs.HeldChanges.{Held}
 use Rattle.jb_handle.specs.declared.handle.Handle.{Handle}

@@ -1,4 +1,4 @@
-use Rattle.std.proofs.Common.{◌≡◌, ◌≤◌, All, length, map, vec_len, vec_capacity}
+use Rattle.std.proofs.Common.{◌≡◌, All, length, map, vec_len, vec_capacity}
 use Rattle.jb_journal.specs.Names.{IsFirstPart}
 use Rattle.example_accounts.specs.Conserved.{ended_of}
 use Rattle.example_accounts.proofs.running.ended.Given as goal
