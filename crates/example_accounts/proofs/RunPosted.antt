@@ -16,7 +16,7 @@ use Rattle.jb_journal.specs.Run.{RanAll, RanOn}
 use Rattle.jb_journal.specs.Start.{started_on}
 use Rattle.jb_journal.specs.declared.journal_fault.JournalFault.{JournalFault}
 use Rattle.jb_journal.specs.declared.ran.Ran.{Ran}
-use Rattle.example_accounts.specs.Conserved.{Conserves, HoldsThroughout, IsTold, ended_of}
+use Rattle.example_accounts.specs.Conserved.{Conserves, HoldsThroughout, TellsEnds, ended_of}
 use Rattle.example_accounts.specs.Postings.{ArePostings, IsPosted}
 use Rattle.example_accounts.specs.declared.moving.Moved.{Moved}
 use Rattle.example_accounts.specs.declared.posting.Posting.{Posting}
@@ -130,7 +130,7 @@ conserved G disk ps ran are on =
 -- ---- what is told of a run
 
 -- the answers of a run are told: how each worker ended
-told-on : {D L : Type 0} (G : Ghosts D) (b : Begun) (disk : D) (workers : ℕ) (ran : Ran (Moved L) D) (told : Ran (Result (Unit {0}) JournalFault) D) → (is : IsTold ran told)
+told-on : {D L : Type 0} (G : Ghosts D) (b : Begun) (disk : D) (workers : ℕ) (ran : Ran (Moved L) D) (told : Ran (Result (Unit {0}) JournalFault) D) → (is : TellsEnds ran told)
     → RanOn G disk b (λ shape sure many at stops known moved. All (IsPosted b sure moved.seen) stops) workers ran
     → RanOn G disk b (λ shape sure many at stops known ended. All (IsPosted b sure is.postings) stops) workers told
 told-on G b disk workers ran told is on =
@@ -168,7 +168,7 @@ told-on G b disk workers ran told is on =
       };
     }
 
-pub conserved-by : {D L : Type 0} (G : Ghosts D) (disk : D) (workers : ℕ) → workers ≡ 4 → (ran : Ran (Moved L) D) (told : Ran (Result (Unit {0}) JournalFault) D) → IsTold ran told
+pub conserved-by : {D L : Type 0} (G : Ghosts D) (disk : D) (workers : ℕ) → workers ≡ 4 → (ran : Ran (Moved L) D) (told : Ran (Result (Unit {0}) JournalFault) D) → TellsEnds ran told
     → RanOn G disk (started_on G disk) (λ shape sure many at stops known moved. All (IsPosted (started_on G disk) sure moved.seen) stops) workers ran → Conserves G disk told
 conserved-by G disk workers four ran told is on =
     let b = started_on G disk in

@@ -76,7 +76,7 @@ with_answers answers ran = record {
 }
 
 -- What is told of a run: how each worker ended. What each has seen of the postings, all of them begin with
-pub record IsTold {L D : Type 0} (ran : Ran (Moved L) D) (told : Ran (Result Unit JournalFault) D) : Type 0 where
+pub record TellsEnds {L D : Type 0} (ran : Ran (Moved L) D) (told : Ran (Result Unit JournalFault) D) : Type 0 where
   pub postings : List Posting
   pub follow : ArePostings None postings
   pub seen : All (λ moved. IsFirstPart moved.seen postings) ran.answers.items

@@ -205,7 +205,8 @@ fn stop_move<'a, D: Disk, C: Clock, R: Wait + time::Clock, H: Origin, N: Ledger>
     let (_, ticket) = client.change(
         2,
         |handle: &mut Handle<()>| -> Result<(), TouchFault>
-            ensures { OnOk result (PutsTwo from less to more (changes_of handle.old).words (changes_of handle.new).words) }
+            ensures { OnOk result (PutsTwo from less to more (changes_of handle.old).words
+                (changes_of handle.new).words) }
         {
             put(handle, from, less)?;
             put(handle, to, more)?;

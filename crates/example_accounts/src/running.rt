@@ -2,7 +2,7 @@
 ghost use Rattle.std.specs.Prelude.{◌≡◌, ◌≤◌, [], IfOk, All, map, vec_capacity, vec_len};
 ghost use Rattle.jb_board.specs.History.{history_id};
 ghost use Rattle.jb_journal.specs.Names.{IsFirstPart};
-ghost use Rattle.example_accounts.specs.Conserved.{Conserves, ConservesInImage, IsTold, ended_of};
+ghost use Rattle.example_accounts.specs.Conserved.{Conserves, ConservesInImage, TellsEnds, ended_of};
 
 use crate::cashbook::Cashbook;
 use crate::moving::{Moved, Moving};
@@ -35,9 +35,9 @@ pub fn move_on_disk<D: Disk + Drop + Send, R: AllocGlobal + Threads + Wait + Clo
     disk: D,
     moves: u64,
 ) -> Result<Ran<Outcome, D>, JournalFault>
-    /// The accounts of a run hold together what they held at the start, or what they were opened with, all by one
-    /// handle: after each first handles by ticket of all its threads, and in what a crash leaves at any time, once it
-    /// is recovered, if the disk that is given back is honest.
+    /// The accounts of a run hold together what they held at the start; where that was nothing, its first handle opens
+    /// all of them. So they do after each first handles by ticket of all its threads, and, if the disk that is given
+    /// back is honest, in what a crash leaves since the run began, once it is recovered, unless it was left before.
     ensures { IfOk result (Conserves D.Disk disk) }
 {
     let (history, outcomes) = room(rt.alloc())?;
@@ -57,7 +57,8 @@ pub fn move_in_image<
     geometry: ImageGeometry,
     moves: u64,
 ) -> Result<Ran<Outcome, FileDisk<S>>, JournalFault>
-    /// The same of one file, which was opened with its journal recovered, or in which its journal was made.
+    /// The same of the accounts in one file, which was opened with its journal recovered, or in which its journal was
+    /// made.
     ensures { IfOk result (ConservesInImage geometry) }
 {
     let disk = open_or_create_holding::<S, R>(rt, image, geometry)?;
@@ -118,7 +119,7 @@ impl<L: Place> Moving<L> {
     fn told<D>(self, ran: Ran<Moved<L>, D>, outcomes: Vec<Outcome>) -> Ran<Outcome, D>
         requires none { (outcomes.items ≡ []) × (vec_len outcomes ≡ 0) }
         requires room { vec_len ran.answers ≤ vec_capacity outcomes }
-        ensures { IsTold ran result }
+        ensures { TellsEnds ran result }
     {
         let Moving { history, book, .. } = self;
         let mut postings = book.into_inner().into_postings();
