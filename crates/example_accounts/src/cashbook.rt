@@ -49,7 +49,6 @@ impl<L: Place> Cashbook<L> {
     pub fn post(&mut self, history: &History<Posting, L>, posting: Posting) -> Prefix<Posting, L>
         requires posting { IsPosting posting }
         requires comes { ComesAfter (last_posting None self.old) posting }
-        /// What is posted comes after all that was: the book has it as its last one.
         ensures posted { self.new ≡ self.old ++ posting ∷ [] }
         ensures shown { result ≡ self.new }
     {
