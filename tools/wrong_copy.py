@@ -1,0 +1,162 @@
+"""The copies in which tools/wrong_bodies puts bodies in, what it runs there, and what is said."""
+import os
+import re
+import shutil
+import subprocess
+import tempfile
+
+from sources import ROOT, crate_rows, files, text_of
+from wrong_data import module_of
+
+PARTS = ("src", "specs", "proofs")
+TWIN = "__twin"
+
+
+def below(crate):
+    """A crate and all of the repository that it stands on, each after what it uses."""
+    uses = {name: named for _, name, named, _ in crate_rows()}
+    found = []
+
+    def add(name):
+        for use in uses.get(name, []):
+            if use in uses and use not in found:
+                add(use)
+        if name not in found:
+            found.append(name)
+
+    add(crate)
+    return found
+
+
+def read_of(crate):
+    """Each file that a check or a test of the crate reads, with what is in it."""
+    for name in below(crate):
+        for part in PARTS:
+            for file in files(name, part, ""):
+                yield f"crates/{name}/{file}", text_of("crates", name, file)
+
+
+def link(source, to):
+    try:
+        os.link(source, to)
+    except OSError:
+        shutil.copy2(source, to)
+
+
+class Copy:
+    """A copy of a crate and of all that it stands on. What is only read is linked: of the crates below it the libraries too, where there are any."""
+
+    def __init__(self, crate, with_libraries):
+        self.crate, self.top = crate, tempfile.mkdtemp(prefix="wrong-")
+        rows = set(below(crate))
+        with open(os.path.join(self.top, "crates.txt"), "w", encoding="utf-8") as file:
+            file.writelines(line for line in text_of("crates.txt").splitlines(True) if line.partition(":")[0] in rows)
+        shutil.copy(os.path.join(ROOT, "HANDLES"), self.top)
+        for name in rows:
+            of = os.path.join(ROOT, "crates", name)
+            for part in PARTS + (("out/rlib",) if with_libraries and name != crate else ()):
+                if os.path.isdir(os.path.join(of, part)):
+                    shutil.copytree(os.path.join(of, part), os.path.join(self.top, "crates", name, part), copy_function=link)
+
+    def __enter__(self):
+        return self
+
+    def __exit__(self, *_):
+        shutil.rmtree(self.top, ignore_errors=True)
+
+    def text(self, file):
+        with open(os.path.join(self.top, file), encoding="utf-8") as it:
+            return it.read()
+
+    def write(self, file, text):
+        """Writes a file anew: what was linked to it stays as it was."""
+        path = os.path.join(self.top, file)
+        os.makedirs(os.path.dirname(path), exist_ok=True)
+        if os.path.lexists(path):
+            os.remove(path)
+        with open(path, "w", encoding="utf-8") as it:
+            it.write(text)
+
+    def run(self, *words):
+        """What `rt` says in the crate's folder, and its status."""
+        how = {"stdin": subprocess.DEVNULL, "stdout": subprocess.PIPE, "stderr": subprocess.STDOUT, "errors": "replace"}
+        ran = subprocess.run(["rt", *words], cwd=os.path.join(self.top, "crates", self.crate), **how)
+        return ran.stdout, ran.returncode
+
+    def put(self, body):
+        """Puts a body in, and gives what was there before."""
+        was = {change.file: self.text(change.file) for change in body.changes}
+        for change in body.changes:
+            self.write(change.file, self.text(change.file).replace(change.old, change.new))
+        return was
+
+    def keep_tests(self, names):
+        """Leaves these tests alone, which are named with their modules: the other ones are functions that nobody calls."""
+        for file in files(self.crate, "src", ".rt"):
+            text, module = text_of("crates", self.crate, file), module_of(file)
+            kept = re.sub(r"^ *#\[test\]\n(?= *fn (\w+))", lambda it: it.group() if module + it.group(1) in names else "", text, flags=re.M)
+            if kept != self.text(f"crates/{self.crate}/{file}"):
+                self.write(f"crates/{self.crate}/{file}", kept)
+
+
+class Twin:
+    """A function once more, under another name and with another body, and with the proof files of the first one."""
+
+    def __init__(self, copy, function, body, number):
+        self.copy, self.function, self.body = copy, function, body
+        self.name = f"{function.plain}{TWIN}{number}"
+        crate = function.file.split("/")[1]
+        owner = function.name.split("::")[:-1]
+        self.path = [*function.module(), *owner, self.name]
+        self.proofs = f"crates/{crate}/proofs/" + "/".join(self.path)
+        self.set_aside = []
+
+    def text(self):
+        text = self.body.put_into(self.function) if self.body else self.function.text
+        return re.sub(r"\bfn %s\b" % self.function.plain, f"fn {self.name}", text, count=1)
+
+    def write_proofs(self):
+        """Gives it the proof files of the function, in which it stands for this one."""
+        old = ".".join([*self.path[:-1], self.function.plain])
+        of = os.path.join(self.copy.top, os.path.dirname(self.proofs), self.function.plain)
+        for at, _, names in os.walk(of):
+            for name in names:
+                file = os.path.relpath(os.path.join(at, name), self.copy.top)
+                text = re.sub(r"\bproofs\.%s(?=\.)" % re.escape(old), "proofs." + ".".join(self.path), self.copy.text(file))
+                self.copy.write(os.path.join(self.proofs, os.path.relpath(os.path.join(at, name), of)), text)
+
+    def drop_wrong_answers(self, said):
+        """Sets the answers aside at which the check stopped, and gives whether there were any."""
+        lines = {}
+        for file, line in re.findall(r"^(?:\./)?(proofs/\S+?\.antt):(\d+):\d+: error", said, re.M):
+            if f"crates/{self.copy.crate}/{file}".startswith(self.proofs + "/"):
+                lines.setdefault(f"crates/{self.copy.crate}/{file}", []).append(int(line))
+        for file, at in lines.items():
+            kept, gone = without(self.copy.text(file), at)
+            self.set_aside += gone
+            self.copy.write(file, kept)
+        return bool(lines)
+
+    def open_goals(self, said):
+        """The goals that stay open, by name: those that the line of the function names, and those of its notes."""
+        path = "::".join(self.path)
+        line = re.search(r"^fn \S*\b%s: (.*)" % re.escape(path), said, re.M)
+        if not line or line.group(1).startswith("proved"):
+            return set() if line else None
+        named = re.findall(r"`([\w-]+)`", line.group(1).partition("did not prove")[2])
+        noted = re.findall(r"note: `([\w-]+)` of proofs/%s/" % re.escape("/".join(self.path)), said)
+        return set(named + noted)
+
+
+def without(text, lines):
+    """A proof file without the definitions in which these lines stand, and the names of those."""
+    parts = re.split(r"(?m)^(?=\S)", text)
+    names = [re.match(r"(?:(?:abbrev|pub|unfoldable) )*(\S+)", part).group(1) if part.strip() else "" for part in parts]
+    number, gone = 1, set()
+    for part, name in zip(parts, names):
+        after = number + part.count("\n")
+        if any(number <= line < after for line in lines) and not part.startswith(("use ", "mod ", "--")):
+            gone.add(name)
+        number = after
+    kept = [part for part, name in zip(parts, names) if name not in gone or part.startswith(("use ", "mod ", "--"))]
+    return "".join(kept), sorted(gone)
