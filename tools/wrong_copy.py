@@ -6,7 +6,6 @@ import subprocess
 import tempfile
 
 from sources import ROOT, crate_rows, files, text_of
-from wrong_data import module_of
 
 PARTS = ("src", "specs", "proofs")
 TWIN = "__twin"
@@ -91,12 +90,33 @@ class Copy:
         return was
 
     def keep_tests(self, names):
-        """Leaves these tests alone, which are named with their modules: the other ones are functions that nobody calls."""
-        for file in files(self.crate, "src", ".rt"):
-            text, module = text_of("crates", self.crate, file), module_of(file)
-            kept = re.sub(r"^ *#\[test\]\n(?= *fn (\w+))", lambda it: it.group() if module + it.group(1) in names else "", text, flags=re.M)
-            if kept != self.text(f"crates/{self.crate}/{file}"):
-                self.write(f"crates/{self.crate}/{file}", kept)
+        """Leaves these tests alone, which are named with their modules, and of the crate what they use: so less is compiled."""
+        top, root = f"crates/{self.crate}/src", text_of("crates", self.crate, "src", "lib.rt")
+        kept = used_by(self.crate, {name.split("::")[0] for name in names})
+        self.write(f"{top}/lib.rt", re.sub(r"(?:#\[cfg\(test\)\]\n)?^mod (\w+);\n", lambda it: it.group() * (it.group(1) in kept), root, flags=re.M))
+        for module in re.findall(r"^mod (\w+);", root, re.M):
+            path = os.path.join(self.top, top, module + ".rt")
+            if os.path.lexists(path):
+                os.remove(path)
+            if module in kept:
+                text = text_of(top, module + ".rt")
+                self.write(f"{top}/{module}.rt", re.sub(r"^#\[test\]\n(?=fn (\w+))", lambda it: it.group() * (f"{module}::{it.group(1)}" in names), text, flags=re.M))
+        code = "".join(text_of(top, module + ".rt") for module in kept)
+        row = re.search(r"^%s:.*" % self.crate, self.text("crates.txt"), re.M).group().partition("#")[0]
+        uses = [use for use in row.split()[1:] if re.search(r"\b%s\b" % use, code)]
+        self.write("crates.txt", re.sub(r"^%s:.*" % self.crate, f"{self.crate}: {' '.join(uses)}", self.text("crates.txt"), flags=re.M))
+
+
+def used_by(crate, modules):
+    """These modules of a crate of tests, and those that they use."""
+    found, left = set(), list(modules)
+    while left:
+        module = left.pop()
+        if module not in found:
+            found.add(module)
+            text = text_of("crates", crate, "src", module + ".rt")
+            left += [name for one, many in re.findall(r"\bcrate::(?:(\w+)|\{([^}]*)\})", text) for name in re.findall(r"\w+", one or many)]
+    return found
 
 
 class Twin:
@@ -109,7 +129,7 @@ class Twin:
         owner = function.name.split("::")[:-1]
         self.path = [*function.module(), *owner, self.name]
         self.proofs = f"crates/{crate}/proofs/" + "/".join(self.path)
-        self.set_aside = []
+        self.set_aside, self.lines, self.is_unread = [], range(0), False
 
     def text(self):
         text = self.body.put_into(self.function) if self.body else self.function.text
@@ -146,6 +166,29 @@ class Twin:
         named = re.findall(r"`([\w-]+)`", line.group(1).partition("did not prove")[2])
         noted = re.findall(r"note: `([\w-]+)` of proofs/%s/" % re.escape("/".join(self.path)), said)
         return set(named + noted)
+
+
+def write_twins(copy, twins):
+    """Writes the sources with these twins, each after its function, and notes the lines of each."""
+    for file in {twin.function.file for twin in twins}:
+        text, at = text_of(file), 0
+        here = sorted((twin for twin in twins if twin.function.file == file and not twin.is_unread), key=lambda twin: twin.function.end)
+        parts = []
+        for twin in here:
+            parts += [text[at:twin.function.end], "\n\n"]
+            at, first = twin.function.end, "".join(parts).count("\n") + 1
+            parts.append(twin.text())
+            twin.lines = range(first, first + twin.text().count("\n") + 1)
+        copy.write(file, "".join(parts) + text[at:])
+
+
+def drop_unread(twins, said):
+    """Drops the twins at which the check stopped before any proof, and gives whether there were any."""
+    found = re.findall(r"^(?:\./)?(src/\S+\.rt):(\d+):\d+: error", said, re.M)
+    wrong = [twin for twin in twins if not twin.is_unread and any(twin.function.file.endswith("/" + file) and int(line) in twin.lines for file, line in found)]
+    for twin in wrong:
+        twin.is_unread = True
+    return bool(wrong)
 
 
 def without(text, lines):
