@@ -77,10 +77,13 @@ class Copy:
             it.write(text)
 
     def run(self, *words):
-        """What `rt` says in the crate's folder, and its status."""
-        how = {"stdin": subprocess.DEVNULL, "stdout": subprocess.PIPE, "stderr": subprocess.STDOUT, "errors": "replace"}
-        ran = subprocess.run(["rt", *words], cwd=os.path.join(self.top, "crates", self.crate), **how)
-        return ran.stdout, ran.returncode
+        """What `rt` says in the crate's folder, and its status. It is in out/wrong, too."""
+        os.makedirs(os.path.join(ROOT, "out", "wrong"), exist_ok=True)
+        log = os.path.join(ROOT, "out", "wrong", self.crate + ".log")
+        with open(log, "w+", encoding="utf-8", errors="replace") as said:
+            ran = subprocess.run(["rt", *words], cwd=os.path.join(self.top, "crates", self.crate), stdin=subprocess.DEVNULL, stdout=said, stderr=subprocess.STDOUT)
+            said.seek(0)
+            return said.read(), ran.returncode
 
     def put(self, body):
         """Puts a body in, and gives what was there before."""
@@ -158,14 +161,14 @@ class Twin:
         return bool(lines)
 
     def open_goals(self, said):
-        """The goals that stay open, by name: those that the line of the function names, and those of its notes."""
-        path = "::".join(self.path)
-        line = re.search(r"^fn \S*\b%s: (.*)" % re.escape(path), said, re.M)
-        if not line or line.group(1).startswith("proved"):
-            return set() if line else None
-        named = re.findall(r"`([\w-]+)`", line.group(1).partition("did not prove")[2])
-        noted = re.findall(r"note: `([\w-]+)` of proofs/%s/" % re.escape("/".join(self.path)), said)
-        return set(named + noted)
+        """The goals that stay open, by name, as the line of the function says; None where the check has no line of it."""
+        line = re.search(r"^fn \S*\b%s: (.*)" % re.escape("::".join(self.path)), said, re.M)
+        if not line:
+            return None
+        # what no answer proves, and answers that are refused
+        left = re.search(r"`search` did not prove ([^;]*)", line.group(1))
+        refused = re.findall(r"`\S+\.Answers\.([\w-]+)`", line.group(1))
+        return set(re.findall(r"`([\w-]+)`", left.group(1)) if left else []) | set(refused)
 
 
 def write_twins(copy, twins):

@@ -123,11 +123,13 @@ def tests_named(crate, name):
 
 
 class Wrong:
-    """The wrong bodies of a crate, and the harmless ones of its functions with clauses. What is said over the table is `says`."""
+    """The wrong bodies of a crate, and the harmless ones of its functions with clauses. What is said over the table is `says`. Where the
+    bodies were not all run yet (`unrun`) the crate keeps the page that it has."""
 
     def __init__(self, crate, given):
         self.crate = crate
         self.says = " ".join(text for one in given if (text := one.get("says")))
+        self.is_unrun = any(one.get("unrun") for one in given)
         self.bodies = [Body(crate, number, row) for number, row in enumerate((row for one in given for row in one.get("body", [])), 1)]
         self.harmless = [Body(crate, 0, row) for one in given for row in one.get("harmless", [])]
 
