@@ -132,7 +132,7 @@ class Twin:
         owner = function.name.split("::")[:-1]
         self.path = [*function.module(), *owner, self.name]
         self.proofs = f"crates/{crate}/proofs/" + "/".join(self.path)
-        self.set_aside, self.lines, self.is_unread = [], range(0), False
+        self.set_aside, self.lines, self.is_unread, self.goals = [], range(0), False, None
 
     def text(self):
         text = self.body.put_into(self.function) if self.body else self.function.text
@@ -159,6 +159,11 @@ class Twin:
             self.set_aside += gone
             self.copy.write(file, kept)
         return bool(lines)
+
+    def reads(self, said):
+        """Takes what a check said of it, and gives whether it is to be checked again, without some answers."""
+        self.goals = self.open_goals(said)
+        return self.drop_wrong_answers(said)
 
     def open_goals(self, said):
         """The goals that stay open, by name, as the line of the function says; None where the check has no line of it."""
