@@ -9,6 +9,8 @@ from sources import ROOT, crate_rows, files, text_of
 
 PARTS = ("src", "specs", "proofs")
 TWIN = "__twin"
+# a test, with the lines above it: whole, since a function that is no test may not take the runtime
+A_TEST = r"(?:^(?:///|#\[)[^\n]*\n)*^#\[test\]\n(?:^#\[[^\n]*\n)*fn (\w+)\([\s\S]*?^\}\n"
 
 
 def below(crate):
@@ -103,7 +105,7 @@ class Copy:
                 os.remove(path)
             if module in kept:
                 text = text_of(top, module + ".rt")
-                self.write(f"{top}/{module}.rt", re.sub(r"^#\[test\]\n(?=fn (\w+))", lambda it: it.group() * (f"{module}::{it.group(1)}" in names), text, flags=re.M))
+                self.write(f"{top}/{module}.rt", re.sub(A_TEST, lambda it: it.group() * (f"{module}::{it.group(1)}" in names), text, flags=re.M))
         code = "".join(text_of(top, module + ".rt") for module in kept)
         row = re.search(r"^%s:.*" % self.crate, self.text("crates.txt"), re.M).group().partition("#")[0]
         uses = [use for use in row.split()[1:] if re.search(r"\b%s\b" % use, code)]
