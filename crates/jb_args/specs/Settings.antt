@@ -24,7 +24,7 @@ setting_of word =
     else if bytes_eq word (codes "--no-progress") then Some sets.NoProgress
     else None
 
--- the settings, with what one word more sets
+-- the settings, with one more
 abbrev pub with_setting : Settings → Setting → Settings
 with_setting settings sets.Json = record settings { form = forms.Json }
 with_setting settings sets.Hints = record settings { second = seconds.Always }
@@ -33,6 +33,11 @@ with_setting settings sets.Quiet =
 with_setting settings sets.Verbose = record settings { detail = details.Verbose }
 with_setting settings sets.Status = record settings { statuses = counts.Finer }
 with_setting settings sets.NoProgress = record settings { progress = progresses.Never }
+
+-- the same, where it sets something
+abbrev pub with_found : Settings → Option Setting → Settings
+with_found settings None = settings
+with_found settings (Some setting) = with_setting settings setting
 
 -- the settings of a run without words that set any, where the environment asks for the second line, or for finer
 -- statuses, or not
@@ -46,12 +51,12 @@ first_settings hints finer = record {
 }
 
 -- the words before a word `--`: those that may be settings
-pub before_end : List Text → List Text
+abbrev pub before_end : List Text → List Text
 before_end [] = []
 before_end (word ∷ words) = if bytes_eq word (codes "--") then [] else word ∷ before_end words
 
 -- the words from a word `--` on
-pub from_end : List Text → List Text
+abbrev pub from_end : List Text → List Text
 from_end [] = []
 from_end (word ∷ words) = if bytes_eq word (codes "--") then word ∷ words else from_end words
 

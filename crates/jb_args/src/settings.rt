@@ -136,7 +136,7 @@ impl SecondLine {
 }
 
 impl Settings {
-    ghost use Rattle.jb_args.specs.Settings.{first_settings, with_setting};
+    ghost use Rattle.jb_args.specs.Settings.{first_settings, setting_of as setting_in, with_found, with_setting};
 
     /// The settings of a run without words that set any, where the environment asks for the second line, or for finer
     /// statuses, or not.
@@ -152,9 +152,19 @@ impl Settings {
         }
     }
 
-    /// The settings, with what one word more sets.
-    pub(crate) fn with(self, setting: Setting) -> Settings
-        ensures { result ≡ with_setting self setting }
+    /// The settings, with what one word more sets, where it sets something.
+    fn with_word(self, word: &str) -> Settings
+        ensures { result ≡ with_found self.entry (setting_in word.now) }
+    {
+        match setting_of(word) {
+            Some(setting) => self.with(setting),
+            None => self,
+        }
+    }
+
+    /// The settings, with one more.
+    fn with(self, setting: Setting) -> Settings
+        ensures { result ≡ with_setting self.entry setting }
     {
         match setting {
             Setting::Json => Settings { form: AnswerForm::Json, ..self },

@@ -1,0 +1,57 @@
+-- The scripts by which a shell completes the words of `jb`.
+use Rattle.std.specs.Prelude.{ℕ, List, [], ◌∷◌, ◌++◌, map, Option, Some, None, codes, if◌then◌else◌}
+use Rattle.std.specs.Str.{bytes_eq}
+use Rattle.clap.specs.Words.{Rule, Shape, Text}
+use Rattle.jb_text.specs.TextParts.{spelled}
+use Rattle.jb_args.specs.App.{commands_app}
+use Rattle.jb_args.specs.declared.completions.Shell.{Shell}
+use Rattle.jb_args.specs.declared.completions.Shell.TheVariants.{Bash, Fish, Zsh}
+use Rattle.jb_args.specs.declared.completions.ShellForm.{ShellForm}
+use Rattle.jb_args.specs.declared.completions.TheConstants.{BASH, FISH, ZSH}
+
+-- the shell of this name
+abbrev pub shell_named : Text → Option Shell
+shell_named name =
+    if bytes_eq name (codes "bash") then Some Bash
+    else if bytes_eq name (codes "zsh") then Some Zsh
+    else if bytes_eq name (codes "fish") then Some Fish
+    else None
+
+-- what the script of a shell has around the words of the commands
+unfoldable pub form_of : Shell → ShellForm
+form_of Bash = BASH
+form_of Zsh = ZSH
+form_of Fish = FISH
+
+-- an option after a space: its name after two hyphens, or its letter after one; of a word that is none nothing
+abbrev pub option_by : Option Text → Option ℕ → Text
+option_by (Some name) short = codes " --" ++ name
+option_by None (Some letter) = codes " -" ++ letter ∷ []
+option_by None None = []
+
+-- the same of an argument of the command line
+abbrev pub option_text : Rule → Text
+option_text rule = option_by rule.long rule.short
+
+-- the options of a command
+abbrev pub options_text : List Rule → Text
+options_text rules = spelled (map option_text rules)
+
+-- the names of the commands, each after a space
+abbrev pub names_text : List Shape → Text
+names_text commands = spelled (map (λ (command : Shape). 32 ∷ command.name) commands)
+
+-- the line of a command: its name and its options
+abbrev pub command_text : ShellForm → Shape → Text
+command_text form command =
+    spelled (form.before.now ∷ command.name ∷ form.between.now ∷ options_text command.rules ∷ form.after.now ∷ [])
+
+-- the lines of the commands
+abbrev pub commands_text : ShellForm → List Shape → Text
+commands_text form commands = spelled (map (command_text form) commands)
+
+-- the script of this form: the names of the commands of `jb`, and their lines
+abbrev pub completions_of : ShellForm → Text
+completions_of form =
+    spelled (form.head.now ∷ names_text commands_app.subs ∷ form.middle.now ∷ commands_text form commands_app.subs
+    ∷ form.tail.now ∷ [])
