@@ -3,7 +3,7 @@ use Rattle.std.proofs.Common.{◌≡◌, List, [], ◌∷◌, ◌++◌, map, ref
 use Rattle.clap.specs.Words.{App, Rule, Shape, with_rule}
 use Rattle.jb_text.specs.TextParts.{spelled}
 use Rattle.jb_args.specs.App.{commands_app}
-use Rattle.jb_args.specs.Completions.{command_text, commands_text, names_text}
+use Rattle.jb_args.specs.Completions.{command_completed, commands_completed, names_completed}
 use Rattle.jb_args.specs.Rows.{app_named, app_of_row, rule_of_word, with_kind, with_row_words}
 use Rattle.jb_args.specs.declared.commands.CommandRow.{CommandRow}
 use Rattle.jb_args.specs.declared.commands.RowKind.{RowKind}

@@ -18,10 +18,10 @@ shell_named name =
     else None
 
 -- what the script of a shell has around the words of the commands
-unfoldable pub form_of : Shell → ShellForm
-form_of Bash = BASH
-form_of Zsh = ZSH
-form_of Fish = FISH
+unfoldable pub script_form : Shell → ShellForm
+script_form Bash = BASH
+script_form Zsh = ZSH
+script_form Fish = FISH
 
 -- an option after a space: its name after two hyphens, or its letter after one; of a word that is none nothing
 abbrev pub option_by : Option Text → Option ℕ → Text
@@ -30,28 +30,28 @@ option_by None (Some letter) = codes " -" ++ letter ∷ []
 option_by None None = []
 
 -- the same of an argument of the command line
-abbrev pub option_text : Rule → Text
-option_text rule = option_by rule.long rule.short
+abbrev pub option_completed : Rule → Text
+option_completed rule = option_by rule.long rule.short
 
 -- the options of a command
-abbrev pub options_text : List Rule → Text
-options_text rules = spelled (map option_text rules)
+abbrev pub options_completed : List Rule → Text
+options_completed rules = spelled (map option_completed rules)
 
 -- the names of the commands, each after a space
-abbrev pub names_text : List Shape → Text
-names_text commands = spelled (map (λ (command : Shape). 32 ∷ command.name) commands)
+abbrev pub names_completed : List Shape → Text
+names_completed commands = spelled (map (λ (command : Shape). 32 ∷ command.name) commands)
 
 -- the line of a command: its name and its options
-abbrev pub command_text : ShellForm → Shape → Text
-command_text form command =
-    spelled (form.before.now ∷ command.name ∷ form.between.now ∷ options_text command.rules ∷ form.after.now ∷ [])
+abbrev pub command_completed : ShellForm → Shape → Text
+command_completed form command =
+    spelled (form.before.now ∷ command.name ∷ form.between.now ∷ options_completed command.rules ∷ form.after.now ∷ [])
 
 -- the lines of the commands
-abbrev pub commands_text : ShellForm → List Shape → Text
-commands_text form commands = spelled (map (command_text form) commands)
+abbrev pub commands_completed : ShellForm → List Shape → Text
+commands_completed form commands = spelled (map (command_completed form) commands)
 
 -- the script of this form: the names of the commands of `jb`, and their lines
 abbrev pub completions_of : ShellForm → Text
 completions_of form =
-    spelled (form.head.now ∷ names_text commands_app.subs ∷ form.middle.now ∷ commands_text form commands_app.subs
+    spelled (form.head.now ∷ names_completed commands_app.subs ∷ form.middle.now ∷ commands_completed form commands_app.subs
     ∷ form.tail.now ∷ [])

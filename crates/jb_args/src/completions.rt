@@ -1,8 +1,8 @@
 //! The scripts by which a shell completes the words of `jb`, made from the table of the commands.
 ghost use Rattle.std.specs.Prelude.{◌≡◌, ◌++◌, codes, IfOk, OnOk, map, string_bytes};
 ghost use Rattle.jb_args.specs.App.{commands_app};
-ghost use Rattle.jb_args.specs.Completions.{command_text, commands_text, completions_of, form_of, names_text};
-ghost use Rattle.jb_args.specs.Completions.{option_text, options_text, shell_named};
+ghost use Rattle.jb_args.specs.Completions.{command_completed, commands_completed, completions_of, script_form, names_completed};
+ghost use Rattle.jb_args.specs.Completions.{option_completed, options_completed, shell_named};
 ghost use Rattle.jb_args.specs.Rows.{app_of_row, rule_of_word};
 
 use crate::commands::{COMMANDS, CommandRow, CommandWord, WordKind, row_of};
@@ -138,7 +138,7 @@ impl Shell {
 
     /// The form of its script.
     fn form(self) -> ShellForm
-        ensures { result ≡ form_of self }
+        ensures { result ≡ script_form self }
     {
         match self {
             Shell::Bash => BASH,
@@ -154,7 +154,7 @@ impl Shell {
 /// `AllocError` where memory ran out.
 pub fn completions(alloc: Global, shell: Shell) -> Result<String, AllocError>
     /// The script of a shell: it has each command by its name, and in its line each of its options.
-    ensures { IfOk result (λ text. string_bytes text ≡ completions_of (form_of shell)) }
+    ensures { IfOk result (λ text. string_bytes text ≡ completions_of (script_form shell)) }
 {
     let form = shell.form();
     let mut text = String::from_str(alloc, form.head)?;
@@ -167,7 +167,7 @@ pub fn completions(alloc: Global, shell: Shell) -> Result<String, AllocError>
 
 /// Adds the names of the commands, each after a space.
 fn put_names(text: &mut String) -> Result<(), AllocError>
-    ensures { OnOk result (string_bytes text.new ≡ string_bytes text.old ++ names_text commands_app.subs) }
+    ensures { OnOk result (string_bytes text.new ≡ string_bytes text.old ++ names_completed commands_app.subs) }
 {
     for name in &COMMANDS {
         text.push_str(" ")?;
@@ -179,7 +179,7 @@ fn put_names(text: &mut String) -> Result<(), AllocError>
 /// Adds the lines of the commands.
 fn put_commands(text: &mut String, form: &ShellForm) -> Result<(), AllocError>
     ensures { OnOk result (string_bytes text.new
-        ≡ string_bytes text.old ++ commands_text form.now commands_app.subs) }
+        ≡ string_bytes text.old ++ commands_completed form.now commands_app.subs) }
 {
     for name in &COMMANDS {
         put_command(text, form, row_of(*name))?;
@@ -190,7 +190,7 @@ fn put_commands(text: &mut String, form: &ShellForm) -> Result<(), AllocError>
 /// Adds the line of a command.
 fn put_command(text: &mut String, form: &ShellForm, row: &CommandRow<'_>) -> Result<(), AllocError>
     ensures { OnOk result (string_bytes text.new
-        ≡ string_bytes text.old ++ command_text form.now (app_of_row row.now).top) }
+        ≡ string_bytes text.old ++ command_completed form.now (app_of_row row.now).top) }
 {
     text.push_str(form.before)?;
     text.push_str(row.name)?;
@@ -202,7 +202,7 @@ fn put_command(text: &mut String, form: &ShellForm, row: &CommandRow<'_>) -> Res
 /// Adds the options of a command, each after a space.
 fn put_options(text: &mut String, words: &[CommandWord<'_>]) -> Result<(), AllocError>
     ensures { OnOk result (string_bytes text.new
-        ≡ string_bytes text.old ++ options_text (map rule_of_word words.now)) }
+        ≡ string_bytes text.old ++ options_completed (map rule_of_word words.now)) }
 {
     for word in words {
         put_option(text, word)?;
@@ -212,7 +212,7 @@ fn put_options(text: &mut String, words: &[CommandWord<'_>]) -> Result<(), Alloc
 
 /// Adds a space and an option; of a word that is none nothing.
 fn put_option(text: &mut String, word: &CommandWord<'_>) -> Result<(), AllocError>
-    ensures { OnOk result (string_bytes text.new ≡ string_bytes text.old ++ option_text (rule_of_word word.now)) }
+    ensures { OnOk result (string_bytes text.new ≡ string_bytes text.old ++ option_completed (rule_of_word word.now)) }
 {
     match word.kind {
         WordKind::Word => Ok(()),
