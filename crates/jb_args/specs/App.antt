@@ -127,7 +127,12 @@ abbrev pub jb_top : App
 jb_top =
     let bare = new_app (codes "jb") in
     record bare {
-      top = record bare.top { no_binary_name = true; has_version = true; subcommand_required = true };
+      top = record bare.top {
+        no_binary_name = true;
+        has_version = true;
+        has_long_version = true;
+        subcommand_required = true;
+      };
     }
 
 -- `jb` with its commands

@@ -18,6 +18,14 @@ use std::alloc::{AllocError, Global};
 use word::arg_of;
 pub(crate) use word::{CommandWord, WordKind};
 
+/// The version of the program.
+const VERSION: &str = "0.1.0";
+
+/// The same, with what it is proved by. Nothing tells a program by whom it was built.
+const LONG_VERSION: &str = "0.1.0
+made for rattle-kit-13b logic dac8208d650f15bf, or a later kit of this logic
+proved where rt run, rt test or rt ci has built it; rt try proves nothing";
+
 /// What a row of the table is.
 #[derive(Clone, Copy)]
 pub(crate) enum RowKind {
@@ -139,7 +147,8 @@ fn jb_alone<'a>(alloc: Global) -> Result<Command<'a>, AllocError>
     bare(alloc, "jb", "A block journal in jbd2's format", topics::JB)
         .after_help(topics::TOPICS)
         .no_binary_name(true)
-        .version("0.1.0")
+        .version(VERSION)
+        .long_version(LONG_VERSION)
         .subcommand_required(true)
         .bin_name("jb")
 }

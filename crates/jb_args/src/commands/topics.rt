@@ -31,11 +31,9 @@ Topics:
 /// The settings.
 const SETTINGS_TEXT: &str = concat!(
     "Settings: a setting is a word of its own, anywhere before a word --, for any
-command. Of two that set the same the last one counts.",
-    settings!(settings_lines),
-    "
-JB_HINTS=1 in the environment is as --hints, and JB_STATUS=1 as --status; a
-word of the command line goes before them."
+command. Of two that set the same the last one counts. JB_HINTS=1 in the
+environment is as --hints before them, and JB_STATUS=1 as --status.",
+    settings!(settings_lines)
 );
 
 /// The files that commands are about.
