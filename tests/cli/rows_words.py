@@ -245,12 +245,19 @@ for words in "load a q --threads 0 --hints", "--quiet --hints load a q --threads
     row(words, 2, err="jb: bad option\n", beside="--threads")
 row("load a q --threads 0", 2, err="jb: bad option\n", beside="--threads", how="export JB_HINTS=1")
 row("load -q a q --threads 0", 2, err="jb: bad option\n", beside="--threads", how="export JB_HINTS=1")
+for value in "0", "11", "":
+    row("load a q --threads 0", 2, err="jb: bad option\n", how="export JB_HINTS='%s' JB_STATUS='%s'" % (value, value))
 row("cost -- --hints", 2, err="jb: cannot read --hints\n", beside=MISSING)
 row("cost --status --no-progress q", 1, "cost 7 limit 6 over\n", files={"q": queue(THREE, 6)})
 row("--hints", 0, "cost 7 limit 7 fits\n", stdin=queue(THREE, 7))
 row("recover a --status", 0, "transactions 1 copies 1 revoked 0 next 4\n", files={"a": FULL}, after={"a": RECOVERED})
 for words in "recover --statuses a", "recover -qv a", "recover --no-hints a", "recover --json=1 a":
     row(words, 2, err=begins("error: "), files={"a": FULL})
+
+# names with characters that turn the direction of a text, or end a line
+for name, shown in [("a\u202eb", "a\\xe2\\x80\\xaeb"), ("\u2066a\u2069", "\\xe2\\x81\\xa6a\\xe2\\x81\\xa9"), ("\u061c", "\\xd8\\x9c"), ("\u2028\u200f", "\\xe2\\x80\\xa8\\xe2\\x80\\x8f"),
+                    ("\u2027\u202f\u2065\u206a\u061d", "\u2027\u202f\u2065\u206a\u061d")]:
+    row("cost " + name, 2, err="jb: cannot read %s\n" % shown, beside=MISSING)
 
 # ---- completions -------------------------------------------------------------------------------------------------------------
 
