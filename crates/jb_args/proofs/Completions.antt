@@ -1,17 +1,14 @@
 -- The rows of the table as the commands whose completions are written.
 use Rattle.std.proofs.Common.{◌≡◌, List, [], ◌∷◌, ◌++◌, map, refl, ap, sym, ◌∙◌, append-nil, append_assoc}
-use Rattle.clap.specs.Words.{App, Rule, Shape, with_rule}
-use Rattle.jb_text.specs.TextParts.{spelled}
+use Rattle.clap.specs.Words.{App, with_rule}
 use Rattle.jb_args.specs.App.{commands_app}
-use Rattle.jb_args.specs.Completions.{command_completed, commands_completed, names_completed}
-use Rattle.jb_args.specs.Rows.{app_named, app_of_row, rule_of_word, with_kind, with_row_words}
+use Rattle.jb_args.specs.Completions.{shapes_of}
+use Rattle.jb_args.specs.Rows.{app_of_row, rule_of_word, with_kind, with_row_words}
 use Rattle.jb_args.specs.declared.commands.CommandRow.{CommandRow}
 use Rattle.jb_args.specs.declared.commands.RowKind.{RowKind}
 use Rattle.jb_args.specs.declared.commands.RowKind.TheVariants as row
-use Rattle.jb_args.specs.declared.commands.command_name.CommandName.{CommandName}
 use Rattle.jb_args.specs.declared.commands.command_name.CommandName.TheVariants.{Cat, Check, Completions, Cost, Dump, Format, Load, Plan, Recover, Renumber, Widen}
 use Rattle.jb_args.specs.declared.commands.word.CommandWord.{CommandWord}
-use Rattle.jb_args.specs.declared.completions.ShellForm.{ShellForm}
 
 -- the words of a row leave the name of its command
 words-name : (a : App) (words : List CommandWord) → (with_row_words a words).top.name ≡ a.top.name
@@ -41,11 +38,7 @@ row-name r = words-name _ r.words.now ∙ kind-name r.kind _
 pub row-rules : (r : CommandRow) → (app_of_row r).top.rules ≡ map rule_of_word r.words.now
 row-rules r = words-rules _ r.words.now ∙ ap (λ rules. rules ++ map rule_of_word r.words.now) (kind-rules r.kind _)
 
--- the commands by their names
-abbrev pub named : List CommandName → List Shape
-named names = map (λ name. (app_named name).top) names
-
 -- the commands of the table are those of the command line
-pub commands-named : commands_app.subs
-    ≡ named (Cost ∷ Plan ∷ Check ∷ Dump ∷ Cat ∷ Format ∷ Load ∷ Recover ∷ Renumber ∷ Widen ∷ Completions ∷ [])
+pub commands-named : shapes_of (Cost ∷ Plan ∷ Check ∷ Dump ∷ Cat ∷ Format ∷ Load ∷ Recover ∷ Renumber ∷ Widen ∷ Completions ∷ [])
+    ≡ commands_app.subs
 commands-named = refl

@@ -4,6 +4,8 @@ use Rattle.std.specs.Str.{bytes_eq}
 use Rattle.clap.specs.Words.{Rule, Shape, Text}
 use Rattle.jb_text.specs.TextParts.{spelled}
 use Rattle.jb_args.specs.App.{commands_app}
+use Rattle.jb_args.specs.Rows.{app_named}
+use Rattle.jb_args.specs.declared.commands.command_name.CommandName.{CommandName}
 use Rattle.jb_args.specs.declared.completions.Shell.{Shell}
 use Rattle.jb_args.specs.declared.completions.Shell.TheVariants.{Bash, Fish, Zsh}
 use Rattle.jb_args.specs.declared.completions.ShellForm.{ShellForm}
@@ -36,6 +38,10 @@ option_completed rule = option_by rule.long rule.short
 -- the options of a command
 abbrev pub options_completed : List Rule → Text
 options_completed rules = spelled (map option_completed rules)
+
+-- the commands of these names
+abbrev pub shapes_of : List CommandName → List Shape
+shapes_of names = map (λ name. (app_named name).top) names
 
 -- the names of the commands, each after a space
 abbrev pub names_completed : List Shape → Text

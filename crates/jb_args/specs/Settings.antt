@@ -6,6 +6,7 @@ use Rattle.clap.specs.Words.{Text}
 use Rattle.jb_args.specs.declared.settings.Setting.{Setting}
 use Rattle.jb_args.specs.declared.settings.Setting.TheVariants as sets
 use Rattle.jb_args.specs.declared.settings.Settings.{Settings}
+use Rattle.jb_args.specs.declared.settings.AnswerForm.{AnswerForm}
 use Rattle.jb_args.specs.declared.settings.AnswerForm.TheVariants as forms
 use Rattle.jb_args.specs.declared.settings.SecondLine.{SecondLine}
 use Rattle.jb_args.specs.declared.settings.SecondLine.TheVariants as seconds
@@ -68,8 +69,14 @@ settings_in given words = fold with_setting given (filter_map setting_of (before
 abbrev pub words_left : List Text → List Text
 words_left words = filter (λ word. is_none (setting_of word)) (before_end words) ++ from_end words
 
--- whether a line on standard error has a second one after it, where that is a terminal or not
-abbrev pub is_advised : SecondLine → Bool → Bool
-is_advised seconds.OnTerminal on_terminal = on_terminal
-is_advised seconds.Always on_terminal = true
-is_advised seconds.Never on_terminal = false
+-- whether a line on standard error has a second one after it, in this form, where that is a terminal or not: what is
+-- said in JSON has it within
+abbrev pub advised_in : AnswerForm → SecondLine → Bool → Bool
+advised_in forms.Json second on_terminal = false
+advised_in forms.Text seconds.OnTerminal on_terminal = on_terminal
+advised_in forms.Text seconds.Always on_terminal = true
+advised_in forms.Text seconds.Never on_terminal = false
+
+-- the same by the settings
+abbrev pub is_advised : Settings → Bool → Bool
+is_advised settings on_terminal = advised_in settings.form settings.second on_terminal

@@ -1,11 +1,10 @@
 //! The scripts by which a shell completes the words of `jb`, made from the table of the commands.
 ghost use Rattle.std.specs.Prelude.{◌≡◌, ◌++◌, codes, IfOk, OnOk, map, string_bytes};
-ghost use Rattle.jb_args.specs.App.{commands_app};
 ghost use Rattle.jb_args.specs.Completions.{command_completed, commands_completed, completions_of, script_form, names_completed};
-ghost use Rattle.jb_args.specs.Completions.{option_completed, options_completed, shell_named};
+ghost use Rattle.jb_args.specs.Completions.{option_completed, options_completed, shapes_of, shell_named};
 ghost use Rattle.jb_args.specs.Rows.{app_of_row, rule_of_word};
 
-use crate::commands::{COMMANDS, CommandRow, CommandWord, WordKind, row_of};
+use crate::commands::{COMMANDS, CommandName, CommandRow, CommandWord, WordKind, row_of};
 use crate::settings;
 use std::alloc::{AllocError, Global};
 
@@ -137,6 +136,7 @@ impl Shell {
     }
 
     /// The form of its script.
+    #[tactic(auto, unfolding(crate::specs::Completions::script_form))]
     fn form(self) -> ShellForm
         ensures { result ≡ script_form self }
     {
@@ -158,18 +158,19 @@ pub fn completions(alloc: Global, shell: Shell) -> Result<String, AllocError>
 {
     let form = shell.form();
     let mut text = String::from_str(alloc, form.head)?;
-    put_names(&mut text)?;
+    put_names(&mut text, &COMMANDS)?;
     text.push_str(form.middle)?;
-    put_commands(&mut text, &form)?;
+    put_commands(&mut text, &form, &COMMANDS)?;
     text.push_str(form.tail)?;
     Ok(text)
 }
 
 /// Adds the names of the commands, each after a space.
-fn put_names(text: &mut String) -> Result<(), AllocError>
-    ensures { OnOk result (string_bytes text.new ≡ string_bytes text.old ++ names_completed commands_app.subs) }
+fn put_names(text: &mut String, names: &[CommandName]) -> Result<(), AllocError>
+    ensures { OnOk result (string_bytes text.new
+        ≡ string_bytes text.old ++ names_completed (shapes_of names.now)) }
 {
-    for name in &COMMANDS {
+    for name in names {
         text.push_str(" ")?;
         text.push_str(row_of(*name).name)?;
     }
@@ -177,11 +178,15 @@ fn put_names(text: &mut String) -> Result<(), AllocError>
 }
 
 /// Adds the lines of the commands.
-fn put_commands(text: &mut String, form: &ShellForm) -> Result<(), AllocError>
+fn put_commands(
+    text: &mut String,
+    form: &ShellForm,
+    names: &[CommandName],
+) -> Result<(), AllocError>
     ensures { OnOk result (string_bytes text.new
-        ≡ string_bytes text.old ++ commands_completed form.now commands_app.subs) }
+        ≡ string_bytes text.old ++ commands_completed form.now (shapes_of names.now)) }
 {
-    for name in &COMMANDS {
+    for name in names {
         put_command(text, form, row_of(*name))?;
     }
     Ok(())

@@ -120,23 +120,9 @@ pub(crate) fn setting_of(word: &str) -> Option<Setting>
     settings!(setting_in_rows, word)
 }
 
-impl SecondLine {
-    ghost use Rattle.jb_args.specs.Settings.{is_advised};
-
-    /// Whether a line has a second one after it, where standard error is a terminal or not.
-    pub fn is_shown(self, on_terminal: bool) -> bool
-        ensures { result ≡ is_advised self on_terminal }
-    {
-        match self {
-            SecondLine::OnTerminal => on_terminal,
-            SecondLine::Always => true,
-            SecondLine::Never => false,
-        }
-    }
-}
-
 impl Settings {
-    ghost use Rattle.jb_args.specs.Settings.{first_settings, setting_of as setting_in, with_found, with_setting};
+    ghost use Rattle.jb_args.specs.Settings.{first_settings, is_advised as advises, setting_of as setting_in};
+    ghost use Rattle.jb_args.specs.Settings.{with_found, with_setting};
 
     /// The settings of a run without words that set any, where the environment asks for the second line, or for finer
     /// statuses, or not.
@@ -149,6 +135,19 @@ impl Settings {
             progress: ProgressLine::OnTerminal,
             detail: Detail::Answer,
             statuses: if finer { Statuses::Finer } else { Statuses::Few },
+        }
+    }
+
+    /// Whether a line on standard error has a second one after it, where that is a terminal or not; what is said in JSON
+    /// has it within.
+    pub fn is_advised(self, on_terminal: bool) -> bool
+        ensures { result ≡ advises self.entry on_terminal }
+    {
+        match (self.form, self.second) {
+            (AnswerForm::Json, _) => false,
+            (AnswerForm::Text, SecondLine::OnTerminal) => on_terminal,
+            (AnswerForm::Text, SecondLine::Always) => true,
+            (AnswerForm::Text, SecondLine::Never) => false,
         }
     }
 

@@ -70,4 +70,4 @@ Advises false hint err_old err_new = err_new ≡ err_old
 abbrev pub EndsProgram : Settings → Bool → (Outputs → Outputs → ProgramEnd → Type 0) → Outputs → Outputs → ℕ → Type 0
 EndsProgram settings on_terminal Answers old new status =
     (ended : ProgramEnd) × (mid : Outputs) × Answers old mid ended × (status ≡ exit_status settings.statuses ended)
-    × (new.out ≡ mid.out) × Advises (is_advised settings.second on_terminal) ended.hint mid.err new.err
+    × (new.out ≡ mid.out) × Advises (is_advised settings on_terminal) ended.hint mid.err new.err

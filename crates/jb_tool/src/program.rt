@@ -76,10 +76,10 @@ fn settings_of<S: AsStr>(given: Settings, words: Result<&[S], ErrorKind>) -> Set
 /// ignored.
 fn finish<E: Write>(ended: ProgramEnd, settings: Settings, on_terminal: bool, err: &mut E) -> u8
     ensures status { result ≡ exit_status settings.statuses ended }
-    ensures advises { Advises (is_advised settings.second on_terminal) ended.hint (E.contents err.old)
+    ensures advises { Advises (is_advised settings on_terminal) ended.hint (E.contents err.old)
         (E.contents err.new) }
 {
-    if settings.second.is_shown(on_terminal) {
+    if settings.is_advised(on_terminal) {
         advise(ended, err);
     }
     ended.exit_status(settings.statuses)
