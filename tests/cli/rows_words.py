@@ -239,7 +239,7 @@ row("-V", 0, "jb 0.1.0\n", terminal="err")
 row("cost q", 0, "cost 3 limit 8 fits\n", files={"q": queue("w16")}, terminal="err")
 row("recover a", 0, "transactions 1 copies 1 revoked 0 next 4\n", files={"a": FULL}, after={"a": RECOVERED}, terminal="err")
 # settings stand where they like before a word `--`, and the last one of two counts
-for words in "load a q --threads 0 -q", "-q load a q --threads 0", "load --hints a q -v --threads 0 --quiet", "load a q --threads 0 --quiet":
+for words in "load a q --threads 0 -q", "-q load a q --threads 0", "load --hints a q --status --threads 0 --quiet", "load a q --threads 0 --quiet":
     row(words, 2, err="jb: bad option\n", beside="--threads", terminal="in err")
 for words in "load a q --threads 0 --hints", "--quiet --hints load a q --threads 0":
     row(words, 2, err="jb: bad option\n", beside="--threads")
@@ -251,7 +251,7 @@ row("cost -- --hints", 2, err="jb: cannot read --hints\n", beside=MISSING)
 row("cost --status --no-progress q", 1, "cost 7 limit 6 over\n", files={"q": queue(THREE, 6)})
 row("--hints", 0, "cost 7 limit 7 fits\n", stdin=queue(THREE, 7))
 row("recover a --status", 0, "transactions 1 copies 1 revoked 0 next 4\n", files={"a": FULL}, after={"a": RECOVERED})
-for words in "recover --statuses a", "recover -qv a", "recover --no-hints a", "recover --json=1 a":
+for words in "recover --statuses a", "recover -qq a", "recover --no-hints a", "recover --json=1 a":
     row(words, 2, err=begins("error: "), files={"a": FULL})
 
 # names with characters that turn the direction of a text, or end a line

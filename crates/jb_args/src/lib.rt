@@ -23,6 +23,6 @@ pub use option_name::OptionName;
 pub use plain::{CatOptions, DumpOptions, FormatOptions, Plain, RecoverOptions};
 pub use second::put_hint;
 pub use settings::{
-    AnswerForm, Detail, ProgressLine, SecondLine, Settings, Statuses, settings_in, words_left,
+    AnswerForm, ProgressLine, SecondLine, Settings, Statuses, settings_in, words_left,
 };
 pub use words::{parse, show_help};

@@ -36,15 +36,6 @@ pub enum ProgressLine {
     Never,
 }
 
-/// What a run says beside its answer.
-#[derive(Clone, Copy)]
-pub enum Detail {
-    /// Nothing.
-    Answer,
-    /// What it is over, and how that was found: lines on standard error.
-    Verbose,
-}
-
 /// Which statuses a run ends with.
 #[derive(Clone, Copy)]
 pub enum Statuses {
@@ -63,8 +54,6 @@ pub struct Settings {
     pub second: SecondLine,
     /// Whether it shows how far it has come.
     pub progress: ProgressLine,
-    /// What it says beside its answer.
-    pub detail: Detail,
     /// Which statuses it ends with.
     pub statuses: Statuses,
 }
@@ -78,8 +67,6 @@ pub(crate) enum Setting {
     Hints,
     /// Nothing but the answer, or the line of a fault.
     Quiet,
-    /// More than the answer.
-    Verbose,
     /// Finer statuses.
     Status,
     /// No progress is shown.
@@ -96,7 +83,6 @@ macro_rules! settings {
             Json, "--json" => "Answers, and says what went wrong, in JSON";
             Hints, "--hints" => "Says on a second line what to do; without it on a terminal alone";
             Quiet, "-q", "--quiet" => "Says neither what to do nor how far it has come";
-            Verbose, "-v", "--verbose" => "Says which journal it has found, and how, on standard error";
             Status, "--status" => "Ends with a finer status: 3, 4 or 5 in place of some 1";
             NoProgress, "--no-progress" => "Does not show how far it has come";
         }
@@ -133,7 +119,6 @@ impl Settings {
             form: AnswerForm::Text,
             second: if hints { SecondLine::Always } else { SecondLine::OnTerminal },
             progress: ProgressLine::OnTerminal,
-            detail: Detail::Answer,
             statuses: if finer { Statuses::Finer } else { Statuses::Few },
         }
     }
@@ -171,10 +156,8 @@ impl Settings {
             Setting::Quiet => Settings {
                 second: SecondLine::Never,
                 progress: ProgressLine::Never,
-                detail: Detail::Answer,
                 ..self
             },
-            Setting::Verbose => Settings { detail: Detail::Verbose, ..self },
             Setting::Status => Settings { statuses: Statuses::Finer, ..self },
             Setting::NoProgress => Settings { progress: ProgressLine::Never, ..self },
         }

@@ -22,7 +22,7 @@ const LOAD: &str = "load a b --threads 0";
 
 const HINTED: &str = "load --hints a b --threads 0";
 
-const QUIET: &str = "load a b -v --threads 0 -q";
+const QUIET: &str = "load a b --quiet --threads 0 -q";
 
 const LAST: &str = "-q load a b --threads 0 --hints";
 
@@ -39,7 +39,7 @@ static ROWS: [Row; 17] = [
     (Ok(HINTED), [false, false], (2, "", TOO_FEW)),
     (Ok(QUIET), [true, true], (2, "", "jb: bad option\n")),
     (Ok(LAST), [true, false], (2, "", TOO_FEW)),
-    (Ok("--no-progress cost -v -- -"), [true, true], FITS),
+    (Ok("--no-progress cost -q -- -"), [true, true], FITS),
     (Ok("--no-progress"), [false, false], FITS),
     (
         Ok(NO_FILE),
