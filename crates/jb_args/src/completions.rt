@@ -5,7 +5,7 @@ ghost use Rattle.jb_args.specs.Completions.{option_completed, options_completed,
 ghost use Rattle.jb_args.specs.Rows.{app_of_row, rule_of_word};
 
 use crate::commands::{COMMANDS, CommandName, CommandRow, CommandWord, WordKind, row_of};
-use crate::settings;
+use crate::setting_rows;
 use std::alloc::{AllocError, Global};
 
 /// A shell that `jb` has completions for.
@@ -48,7 +48,7 @@ pub(crate) const BASH: ShellForm = ShellForm {
         "# Completions of jb for bash.
 _jb() {
     local word=${COMP_WORDS[COMP_CWORD]} options=\"--help",
-        settings!(setting_words),
+        setting_rows!(setting_words),
         "\"
     local commands=\"help"
     ),
@@ -81,7 +81,7 @@ pub(crate) const ZSH: ShellForm = ShellForm {
 _jb() {
     local -a commands options
     options=(--help",
-        settings!(setting_words),
+        setting_rows!(setting_words),
         ")
     commands=(help"
     ),
@@ -111,7 +111,7 @@ pub(crate) const FISH: ShellForm = ShellForm {
     head: concat!(
         "# Completions of jb for fish.
 complete -c jb -a '--help",
-        settings!(setting_words),
+        setting_rows!(setting_words),
         "'
 complete -c jb -n __fish_use_subcommand -f -a 'help"
     ),
