@@ -24,7 +24,8 @@ use std::time::Clock;
 
 /// Runs `jb` with these words, the program's name left out, and gives its end. With no words it acts as
 /// `jb cost -`. Words that are no command are answered by clap's text: status 2 and `err`, or status 0 and `out` for
-/// help and the version. The words have no settings among them any more. `input` is read by a command whose text it is, and else left as it is.
+/// help and the version. The words have no settings among them any more. `input` is read by a command whose text it
+/// is, and else left as it is.
 pub fn run<
     R: Files<File = File> + AllocGlobal + Threads + Wait + Clock + Sync,
     S: AsStr,

@@ -27,6 +27,7 @@ mod parsing;
 mod programs;
 #[cfg(test)]
 mod runs;
+mod settings;
 #[cfg(test)]
 mod small;
 #[cfg(test)]
