@@ -27,6 +27,7 @@ mod parsing;
 mod programs;
 #[cfg(test)]
 mod runs;
+#[cfg(test)]
 mod settings;
 #[cfg(test)]
 mod small;
