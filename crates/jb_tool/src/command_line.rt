@@ -32,14 +32,7 @@ pub fn run<
     I: Read,
     O: Write,
     E: Write,
->(
-    rt: &R,
-    words: &[S],
-    settings: Settings,
-    input: &mut I,
-    out: &mut O,
-    err: &mut E,
-) -> ProgramEnd
+>(rt: &R, words: &[S], settings: Settings, input: &mut I, out: &mut O, err: &mut E) -> ProgramEnd
     /// Without words, the same of `cost -`.
     ensures bare { words.now ≡ [] → Runs (AsksCost (codes "-")) (I.remaining input.old)
         (record { out = O.contents out.old; err = E.contents err.old })
