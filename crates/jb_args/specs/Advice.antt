@@ -1,6 +1,6 @@
 -- What is advised on a line of standard error: what the table says in the row of its hint.
 use denote.Enum.Declared.{tag_of}
-use Rattle.std.specs.Prelude.{ℕ, ℤ, List, [], ◌∷◌, codes, decimal, map, slice_index_or, Option, None, Some}
+use Rattle.std.specs.Prelude.{ℕ, ℤ, List, [], ◌∷◌, ◌++◌, codes, decimal, map, slice_index_or, Option, None, Some}
 use Rattle.jb_text.specs.TextParts.{spelled}
 use Rattle.jb_args.specs.contracts.hint.Hint as hints
 use Rattle.jb_args.specs.contracts.option_name.OptionName as options
@@ -43,15 +43,22 @@ beside_of (hint.NoHome homes) = of_homes homes
 beside_of (hint.HandleOutOfRange homes) = Homes homes
 beside_of _ = Nothing
 
--- the second line of these words, with what it says beside them: a bad option and what that may be, the system's text,
--- a number
+-- what is said of a hint of these words, with what it says beside them: a bad option and what that may be, the system's
+-- text, a number
+abbrev pub said_with : List ℕ → List ℕ → HintArg → List (List ℕ)
+said_with system words Nothing = words ∷ []
+said_with system words (BadOption option) =
+    words ∷ codes ": " ∷ option_text option ∷ codes " is " ∷ option_range option ∷ []
+said_with system words (System code) = words ∷ codes ": " ∷ system ∷ []
+said_with system words (Homes homes) = words ∷ codes ": " ∷ decimal homes ∷ []
+
+-- the second line of these words: that, after the mark of such a line
 abbrev pub line_with : List ℕ → List ℕ → HintArg → List ℕ
-line_with system words Nothing = spelled (codes "jb:  " ∷ words ∷ codes "\n" ∷ [])
-line_with system words (BadOption option) =
-    spelled (codes "jb:  " ∷ words ∷ codes ": " ∷ option_text option ∷ codes " is " ∷ option_range option ∷ codes "\n"
-    ∷ [])
-line_with system words (System code) = spelled (codes "jb:  " ∷ words ∷ codes ": " ∷ system ∷ codes "\n" ∷ [])
-line_with system words (Homes homes) = spelled (codes "jb:  " ∷ words ∷ codes ": " ∷ decimal homes ∷ codes "\n" ∷ [])
+line_with system words beside = spelled (codes "jb:  " ∷ (said_with system words beside ++ codes "\n" ∷ []))
+
+-- what is said of a hint, with this text of the system's
+abbrev pub hint_text : List ℕ → Hint → List ℕ
+hint_text system hint = spelled (said_with system (advice_of hint) (beside_of hint))
 
 -- the second line of a hint, with this text of the system's
 abbrev pub hint_line : List ℕ → Hint → List ℕ

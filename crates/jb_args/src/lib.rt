@@ -18,7 +18,7 @@ pub use command::{CommandLine, LoadWords};
 pub use hint::Hint;
 pub use option_name::OptionName;
 pub use plain::{CatOptions, DumpOptions, FormatOptions, Plain, RecoverOptions};
-pub use second::put_hint;
+pub use second::{SYSTEM_TEXT, hint_parts, put_hint};
 pub use settings::{
     AnswerForm, Detail, ProgressLine, SecondLine, Settings, Statuses, settings_in, words_left,
 };

@@ -1,3 +1,4 @@
+pub mod AnswerForms
 pub mod AnswerSaid
 pub mod Cat
 pub mod Change
@@ -9,6 +10,7 @@ pub mod Dump
 pub mod DumpPlace
 pub mod Ends
 pub mod FaultLines
+pub mod FaultReports
 pub mod Faults
 pub mod Files
 pub mod Foresee
@@ -30,4 +32,5 @@ pub mod Recover
 pub mod Reports
 pub mod Runs
 pub mod Searched
+pub mod TextFaults
 pub mod Texts

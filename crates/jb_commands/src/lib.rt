@@ -29,7 +29,7 @@ pub use files::{
     OpenedImage, Opening, cat_file, format_file, open_counted, open_placed, read_file,
     recover_file, renumber_file, widen_file,
 };
-pub use jb_args::Plain;
+pub use jb_args::{AnswerForm, Plain};
 pub use names::TwoFiles;
 pub use plan::plan_answer;
 pub use program_end::ProgramEnd;

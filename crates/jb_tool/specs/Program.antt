@@ -5,6 +5,8 @@ use Rattle.std.specs.declared.io.ErrorKind.{ErrorKind}
 use Rattle.std.specs.declared.io.ErrorKind.TheVariants.{InvalidData}
 use Rattle.jb_args.specs.Advice.{hint_line}
 use Rattle.jb_args.specs.declared.hint.Hint.{Hint}
+use Rattle.jb_args.specs.declared.settings.AnswerForm.{AnswerForm}
+use Rattle.jb_args.specs.declared.settings.AnswerForm.TheVariants.{Text}
 use Rattle.jb_args.specs.Settings.{settings_in, words_left}
 use Rattle.jb_args.specs.declared.settings.Settings.{Settings}
 use Rattle.jb_text.specs.Puts.{PutsPart}
@@ -20,13 +22,13 @@ use Rattle.jb_commands.specs.declared.fault.CommandFault.TheVariants.{Memory}
 use Rattle.jb_tool.specs.RefusedWords.{RefusesWords}
 use Rattle.jb_tool.specs.RunWanted.{RunsWanted}
 
--- what `run` says of a run with these words
-pub record RunsWords (words : List (List ℕ)) (input : Option (List ℕ)) (old new : Outputs) (ended : ProgramEnd) : Type 0
-where
-  pub bare : words ≡ [] → Runs (AsksCost (codes "-")) input old new ended
+-- what `run` says of a run with these words, in this form; a fault of the words themselves is text in either
+pub record RunsWords (form : AnswerForm) (words : List (List ℕ)) (input : Option (List ℕ)) (old new : Outputs)
+    (ended : ProgramEnd) : Type 0 where
+  pub bare : words ≡ [] → Runs form (AsksCost (codes "-")) input old new ended
   pub asked : words ≢ [] → fault_kinds words ≡ []
-      → IfSome (wanted_in words) (λ wanted. RunsWanted wanted input old new ended
-      ⊎ Closes None (Err Memory) old new ended)
+      → IfSome (wanted_in words) (λ wanted. RunsWanted form wanted input old new ended
+      ⊎ Closes Text None (Err Memory) old new ended)
   pub refused : words ≢ [] → (fault_kinds words ≢ []) ⊎ (wanted_in words ≡ None)
       → RefusesWords (fault_kinds words) (wanted_in words) old new ended
 
@@ -37,16 +39,16 @@ Helps err_old err_new ended =
 
 -- what the program answers to words that are no settings: at a terminal its help where there are none, and else a run
 -- with them
-pub record AnswersWords (words : List (List ℕ)) (at_terminal : Bool) (input : Option (List ℕ)) (old new : Outputs)
+pub record AnswersWords (form : AnswerForm) (words : List (List ℕ)) (at_terminal : Bool) (input : Option (List ℕ)) (old new : Outputs)
     (ended : ProgramEnd) : Type 0 where
   pub help : words ≡ [] → at_terminal ≡ true → Helps old.err new.err ended × (new.out ≡ old.out)
-  pub run : (words ≢ []) ⊎ (at_terminal ≡ false) → RunsWords words input old new ended
+  pub run : (words ≢ []) ⊎ (at_terminal ≡ false) → RunsWords form words input old new ended
 
 -- what it answers to all its words: what it answers to those that are left without the settings, or there was no memory
 -- for these
-abbrev pub AnswersGiven : List (List ℕ) → Bool → Option (List ℕ) → Outputs → Outputs → ProgramEnd → Type 0
-AnswersGiven words at_terminal input old new ended =
-    AnswersWords (words_left words) at_terminal input old new ended ⊎ Closes None (Err Memory) old new ended
+abbrev pub AnswersGiven : AnswerForm → List (List ℕ) → Bool → Option (List ℕ) → Outputs → Outputs → ProgramEnd → Type 0
+AnswersGiven form words at_terminal input old new ended =
+    AnswersWords form (words_left words) at_terminal input old new ended ⊎ Closes Text None (Err Memory) old new ended
 
 -- the settings that were given, as the words change them, where the system has handed them over
 abbrev pub settings_given : {W K : Type 0} → (W → List (List ℕ)) → Settings → Result W K → Settings

@@ -2,6 +2,7 @@ ghost use Rattle.std.specs.Prelude.{◌≡◌, ◌≢◌, ◌⊎◌, Err, None, 
 ghost use Rattle.jb_args.specs.Faults.{fault_kinds, kind_of};
 ghost use Rattle.jb_args.specs.PlainCommand.Asked.{AsksCost};
 ghost use Rattle.jb_args.specs.Command.{wanted_in};
+ghost use Rattle.jb_args.specs.declared.settings.AnswerForm.TheVariants.{Text};
 ghost use Rattle.jb_text.specs.Puts.{PutsPart};
 ghost use Rattle.jb_commands.specs.Ends.{of_fault, with_status};
 ghost use Rattle.jb_commands.specs.Runs.{Closes, Runs};
@@ -39,16 +40,16 @@ pub fn run<
     err: &mut E,
 ) -> ProgramEnd
     /// Without words, the same of `cost -`.
-    ensures bare { words.now ≡ [] → Runs (AsksCost (codes "-")) (I.remaining input.old)
+    ensures bare { words.now ≡ [] → Runs settings.form (AsksCost (codes "-")) (I.remaining input.old)
         (record { out = O.contents out.old; err = E.contents err.old })
         (record { out = O.contents out.new; err = E.contents err.new }) result }
     /// Where it finds no fault: the same of the command that it finds; of `load` what it opens, in which order, and
     /// what it reports. [But see](docs/WRONG_BODIES.md#loads).
     ensures asked { words.now ≢ [] → fault_kinds (map S.text words.now) ≡ []
-        → IfSome (wanted_in (map S.text words.now)) (λ wanted. RunsWanted wanted (I.remaining input.old)
+        → IfSome (wanted_in (map S.text words.now)) (λ wanted. RunsWanted settings.form wanted (I.remaining input.old)
         (record { out = O.contents out.old; err = E.contents err.old })
         (record { out = O.contents out.new; err = E.contents err.new }) result
-        ⊎ Closes None (Err CommandMemory) (record { out = O.contents out.old; err = E.contents err.old })
+        ⊎ Closes Text None (Err CommandMemory) (record { out = O.contents out.old; err = E.contents err.old })
         (record { out = O.contents out.new; err = E.contents err.new }) result) }
     /// Where clap refuses the words: the status, and which output stays as it was. [But
     /// see](docs/WRONG_BODIES.md#readers-writers-and-files).
@@ -72,7 +73,7 @@ pub fn run<
 
 /// Writes what clap says of the words, and gives the end of the program.
 fn tell_refusal<O: Write, E: Write>(error: &Error, out: &mut O, err: &mut E) -> ProgramEnd
-    ensures memory { kind_of error.now ≡ ErrorKind.OutOfMemory → Closes None (Err CommandMemory)
+    ensures memory { kind_of error.now ≡ ErrorKind.OutOfMemory → Closes Text None (Err CommandMemory)
         (record { out = O.contents out.old; err = E.contents err.old })
         (record { out = O.contents out.new; err = E.contents err.new }) result }
     ensures shown { (kind_of error.now ≡ ErrorKind.DisplayHelp) ⊎ (kind_of error.now ≡ ErrorKind.DisplayVersion)

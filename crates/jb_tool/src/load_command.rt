@@ -9,7 +9,7 @@ ghost use Rattle.jb_tool.specs.Load.{JudgesLoad, LoadsOpened, RunsLoad, load_fau
 use crate::load_report::{LoadDone, LoadReport};
 use crate::own_homes::own_touched;
 use crate::{LoadFault, LoadOptions, load_on};
-use jb_args::{LoadWords, OptionName, Settings};
+use jb_args::{AnswerForm, LoadWords, OptionName, Settings};
 use jb_block::Stamp;
 use jb_commands::{
     CommandFault, Opening, ProgramEnd, TwoFiles, close, fault_answer, judge_on, open_placed,
@@ -31,7 +31,8 @@ use std::time::Clock;
 /// The most threads that may run the handles.
 const MOST_THREADS: u64 = 64;
 
-/// Runs `jb load` and gives the program's end; a load that ends without an answer has its line on `err`.
+/// Runs `jb load` and gives the program's end; a load that ends without an answer has its line on `err`,
+/// or in JSON the same.
 pub(crate) fn run_load<
     R: Files<File = File> + AllocGlobal + Threads + Wait + Clock + Sync,
     I: Read,
@@ -40,19 +41,24 @@ pub(crate) fn run_load<
 >(
     rt: &R,
     load: LoadWords<'_>,
-    _settings: Settings,
+    settings: Settings,
     input: &mut I,
     out: &mut O,
     err: &mut E,
 ) -> ProgramEnd
-    ensures runs { RunsLoad (load_said load.entry) (I.remaining input.old)
+    ensures runs { RunsLoad settings.form (load_said load.entry) (I.remaining input.old)
         (record { out = O.contents out.old; err = E.contents err.old })
         (record { out = O.contents out.new; err = E.contents err.new }) result }
     ensures unread { reads_list (load_said load.entry).extents ≡ false → input.new ≡ input.old }
 {
-    let done = load_files::<Unknown, Unknown, R, I>(rt, load, input);
+    let done = load_files::<Unknown, Unknown, R, I>(rt, load, settings.form, input);
     let told = done.tell(out, err);
-    close(told, TwoFiles::of(load.image, load.journal), err)
+    close(
+        settings.form,
+        told,
+        TwoFiles::of(load.image, load.journal),
+        err,
+    )
 }
 
 /// Loads the queue text of one file into the image that another one is. Where the journal is not at its front, the
@@ -68,13 +74,18 @@ pub fn load_files<
     T: Start + Send,
     R: Files<File = File> + AllocGlobal + Threads + Wait + Clock + Sync,
     I: Read,
->(rt: &R, load: LoadWords<'a>, input: &mut I) -> LoadDone<'a, S, T>
+>(
+    rt: &R,
+    load: LoadWords<'a>,
+    form: AnswerForm,
+    input: &mut I,
+) -> LoadDone<'a, S, T>
     /// `load` over files, wherever the image has its journal: it was not opened; or nothing may be loaded to that file
     /// system's journal, the text is not there or is refused, or a handle touches a block of a journal within the
     /// image, and the image is as it was judged; or the queue was loaded and, if the files are honest, the groups that
     /// are counted are in its journal with the handles that stopped; or `load_on` has no answer, and nothing is said of
     /// what the image holds once its journal was opened. [But see](docs/WRONG_BODIES.md#loads).
-    ensures ends { EndsOfLoad (load_said load.entry) (I.remaining input.old) result.image result.end }
+    ensures ends { EndsOfLoad form (load_said load.entry) (I.remaining input.old) result.image result.end }
     ensures unread { reads_list (load_said load.entry).extents ≡ false → input.new ≡ input.old }
 {
     let Some(options) = load_options(load) else {
@@ -92,7 +103,7 @@ pub fn load_files<
         Checksums::Refused,
         input,
     ) {
-        Ok(opened) => load_opened(rt, load, opened.disk, opened.homes, options),
+        Ok(opened) => load_opened(rt, load, form, opened.disk, opened.homes, options),
         Err(fault) => LoadDone {
             image: None,
             end: Err(fault),
@@ -112,16 +123,17 @@ fn load_opened<
 >(
     rt: &R,
     load: LoadWords<'a>,
+    form: AnswerForm,
     mut disk: ImageDisk<FileDisk<S>, FileDisk<T>>,
     homes: u64,
     options: LoadOptions,
 ) -> LoadDone<'a, S, T>
     requires threads { (1 ≤ options.threads) × (options.threads ≤ 64) }
-    ensures loads { LoadsOpened (load_said load.entry) options homes disk result.image result.end }
+    ensures loads { LoadsOpened form (load_said load.entry) options homes disk result.image result.end }
 {
     let within = disk.is_within();
     match judge_load(&mut disk, load.journal, within) {
-        Ok(()) => load_text(rt, load, disk, homes, options),
+        Ok(()) => load_text(rt, load, form, disk, homes, options),
         Err(fault) => LoadDone {
             image: Some(disk),
             end: Err(fault),
@@ -161,12 +173,13 @@ fn load_text<
 >(
     rt: &R,
     load: LoadWords<'a>,
+    form: AnswerForm,
     disk: ImageDisk<FileDisk<S>, FileDisk<T>>,
     homes: u64,
     options: LoadOptions,
 ) -> LoadDone<'a, S, T>
     requires threads { (1 ≤ options.threads) × (options.threads ≤ 64) }
-    ensures loads { LoadsText (load_said load.entry).file options homes disk result.image result.end }
+    ensures loads { LoadsText form (load_said load.entry).file options homes disk result.image result.end }
 {
     let text = match read_file(rt, load.file) {
         Ok(text) => text,
@@ -179,7 +192,7 @@ fn load_text<
     };
     match read_lines(rt.alloc(), text) {
         Ok(queue) => load_apart(rt, disk, homes, load.stamp, &queue, options),
-        Err(fault) => match fault_answer(rt.alloc(), fault) {
+        Err(fault) => match fault_answer(rt.alloc(), form, fault) {
             Ok(answer) => LoadDone {
                 image: Some(disk),
                 end: Ok(LoadReport::Text(answer)),

@@ -52,7 +52,8 @@ pub fn run_program<
     /// standard error took it.
     ensures ends { EndsProgram (is_advised (settings_given (λ w. map S.text w.now) given.entry words.entry).second terminals.err)
         (λ old new ended. MatchResult words.entry
-        (λ words. AnswersGiven (map S.text words.now) terminals.input (I.remaining input.old) old new ended)
+        (λ ws. AnswersGiven (settings_given (λ w. map S.text w.now) given.entry words.entry).form
+        (map S.text ws.now) terminals.input (I.remaining input.old) old new ended)
         (λ kind. RefusesKind kind old new ended))
         (record { out = O.contents out.old; err = E.contents err.old })
         (record { out = O.contents out.new; err = E.contents err.new }) result }
@@ -113,7 +114,7 @@ fn answered<
     err: &mut E,
 ) -> ProgramEnd
     ensures answers { MatchResult words.entry
-        (λ words. AnswersGiven (map S.text words.now) at_terminal (I.remaining input.old)
+        (λ words. AnswersGiven settings.form (map S.text words.now) at_terminal (I.remaining input.old)
         (record { out = O.contents out.old; err = E.contents err.old })
         (record { out = O.contents out.new; err = E.contents err.new }) result)
         (λ kind. RefusesKind kind
@@ -142,7 +143,7 @@ fn answered_given<
     out: &mut O,
     err: &mut E,
 ) -> ProgramEnd
-    ensures answers { AnswersGiven (map S.text words.now) at_terminal (I.remaining input.old)
+    ensures answers { AnswersGiven settings.form (map S.text words.now) at_terminal (I.remaining input.old)
         (record { out = O.contents out.old; err = E.contents err.old })
         (record { out = O.contents out.new; err = E.contents err.new }) result }
 {
@@ -167,7 +168,7 @@ fn answered_words<
     out: &mut O,
     err: &mut E,
 ) -> ProgramEnd
-    ensures answers { AnswersWords (map (λ word. word.now) words.now) at_terminal (I.remaining input.old)
+    ensures answers { AnswersWords settings.form (map (λ word. word.now) words.now) at_terminal (I.remaining input.old)
         (record { out = O.contents out.old; err = E.contents err.old })
         (record { out = O.contents out.new; err = E.contents err.new }) result }
 {

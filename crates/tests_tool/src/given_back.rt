@@ -6,7 +6,8 @@ use crate::runs::Host;
 use jb_args::{CatOptions, FormatOptions, Plain, RecoverOptions};
 use jb_disk::{Disk, Unknown};
 use jb_tool::{
-    CommandEnd, cat_file, format_file, perform, recover_file, renumber_file, widen_file,
+    AnswerForm, CommandEnd, cat_file, format_file, perform, recover_file, renumber_file,
+    widen_file,
 };
 
 const NAME: &str = "given.img";
@@ -55,7 +56,7 @@ fn check_done(
     };
     check_at(rt, has == blocks, "the image that is given back:", at);
     let mut out = Vec::new(rt.alloc());
-    let told = done.tell(&mut out);
+    let told = done.tell(AnswerForm::Text, &mut out);
     check_at(rt, told.is_ok() == blocks.is_some(), "the end:", at);
     check_text(rt, &out, wanted, "a command that is done", at)
 }
@@ -86,7 +87,7 @@ fn check_again(rt: &impl Host) {
         image: NAME,
         extents: None,
     };
-    let again = perform(rt, widen, &mut b"".as_slice(), &mut out, &mut err);
+    let again = perform(rt, widen, AnswerForm::Text, &mut b"".as_slice(), &mut out, &mut err);
     check_done(rt, again, ALL, "already wide limit 8\n", 5)
 }
 

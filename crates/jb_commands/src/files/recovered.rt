@@ -55,7 +55,7 @@ pub fn recover_file<'a, S: Start, T: Start, R: Files<File = File> + AllocGlobal,
     ///
     /// `recover` over files without `--journal` or `--extents`: whether a file system's own journal was found by its
     /// inode or by the superblock's copy of its map is as the search has it, and the line names the copy; with one of
-    /// these options it never does ([`recovered_line`](crates/jb_commands/specs/Recover.antt)).
+    /// these options it never does ([`recovered_facts`](crates/jb_commands/specs/Recover.antt)).
     ensures ends { EndsOfRecover image.entry.now (recover_said options.entry) (I.remaining input.old) result.image
         result.end }
     ensures unread { reads_list (recover_said options.entry).extents ≡ false → input.new ≡ input.old }

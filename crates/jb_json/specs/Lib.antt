@@ -1,0 +1,5 @@
+pub mod Facts
+pub mod Laws
+pub mod Objects
+pub mod Pieces
+pub mod Reports
