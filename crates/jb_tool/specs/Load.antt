@@ -75,17 +75,17 @@ abbrev pub end_with_hint : Option Hint → Result ℕ WriteFault → Result Prog
 end_with_hint hint (Ok status) = Ok (record { status = status; hint = hint })
 end_with_hint hint (Err fault) = Err CommandWriteFault
 
--- what a load has to say is told: its lines, or the line of its text's first fault
-abbrev pub TellsLoadReport : LoadReport → Outputs → Outputs → Result ProgramEnd CommandFault → Type 0
-TellsLoadReport (ReportsLoaded loaded homes) old new end =
+-- what a load has to say is told in this form: what it did, or its text's first fault
+abbrev pub TellsLoadReport : AnswerForm → LoadReport → Outputs → Outputs → Result ProgramEnd CommandFault → Type 0
+TellsLoadReport form (ReportsLoaded loaded homes) old new end =
     (told : Result ℕ WriteFault) × (end ≡ end_with_hint (load_hint homes loaded) told)
-    × TellsLoad loaded old.out new.out old.err new.err told
-TellsLoadReport (ReportsText answer) old new end = Tells (said answer) old new end
+    × TellsLoad form (load_hint homes loaded) loaded old.out new.out old.err new.err told
+TellsLoadReport form (ReportsText answer) old new end = Tells (said answer) old new end
 
 -- what a load ended with is told, or it ended with a fault, and then nothing is written
-abbrev pub TellsLoadEnd : Result LoadReport CommandFault → Outputs → Outputs → Result ProgramEnd CommandFault → Type 0
-TellsLoadEnd (Ok report) old new end = TellsLoadReport report old new end
-TellsLoadEnd (Err fault) old new end = (end ≡ Err fault) × (new ≡ old)
+abbrev pub TellsLoadEnd : AnswerForm → Result LoadReport CommandFault → Outputs → Outputs → Result ProgramEnd CommandFault → Type 0
+TellsLoadEnd form (Ok report) old new end = TellsLoadReport form report old new end
+TellsLoadEnd form (Err fault) old new end = (end ≡ Err fault) × (new ≡ old)
 
 module _ {S T : Type 0} {start : Starts S} {other : Starts T} where
   -- a queue was loaded into an open image, and this is the image then: the groups that the load counts are in its
@@ -185,5 +185,5 @@ module _ {S T : Type 0} {start : Starts S} {other : Starts T} where
 abbrev pub RunsLoad : AnswerForm → Loading → Option (List ℕ) → Outputs → Outputs → ProgramEnd → Type 0
 RunsLoad form load input old new ended =
     (image : Option FileImage) × (end : Result LoadReport CommandFault) × EndsOfLoad form load input image end
-    × ((told : Result ProgramEnd CommandFault) × (mid : Outputs) × TellsLoadEnd end old mid told
+    × ((told : Result ProgramEnd CommandFault) × (mid : Outputs) × TellsLoadEnd form end old mid told
     × Closes form (names_with load.image load.journal) told mid new ended)

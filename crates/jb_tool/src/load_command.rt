@@ -52,7 +52,7 @@ pub(crate) fn run_load<
     ensures unread { reads_list (load_said load.entry).extents ≡ false → input.new ≡ input.old }
 {
     let done = load_files::<Unknown, Unknown, R, I>(rt, load, settings.form, input);
-    let told = done.tell(out, err);
+    let told = done.tell(settings.form, out, err);
     close(
         settings.form,
         told,

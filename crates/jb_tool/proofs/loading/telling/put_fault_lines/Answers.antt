@@ -1,6 +1,6 @@
 use Rattle.jb_text.proofs.PartByPart.{part_first, puts_after}
 use Rattle.jb_tool.specs.LoadLines.{ends_text, faults_text, refused_text}
-use Rattle.jb_tool.proofs.loading.telling.put_faults.Goals as goal
+use Rattle.jb_tool.proofs.loading.telling.put_fault_lines.Goals as goal
 
 pub returns-in-Ok : goal.returns-in-Ok
 unfolding faults_text
