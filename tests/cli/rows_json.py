@@ -3,9 +3,10 @@ import re
 
 from images import image, superblock
 from json_text import is_json
-from rows import BAD_QUEUES, BAD_SUPERS, BASIC, CLEAN, CLEARED, FOUR, FULL, MADE, OLD, OUT_OF_RANGE, PLANS, RECOVERED, ROWS, SMALL, THREE, TWO_COPIES
+from rows import BAD_QUEUES, BAD_SUPERS, BASIC, CLEAN, CLEARED, FOUR, FULL, HANDLE, MADE, OLD, OUT_OF_RANGE, PLANS, RECOVERED, ROWS, SMALL, THREE, TWO_COPIES
 from rows import WIDENED, queue, row
-from rows_words import begins  # noqa: F401  (the rows over words come before)
+from rows_load import LOADED
+from rows_words import begins  # (the rows over words come before)
 
 
 def said(kind, **members):
@@ -63,6 +64,24 @@ for cert, members in [
     ("prices 0 4 6 6 8\ncut 0 1 4\ntotal 9\n", {"reason": "EndPrice"}),
 ]:
     row("check q c --json", 1, said("check", accepted=False, **members), files={"q": queue(FOUR, 6), "c": cert.encode()})
+
+
+
+def loaded(handles, changes, settled, groups, blocks, *numbers, refused=None, commit=None, hint=None):
+    """What a load says that had no checkpointer."""
+    value = dict(handles=handles, changes=changes, settled=settled, groups=groups, blocks=blocks, refused=refused, numbers=list(numbers), commit=commit, checkpoint=None)
+    return said("load", **value, **({"hint": hint} if hint else {}))
+
+
+FAR = "home blocks are numbered from 0, and the image has so many: 16"
+row("load a q --json", 0, loaded(1, 2, 1, 1, 4), files={"a": image(SMALL), "q": queue(HANDLE)}, after={"a": LOADED})
+row("load a q --json", 1, loaded(0, 0, 0, 0, 0, 0, 16, refused="OutOfRange", hint=FAR), files={"a": image(SMALL), "q": queue("w16")})
+row("load a q --hold --json", 1, loaded(1, 2, 1, 1, 4, 1, 16, refused="OutOfRange", hint=FAR), files={"a": image(SMALL), "q": queue(HANDLE + "/w16/w1")},
+    after={"a": LOADED}, terminal="err")
+row("load a q --hold --json", 1, loaded(1, 2, 0, 0, 0, commit="Aborted", hint="a read, write or sync of the image failed: run jb recover on it, and see what it holds"),
+    files={"a": image(SMALL), "q": queue(HANDLE)}, how="trap '' XFSZ; ulimit -f 1", after={"a": image(superblock(2, 1))})
+row("load a q --json", 1, err=fault("BlockSize"), files={"a": image(SMALL), "q": queue(HANDLE, first="bs 2048")})
+row("load a q --json", 1, err=fault("WriteFault"), files={"a": image(SMALL), "q": queue(HANDLE)}, to="full", after={"a": LOADED})
 
 # ---- faults ------------------------------------------------------------------------------------------------------------------
 
