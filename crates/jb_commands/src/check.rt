@@ -3,7 +3,7 @@ ghost use Rattle.jb_json.specs.Facts.{Bare, Named, fact_of};
 ghost use Rattle.jb_commands.specs.AnswerForms.{text_in};
 ghost use Rattle.jb_queue.specs.QueueText.{value_of};
 ghost use Rattle.jb_handle.specs.Size.{IsWithinSize};
-ghost use Rattle.jb_price.specs.declared.fault.CertFault.TheVariants.{Syntax};
+ghost use Rattle.jb_price.specs.declared.fault.CertFault.TheVariants.{Length, Syntax};
 ghost use Rattle.jb_price.specs.declared.verdict.Verdict.TheVariants.{Refused};
 ghost use Rattle.jb_commands.specs.Check.{IsVerdictOn, SaysCheck, accepted_fact, cert_fault, verdict_text};
 ghost use Rattle.jb_commands.specs.AnswerSaid.{said};
@@ -136,17 +136,24 @@ fn cert_fault_told(
 {
     match fault {
         CertFault::Syntax(line) => syntax_told(alloc, form, line),
-        CertFault::Length => {
-            let fault = TextFault {
-                name: "certificate Length",
-                numbers: &[],
-                reason: &["certificate: Length"],
-                hint: Hint::CertificateLength,
-            };
-            CommandOutput::fault(alloc, form, fault)
-        }
+        CertFault::Length => length_told(alloc, form),
         CertFault::Memory => Err(Memory),
     }
+}
+
+/// The same of a text that has not one price more than the queue has handles.
+fn length_told(alloc: Global, form: AnswerForm) -> Result<CommandOutput, Memory>
+    ensures said { IfOk result (λ answer. cert_fault form Length ≡ Some (said answer)) }
+{
+    let numbers: [u64; 0] = [];
+    let reason = ["certificate: Length"];
+    let fault = TextFault {
+        name: "certificate Length",
+        numbers: &numbers,
+        reason: &reason,
+        hint: Hint::CertificateLength,
+    };
+    CommandOutput::fault(alloc, form, fault)
 }
 
 /// The same of a text whose line of this number breaks the form.
@@ -155,9 +162,10 @@ fn syntax_told(alloc: Global, form: AnswerForm, line: u64) -> Result<CommandOutp
 {
     let mut digits = Buffer::new();
     let reason = ["certificate: Syntax ", digits.format(line)];
+    let numbers = [line];
     let fault = TextFault {
         name: "certificate Syntax",
-        numbers: &[line],
+        numbers: &numbers,
         reason: &reason,
         hint: Hint::CertificateSyntax,
     };

@@ -25,9 +25,10 @@ pub fn fault_answer(
     };
     let mut digits = Buffer::new();
     let reason = ["queue line ", digits.format(fault.line), ": ", cause];
+    let numbers = [fault.line];
     let fault = TextFault {
         name: cause,
-        numbers: &[fault.line],
+        numbers: &numbers,
         reason: &reason,
         hint,
     };

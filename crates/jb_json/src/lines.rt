@@ -3,31 +3,21 @@ ghost use Rattle.std.specs.Prelude.{[], ◌∷◌, codes, map};
 ghost use Rattle.jb_text.specs.Puts.{Puts};
 ghost use Rattle.jb_text.specs.TextParts.{spelled};
 ghost use Rattle.jb_json.specs.Facts.{fact_of, facts_of};
-ghost use Rattle.jb_json.specs.Reports.{fact_after, fact_lines, facts_line, number_line, report_lines};
+ghost use Rattle.jb_json.specs.Reports.{fact_after, fact_lines, facts_line, number_line};
 
 use crate::field::Field;
 use itoa::Buffer;
 use jb_text::{WriteFault, put, put_parts};
 use std::io::Write;
 
-/// Writes a report as text.
+/// Writes the line of the fields.
 ///
 /// # Errors
 /// `WriteFault` where the writer took only the beginning of the text, as of each function below.
-pub(crate) fn put_lines<W: Write>(
+pub(crate) fn put_line<W: Write>(
     writer: &mut W,
     fields: &[Field<'_>],
 ) -> Result<(), WriteFault>
-    ensures { Puts (W.contents writer.old) (W.contents writer.new) (report_lines (facts_of fields.now)) result }
-{
-    match put_line(writer, fields) {
-        Ok(()) => put_lists(writer, fields),
-        Err(fault) => Err(fault),
-    }
-}
-
-/// Writes the line of the fields.
-fn put_line<W: Write>(writer: &mut W, fields: &[Field<'_>]) -> Result<(), WriteFault>
     ensures { Puts (W.contents writer.old) (W.contents writer.new) (facts_line (facts_of fields.now)) result }
 {
     let Some((first, rest)) = fields.split_first() else {
@@ -91,7 +81,10 @@ fn put_word<W: Write>(writer: &mut W, before: &str, parts: &[&str]) -> Result<()
 }
 
 /// Writes the lines of those fields that are numbers.
-fn put_lists<W: Write>(writer: &mut W, fields: &[Field<'_>]) -> Result<(), WriteFault>
+pub(crate) fn put_lists<W: Write>(
+    writer: &mut W,
+    fields: &[Field<'_>],
+) -> Result<(), WriteFault>
     ensures { Puts (W.contents writer.old) (W.contents writer.new)
         (spelled (map (λ field. fact_lines (fact_of field)) fields.now)) result }
 {

@@ -1,11 +1,11 @@
-//! Reports as they are written: at once, where they are short.
+//! Reports as they are written: a line at once, where it is short.
 ghost use Rattle.jb_text.specs.Puts.{Puts};
 ghost use Rattle.jb_json.specs.Facts.{facts_of};
 ghost use Rattle.jb_json.specs.Objects.{json_line};
-ghost use Rattle.jb_json.specs.Reports.{report_lines};
+ghost use Rattle.jb_json.specs.Reports.{facts_line, report_lines};
 
 use crate::field::Field;
-use crate::lines::put_lines;
+use crate::lines::{put_line, put_lists};
 use crate::object::put_object;
 use arrayvec::ArrayVec;
 use jb_text::{WriteFault, put};
@@ -15,7 +15,7 @@ use std::io::Write;
 const GATHERED: usize = 4096;
 
 /// Writes a report as text, and takes no memory: a line of its fields with a space between them, and then a line for
-/// each number of those that are numbers. A text of at most 4096 bytes is written by one call, where the writer takes
+/// each number of those that are numbers. A line of at most 4096 bytes is written by one call, where the writer takes
 /// it whole.
 ///
 /// # Errors
@@ -25,10 +25,20 @@ pub fn put_report<W: Write>(writer: &mut W, fields: &[Field<'_>]) -> Result<(), 
     /// see](docs/WRONG_BODIES.md#readers-writers-and-files).
     ensures { Puts (W.contents writer.old) (W.contents writer.new) (report_lines (facts_of fields.now)) result }
 {
-    let mut text = ArrayVec::<u8, GATHERED>::new();
-    match put_lines(&mut text, fields) {
+    match put_at_once(writer, fields) {
+        Ok(()) => put_lists(writer, fields),
+        Err(fault) => Err(fault),
+    }
+}
+
+/// Writes the line of the fields, by one call where it is short.
+fn put_at_once<W: Write>(writer: &mut W, fields: &[Field<'_>]) -> Result<(), WriteFault>
+    ensures { Puts (W.contents writer.old) (W.contents writer.new) (facts_line (facts_of fields.now)) result }
+{
+    let mut text: ArrayVec<u8, GATHERED> = ArrayVec::new();
+    match put_line(&mut text, fields) {
         Ok(()) => put(writer, text.as_slice()),
-        Err(_) => put_lines(writer, fields),
+        Err(_) => put_line(writer, fields),
     }
 }
 
@@ -42,7 +52,7 @@ pub fn put_json<W: Write>(writer: &mut W, fields: &[Field<'_>]) -> Result<(), Wr
     /// see](docs/WRONG_BODIES.md#readers-writers-and-files).
     ensures { Puts (W.contents writer.old) (W.contents writer.new) (json_line (facts_of fields.now)) result }
 {
-    let mut text = ArrayVec::<u8, GATHERED>::new();
+    let mut text: ArrayVec<u8, GATHERED> = ArrayVec::new();
     match put_object(&mut text, fields) {
         Ok(()) => put(writer, text.as_slice()),
         Err(_) => put_object(writer, fields),
