@@ -25,8 +25,8 @@ def is_of(value, schema):
         return False
     if type(value) is list:
         return len(value) <= schema.get("maxItems", len(value)) and all(is_of(one, schema.get("items", {})) for one in value)
-    if type(value) is dict:
-        known = schema.get("properties", {})
+    if type(value) is dict and "properties" in schema:
+        known = schema["properties"]
         return set(schema.get("required", ())) <= set(value) <= set(known) and all(is_of(one, known[name]) for name, one in value.items())
     return True
 
