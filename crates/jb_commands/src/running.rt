@@ -27,8 +27,9 @@ use std::fs::File;
 use std::io::{Read, Write};
 use std::rt::Files;
 
-/// Runs a command, which answers in this form: reads its files, or `input` for `-` and for nothing else, and works on its image. A command over
-/// texts, `dump` and `cat` write as they go; what the others have to say is in the answer, with the image, still open.
+/// Runs a command, which answers in this form: reads its files, or `input` for `-` and for nothing else, and works on
+/// its image. A command over texts, `dump` and `cat` write as they go; what the others have to say is in the answer,
+/// with the image, still open.
 ///
 /// `S` and `T` are what is supposed of the image's files ([`CommandEnd`]).
 pub fn perform<
