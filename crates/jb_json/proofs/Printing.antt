@@ -10,13 +10,25 @@ use Rattle.jb_json.specs.Facts.{Fact, Counted, Bare, Worded, Named, Marked, Chos
 use Rattle.jb_json.specs.Objects.{fact_name, fact_value, items_of, sparse_items, json_line, members_of, object_of}
 use Rattle.jb_json.specs.Pieces.{member_after, members_text, number_with, numbers_text, sparse_text, sparse_with, value_text}
 
+-- a part with nothing after it, and then two more, before the rest
+three-parts : (part more last rest : List ℕ) → part ++ ((more ++ last) ++ rest) ≡ (((part ++ []) ++ more) ++ last) ++ rest
+three-parts part more last rest = sym (
+  ap (λ text. ((text ++ more) ++ last) ++ rest) (append-nil part)
+  ∙ ap (λ text. text ++ rest) (append_assoc part more last)
+  ∙ append_assoc part (more ++ last) rest)
+
+-- the same of one more
+two-parts : (part more rest : List ℕ) → part ++ (more ++ rest) ≡ ((part ++ []) ++ more) ++ rest
+two-parts part more rest = sym (ap (λ text. (text ++ more) ++ rest) (append-nil part) ∙ append_assoc part more rest)
+
 -- numbers after the first of an array, and its closing bracket
 more-numbers : (ns : List ℕ) (rest : List Token)
     → print_from true (items_tokens (items_of ns) ++ rest) ≡ (spelled (map (number_with (codes ",")) ns) ++ codes "]") ++ print_from true rest
 unfolding print_from
 more-numbers [] rest = refl
 more-numbers (n ∷ ns) rest =
-    ap (λ text. 44 ∷ (decimal n ++ text)) (more-numbers ns rest) ∙ simp (append_assoc, append-nil)
+    ap (λ text. 44 ∷ (decimal n ++ text)) (more-numbers ns rest)
+    ∙ ap (λ text. 44 ∷ text) (three-parts (decimal n) (spelled (map (number_with (codes ",")) ns)) (codes "]") (print_from true rest))
 
 -- the whole array
 all-numbers : (ns : List ℕ) (rest : List Token)
@@ -24,7 +36,8 @@ all-numbers : (ns : List ℕ) (rest : List Token)
 unfolding print_from
 all-numbers [] rest = refl
 all-numbers (n ∷ ns) rest =
-    ap (λ text. 91 ∷ (decimal n ++ text)) (more-numbers ns rest) ∙ simp (append_assoc, append-nil)
+    ap (λ text. 91 ∷ (decimal n ++ text)) (more-numbers ns rest)
+    ∙ ap (λ text. 91 ∷ text) (two-parts (decimal n) (spelled (map (number_with (codes ",")) ns) ++ codes "]") (print_from true rest))
 
 -- numbers of which some are missing, after the first of an array, and its closing bracket
 more-sparse : (ns : List (Option ℕ)) (rest : List Token)
@@ -32,9 +45,11 @@ more-sparse : (ns : List (Option ℕ)) (rest : List Token)
 unfolding print_from
 more-sparse [] rest = refl
 more-sparse (None ∷ ns) rest =
-    ap (λ text. 44 ∷ (null_text ++ text)) (more-sparse ns rest) ∙ simp (append_assoc, append-nil)
+    ap (λ text. 44 ∷ (null_text ++ text)) (more-sparse ns rest)
+    ∙ ap (λ text. 44 ∷ text) (three-parts null_text (spelled (map (sparse_with (codes ",")) ns)) (codes "]") (print_from true rest))
 more-sparse (Some n ∷ ns) rest =
-    ap (λ text. 44 ∷ (decimal n ++ text)) (more-sparse ns rest) ∙ simp (append_assoc, append-nil)
+    ap (λ text. 44 ∷ (decimal n ++ text)) (more-sparse ns rest)
+    ∙ ap (λ text. 44 ∷ text) (three-parts (decimal n) (spelled (map (sparse_with (codes ",")) ns)) (codes "]") (print_from true rest))
 
 -- the whole array
 all-sparse : (ns : List (Option ℕ)) (rest : List Token)
@@ -42,9 +57,11 @@ all-sparse : (ns : List (Option ℕ)) (rest : List Token)
 unfolding print_from
 all-sparse [] rest = refl
 all-sparse (None ∷ ns) rest =
-    ap (λ text. 91 ∷ (null_text ++ text)) (more-sparse ns rest) ∙ simp (append_assoc, append-nil)
+    ap (λ text. 91 ∷ (null_text ++ text)) (more-sparse ns rest)
+    ∙ ap (λ text. 91 ∷ text) (two-parts null_text (spelled (map (sparse_with (codes ",")) ns) ++ codes "]") (print_from true rest))
 all-sparse (Some n ∷ ns) rest =
-    ap (λ text. 91 ∷ (decimal n ++ text)) (more-sparse ns rest) ∙ simp (append_assoc, append-nil)
+    ap (λ text. 91 ∷ (decimal n ++ text)) (more-sparse ns rest)
+    ∙ ap (λ text. 91 ∷ text) (two-parts (decimal n) (spelled (map (sparse_with (codes ",")) ns) ++ codes "]") (print_from true rest))
 
 -- the value of a fact
 printed-value : (fact : Fact) (rest : List Token)

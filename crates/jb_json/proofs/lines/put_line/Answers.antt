@@ -1,8 +1,7 @@
-use Rattle.std.proofs.Common.{◌≡◌, ◌++◌, [], Err, map, rules}
+use Rattle.std.proofs.Common.{◌≡◌, ◌++◌, [], Err, rules}
 use Rattle.std.proofs.lemmas.List.{nil_from_length}
 use Rattle.std.proofs.lemmas.Simd.{map-map}
 use Rattle.std.specs.Prelude.{codes}
-use Rattle.jb_text.specs.TextParts.{spelled}
 use Rattle.jb_text.proofs.PartByPart.{part_after, part_first, puts_after}
 use Rattle.jb_json.specs.Facts.{fact_of, facts_of}
 use Rattle.jb_json.specs.Reports.{fact_after, facts_after}

@@ -1,4 +1,4 @@
-use Rattle.std.proofs.Common.{◌+◌, ℕ, List, map, drop, get_or, Ok, Err, arith, refl, subst}
+use Rattle.std.proofs.Common.{◌+◌, map, drop, Ok, Err, arith, refl, subst}
 use Rattle.std.specs.Prelude.{codes}
 use Rattle.std.specs.Io.KnownBytes.{Appends}
 use Rattle.std.proofs.KnownBytes.{Appends-nil}

@@ -1,4 +1,4 @@
-use Rattle.std.proofs.Common.{◌≡◌, ◌++◌, [], ◌∷◌, Err, append-nil, rules}
+use Rattle.std.proofs.Common.{◌≡◌, ◌++◌, Err, append-nil, rules}
 use Rattle.std.specs.Prelude.{codes}
 use Rattle.json.specs.Print.{quoted}
 use Rattle.jb_text.proofs.PartByPart.{part_after, part_first, puts_after}

@@ -2,11 +2,10 @@ use Rattle.std.proofs.Common.{map}
 use Rattle.std.proofs.lemmas.List.{nil_from_length}
 use Rattle.std.proofs.lemmas.Simd.{map-map}
 use Rattle.std.specs.Prelude.{codes}
-use Rattle.jb_text.specs.Puts.{Puts, PutsPart}
 use Rattle.jb_text.specs.TextParts.{spelled}
 use Rattle.jb_text.proofs.PartByPart.{part_first, puts_after}
 use Rattle.jb_json.specs.Facts.{fact_of, facts_of}
-use Rattle.jb_json.specs.Pieces.{member_after, members_text}
+use Rattle.jb_json.specs.Pieces.{member_after}
 use Rattle.jb_json.proofs.object.put_members.Goals as goal
 
 pub returns-in_default : goal.returns-in_default

@@ -1,7 +1,6 @@
-use Rattle.std.proofs.Common.{◌≡◌, ◌++◌, Err, map, rules, subst}
+use Rattle.std.proofs.Common.{◌≡◌, ◌++◌, Err, map, rules}
 use Rattle.std.specs.Prelude.{codes}
 use Rattle.json.specs.Print.{escape}
-use Rattle.jb_text.specs.Puts.{Puts, PutsPart}
 use Rattle.jb_text.specs.TextParts.{spelled}
 use Rattle.jb_text.proofs.PartByPart.{part_after, part_first, puts_after}
 use Rattle.jb_json.proofs.QuotedTexts.{inside-whole}
