@@ -7,6 +7,7 @@ pub mod Check
 pub mod Checking
 pub mod Cost
 pub mod Dump
+pub mod DumpForm
 pub mod DumpPlace
 pub mod Ends
 pub mod FaultLines

@@ -18,7 +18,7 @@ use Rattle.jb_commands.specs.Check.{CheckSays}
 use Rattle.jb_commands.specs.Cost.{cost_said}
 use Rattle.jb_commands.specs.Limits.{cert_limit}
 use Rattle.jb_commands.specs.Dump.{reads_dump}
-use Rattle.jb_commands.specs.DumpPlace.{EndsOfDump}
+use Rattle.jb_commands.specs.DumpForm.{EndsOfDumpIn}
 use Rattle.jb_commands.specs.ChangePlace.{EndsOfChange}
 use Rattle.jb_commands.specs.Files.{EndsOfFormat}
 use Rattle.jb_commands.specs.JournalPlace.{EndsOfCat, EndsOfRecover}
@@ -109,7 +109,7 @@ module _ {S T : Type 0} {start : Starts S} {other : Starts T} where
   EndsAsked form (AsksPlan file) input old new image end = SaidAll (EndsAsSaid (PlanSays form) file input old new) image end
   EndsAsked form (AsksCheck file cert) input old new image end = SaidAll (EndsOfTwo (CheckSays form) file cert old new) image end
   EndsAsked form (AsksDump file words) input old new image end =
-      DumpedAll (EndsOfDump start other words file input old.out new.out) image end × (new.err ≡ old.err)
+      DumpedAll (EndsOfDumpIn start other form words file input old.out new.out) image end × (new.err ≡ old.err)
   EndsAsked form (AsksFormat name options) input old new image end = EndsOfFormat name options image end × (new ≡ old)
   EndsAsked form (AsksCat name words) input old new image end =
       EndsOfCat name words input old.out new.out image end × (new.err ≡ old.err)

@@ -1,6 +1,7 @@
 //! The commands over files: each opens its files, and reads, makes or changes them.
 
 mod changes;
+mod dump_form;
 mod found;
 mod homes;
 mod journals;
@@ -17,7 +18,7 @@ mod texts;
 
 pub use changes::{renumber_file, widen_file};
 pub use homes::cat_file;
-pub(crate) use journals::dump_named;
+pub(crate) use dump_form::dump_in;
 pub use making::format_file;
 pub use opened::OpenedImage;
 pub use opening::{Opening, open_counted};

@@ -13,7 +13,7 @@ ghost use Rattle.jb_commands.specs.Runs.{reads_input};
 use crate::command_end::CommandEnd;
 use crate::fault::CommandFault;
 use crate::files::{
-    cat_file, dump_named, format_file, read_file, read_file_within, read_text, recover_file,
+    cat_file, dump_in, format_file, read_file, read_file_within, read_text, recover_file,
     renumber_file, widen_file,
 };
 use crate::names::{TwoFiles, files_of};
@@ -60,7 +60,7 @@ pub fn perform<
         Plain::Plan { file } => CommandEnd::said(perform_plan(rt, file, form, input, out, err)),
         Plain::Check { file, cert } => CommandEnd::said(perform_check(rt, file, cert, form, out, err)),
         Plain::Dump { file, options } => {
-            CommandEnd::status(dump_named::<S, T, R, I, O>(rt, file, options, input, out))
+            CommandEnd::status(dump_in::<S, T, R, I, O>(rt, file, options, form, input, out))
         }
         Plain::Format { image, options } => format_file(rt, image, options),
         Plain::Cat { image, options } => cat_file(rt, image, options, input, out),

@@ -1,3 +1,4 @@
+pub mod Entries
 pub mod Facts
 pub mod Laws
 pub mod Objects

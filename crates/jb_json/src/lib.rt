@@ -2,6 +2,8 @@
 //! take no memory.
 #![tactic(auto)]
 
+mod entries;
+mod entry_words;
 mod field;
 pub mod laws;
 mod lines;
@@ -11,5 +13,6 @@ mod quoted;
 mod report;
 mod sparse;
 
+pub use entries::put_entries;
 pub use field::Field;
 pub use report::{put_json, put_report};

@@ -45,7 +45,7 @@ fn put_escaped<W: Write>(writer: &mut W, text: &str) -> Result<(), WriteFault>
 }
 
 /// The same of its bytes.
-fn put_bytes<W: Write>(writer: &mut W, text: &[u8]) -> Result<(), WriteFault>
+pub(crate) fn put_bytes<W: Write>(writer: &mut W, text: &[u8]) -> Result<(), WriteFault>
     ensures { Puts (W.contents writer.old) (W.contents writer.new) (spelled (map escape_byte text.now)) result }
 {
     for byte in text {

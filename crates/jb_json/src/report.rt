@@ -12,7 +12,7 @@ use jb_text::{WriteFault, put};
 use std::io::Write;
 
 /// How many bytes are written at once: as many as Linux does not mix with those of another program (PIPE_BUF).
-const GATHERED: usize = 4096;
+pub(crate) const GATHERED: usize = 4096;
 
 /// Writes a report as text, and takes no memory: a line of its fields with a space between them, and then a line for
 /// each number of those that are numbers. A line of at most 4096 bytes is written by one call, where the writer takes
