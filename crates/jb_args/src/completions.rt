@@ -5,7 +5,7 @@ ghost use Rattle.jb_args.specs.Completions.{option_completed, options_completed,
 ghost use Rattle.jb_args.specs.Rows.{app_of_row, rule_of_word};
 
 use crate::commands::{COMMANDS, CommandName, CommandRow, CommandWord, WordKind, row_of};
-use crate::settings;
+use crate::setting_rows;
 use std::alloc::{AllocError, Global};
 
 /// A shell that `jb` has completions for.
@@ -48,7 +48,7 @@ pub(crate) const BASH: ShellForm = ShellForm {
         "# Completions of jb for bash.
 _jb() {
     local word=${COMP_WORDS[COMP_CWORD]} options=\"--help",
-        settings!(setting_words),
+        setting_rows!(setting_words),
         "\"
     local commands=\"help"
     ),
@@ -81,7 +81,7 @@ pub(crate) const ZSH: ShellForm = ShellForm {
 _jb() {
     local -a commands options
     options=(--help",
-        settings!(setting_words),
+        setting_rows!(setting_words),
         ")
     commands=(help"
     ),
@@ -111,7 +111,7 @@ pub(crate) const FISH: ShellForm = ShellForm {
     head: concat!(
         "# Completions of jb for fish.
 complete -c jb -a '--help",
-        settings!(setting_words),
+        setting_rows!(setting_words),
         "'
 complete -c jb -n __fish_use_subcommand -f -a 'help"
     ),
@@ -159,9 +159,9 @@ pub fn completions(alloc: Global, shell: Shell) -> Result<String, AllocError>
     let form = shell.form();
     let mut text = String::from_str(alloc, form.head)?;
     put_names(&mut text, &COMMANDS)?;
-    text.push_str(form.middle)?;
+    put_text(&mut text, form.middle)?;
     put_commands(&mut text, &form, &COMMANDS)?;
-    text.push_str(form.tail)?;
+    put_text(&mut text, form.tail)?;
     Ok(text)
 }
 
@@ -171,8 +171,8 @@ fn put_names(text: &mut String, names: &[CommandName]) -> Result<(), AllocError>
         ≡ string_bytes text.old ++ names_completed (shapes_of names.now)) }
 {
     for name in names {
-        text.push_str(" ")?;
-        text.push_str(row_of(*name).name)?;
+        put_text(text, " ")?;
+        put_text(text, row_of(*name).name)?;
     }
     Ok(())
 }
@@ -197,11 +197,11 @@ fn put_command(text: &mut String, form: &ShellForm, row: &CommandRow<'_>) -> Res
     ensures { OnOk result (string_bytes text.new
         ≡ string_bytes text.old ++ command_completed form.now (app_of_row row.now).top) }
 {
-    text.push_str(form.before)?;
-    text.push_str(row.name)?;
-    text.push_str(form.between)?;
+    put_text(text, form.before)?;
+    put_text(text, row.name)?;
+    put_text(text, form.between)?;
     put_options(text, row.words)?;
-    text.push_str(form.after)
+    put_text(text, form.after)
 }
 
 /// Adds the options of a command, each after a space.
@@ -222,7 +222,7 @@ fn put_option(text: &mut String, word: &CommandWord<'_>) -> Result<(), AllocErro
     match word.kind {
         WordKind::Word => Ok(()),
         WordKind::NumberWord => Ok(()),
-        WordKind::Count => text.push_str(" -n"),
+        WordKind::Count => put_text(text, " -n"),
         WordKind::Text(_) => put_long(text, word.name),
         WordKind::TextOr(_, _) => put_long(text, word.name),
         WordKind::Number => put_long(text, word.name),
@@ -236,6 +236,14 @@ fn put_option(text: &mut String, word: &CommandWord<'_>) -> Result<(), AllocErro
 fn put_long(text: &mut String, name: &str) -> Result<(), AllocError>
     ensures { OnOk result (string_bytes text.new ≡ string_bytes text.old ++ (codes " --" ++ name.now)) }
 {
-    text.push_str(" --")?;
-    text.push_str(name)
+    put_text(text, " --")?;
+    put_text(text, name)
+}
+
+/// Adds a part of the script.
+fn put_text(text: &mut String, part: &str) -> Result<(), AllocError>
+    ensures { OnOk result (string_bytes text.new ≡ string_bytes text.old ++ part.now) }
+{
+    text.push_str(part)?;
+    Ok(())
 }

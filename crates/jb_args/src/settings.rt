@@ -76,7 +76,7 @@ pub(crate) enum Setting {
 /// Calls a macro with the table of the settings, after a name where one is given for it. A row is what is set, the
 /// words that set it, and what the help says of them.
 #[macro_export]
-macro_rules! settings {
+macro_rules! setting_rows {
     ($form:ident $(, $of:ident)?) => {
         $form! {
             $($of)?
@@ -90,7 +90,7 @@ macro_rules! settings {
 }
 
 /// A `match` of a word with what it sets in each arm.
-macro_rules! setting_in_rows {
+macro_rules! setting_in {
     ($of:ident $($setting:ident, $($word:literal),+ => $help:literal;)*) => {
         match $of {
             $($($word)|+ => Some(Setting::$setting),)*
@@ -103,7 +103,7 @@ macro_rules! setting_in_rows {
 pub(crate) fn setting_of(word: &str) -> Option<Setting>
     ensures { result ≡ setting_in word.now }
 {
-    settings!(setting_in_rows, word)
+    setting_rows!(setting_in, word)
 }
 
 impl Settings {

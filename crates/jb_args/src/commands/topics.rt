@@ -1,7 +1,7 @@
 //! The topics of the help, each a text of its own, and what the help of `jb` says of them.
 
 use super::{CommandRow, RowKind};
-use crate::{diagnostics, settings};
+use crate::{diagnostics, setting_rows};
 
 /// The end of the short help of `jb`.
 pub(crate) const TOPICS: &str =
@@ -17,7 +17,7 @@ macro_rules! settings_lines {
 /// The end of the long help of `jb`.
 pub(crate) const JB: &str = concat!(
     "Settings, of any command, anywhere before a word --:",
-    settings!(settings_lines),
+    setting_rows!(settings_lines),
     "
 
 Topics:
@@ -33,7 +33,7 @@ const SETTINGS_TEXT: &str = concat!(
     "Settings: a setting is a word of its own, anywhere before a word --, for any
 command. Of two that set the same the last one counts. JB_HINTS=1 in the
 environment is as --hints before them, and JB_STATUS=1 as --status.",
-    settings!(settings_lines)
+    setting_rows!(settings_lines)
 );
 
 /// The files that commands are about.

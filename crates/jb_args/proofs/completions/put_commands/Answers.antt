@@ -5,11 +5,10 @@ use Rattle.jb_args.specs.declared.commands.command_name.CommandName.{CommandName
 use Rattle.jb_args.specs.declared.completions.ShellForm.{ShellForm}
 use Rattle.jb_args.proofs.completions.put_commands.Goals as goal
 
-of_names : ShellForm → List CommandName → List ℕ
+abbrev of_names : ShellForm → List CommandName → List ℕ
 of_names form names = commands_completed form (shapes_of names)
 
 pub loop-name-preserved : goal.loop-name-preserved
-unfolding of_names
 loop-name-preserved c =
     let names = c.args.names.now in
     let form = c.args.form.now in
@@ -22,7 +21,6 @@ loop-name-preserved c =
     ∙ c.loop-name.invariant
 
 pub returns : goal.returns
-unfolding of_names
 returns c =
     let old = string_bytes c.loop-name.text in
     sym (append-nil old)

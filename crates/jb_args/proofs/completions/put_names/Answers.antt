@@ -5,18 +5,17 @@ use Rattle.jb_args.specs.declared.commands.command_name.CommandName.{CommandName
 use Rattle.jb_args.proofs.Completions.{row-name}
 use Rattle.jb_args.proofs.completions.put_names.Goals as goal
 
-of_names : List CommandName → List ℕ
+abbrev of_names : List CommandName → List ℕ
 of_names names = names_completed (shapes_of names)
 
 pub loop-name-preserved : goal.loop-name-preserved
-unfolding of_names
 loop-name-preserved c =
     let names = c.args.names.now in
     let i = c.loop-name.name-index in
     let old = string_bytes c.loop-name.text in
     let rest = of_names (drop (i + 1) names) in
     let name = sym (row-name c.row_of.result.now) ∙ ap (λ a. a.top.name) c.row_of.ensures in
-    ap (λ text. text ++ rest) (c.in_ok-push_str-2.ensures.bytes ∙ ap (λ text. text ++ c.row_of.result.now.name.now) c.in_ok-push_str.ensures.bytes)
+    ap (λ text. text ++ rest) (c.in_ok-put_text-2.ensures ∙ ap (λ text. text ++ c.row_of.result.now.name.now) c.in_ok-put_text.ensures)
     ∙ ap (λ text. text ++ rest) (append_assoc old (32 ∷ []) c.row_of.result.now.name.now)
     ∙ append_assoc old (32 ∷ c.row_of.result.now.name.now) rest
     ∙ ap (λ text. old ++ ((32 ∷ text) ++ rest)) name
@@ -24,7 +23,6 @@ loop-name-preserved c =
     ∙ c.loop-name.invariant
 
 pub returns : goal.returns
-unfolding of_names
 returns c =
     let old = string_bytes c.loop-name.text in
     sym (append-nil old)

@@ -5,11 +5,10 @@ use Rattle.jb_args.specs.Rows.{rule_of_word}
 use Rattle.jb_args.specs.declared.commands.word.CommandWord.{CommandWord}
 use Rattle.jb_args.proofs.completions.put_options.Goals as goal
 
-of_words : List CommandWord → List ℕ
+abbrev of_words : List CommandWord → List ℕ
 of_words words = options_completed (map rule_of_word words)
 
 pub loop-word-preserved : goal.loop-word-preserved
-unfolding of_words
 loop-word-preserved c =
     let words = c.args.words.now in
     let i = c.loop-word.word-index in
@@ -20,7 +19,6 @@ loop-word-preserved c =
     ∙ c.loop-word.invariant
 
 pub returns : goal.returns
-unfolding of_words
 returns c =
     let old = string_bytes c.loop-word.text in
     sym (append-nil old)
