@@ -41,9 +41,19 @@ pub fn hint_parts<'b>(
     let words: &'b str = hint.advice();
     match hint.beside() {
         HintArg::Nothing => [words, "", "", "", ""],
-        HintArg::BadOption(option) => [words, ": ", option.name(), " is ", option.values()],
-        HintArg::System(code) => [words, ": ", system_text(code, text), "", ""],
-        HintArg::Homes(homes) => [words, ": ", digits.format(homes), "", ""],
+        HintArg::BadOption(option) => {
+            let name: &'b str = option.name();
+            let values: &'b str = option.values();
+            [words, ": ", name, " is ", values]
+        }
+        HintArg::System(code) => {
+            let system: &'b str = system_text(code, text);
+            [words, ": ", system, "", ""]
+        }
+        HintArg::Homes(homes) => {
+            let number: &'b str = digits.format(homes);
+            [words, ": ", number, "", ""]
+        }
     }
 }
 

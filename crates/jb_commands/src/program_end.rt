@@ -36,7 +36,7 @@ impl ProgramEnd {
     /// where what is judged does not fit, or is not accepted.
     pub fn exit_status(self, statuses: Statuses) -> u8
         /// The table's status of the line on standard error, in place of 1, where it is asked for.
-        ensures { result ≡ exit_status statuses self.entry }
+        ensures { result ≡ exit_status statuses self }
     {
         match (statuses, self.status, self.hint) {
             (Statuses::Finer, 1, Some(hint)) => hint.finer_status(),

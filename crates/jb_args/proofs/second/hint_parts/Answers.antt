@@ -8,7 +8,7 @@ pub returns-in-BadOption : goal.returns-in-BadOption
 returns-in-BadOption c = ([], search rules)
 
 pub returns-in-System : goal.returns-in-System
-returns-in-System c = (c.system_text.result.now, search rules)
+returns-in-System c = (c.system_text-system.result.now, search rules)
 
 pub returns-in-Homes : goal.returns-in-Homes
 returns-in-Homes c = ([], search rules)
