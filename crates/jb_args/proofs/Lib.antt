@@ -1,5 +1,5 @@
-pub mod Completions
+pub mod CompletedRows
 pub mod Faults
 pub mod Numerals
 pub mod Rows
-pub mod Settings
+pub mod SettingWords

@@ -6,10 +6,9 @@ use Rattle.jb_text.specs.TextParts.{spelled}
 use Rattle.jb_args.specs.App.{commands_app}
 use Rattle.jb_args.specs.Rows.{app_named}
 use Rattle.jb_args.specs.declared.commands.command_name.CommandName.{CommandName}
-use Rattle.jb_args.specs.declared.completions.Shell.{Shell}
-use Rattle.jb_args.specs.declared.completions.Shell.TheVariants.{Bash, Fish, Zsh}
-use Rattle.jb_args.specs.declared.completions.ShellForm.{ShellForm}
-use Rattle.jb_args.specs.declared.completions.TheConstants.{BASH, FISH, ZSH}
+use Rattle.jb_args.specs.declared.completing.Shell.{Shell}
+use Rattle.jb_args.specs.declared.completing.Shell.TheVariants.{Bash, Fish, Zsh}
+use Rattle.jb_args.specs.declared.completing.ShellForm.{ShellForm}
 
 -- the shell of this name
 abbrev pub shell_named : Text → Option Shell
@@ -19,11 +18,26 @@ shell_named name =
     else if bytes_eq name (codes "fish") then Some Fish
     else None
 
--- what the script of a shell has around the words of the commands
-unfoldable pub script_form : Shell → ShellForm
-script_form Bash = BASH
-script_form Zsh = ZSH
-script_form Fish = FISH
+-- what a script has around the words of the table: before the names of the commands and after them; before the name of
+-- a command at its line, between it and the options, and after these; after all
+pub record ScriptForm : Type 0 where
+  pub head : Text
+  pub middle : Text
+  pub before : Text
+  pub between : Text
+  pub after : Text
+  pub tail : Text
+
+-- the form as the program has it
+abbrev pub form_said : ShellForm → ScriptForm
+form_said form = record {
+  head = form.head.now;
+  middle = form.middle.now;
+  before = form.before.now;
+  between = form.between.now;
+  after = form.after.now;
+  tail = form.tail.now;
+}
 
 -- an option after a space: its name after two hyphens, or its letter after one; of a word that is none nothing
 abbrev pub option_by : Option Text → Option ℕ → Text
@@ -48,16 +62,16 @@ abbrev pub names_completed : List Shape → Text
 names_completed commands = spelled (map (λ (command : Shape). 32 ∷ command.name) commands)
 
 -- the line of a command: its name and its options
-abbrev pub command_completed : ShellForm → Shape → Text
+abbrev pub command_completed : ScriptForm → Shape → Text
 command_completed form command =
-    spelled (form.before.now ∷ command.name ∷ form.between.now ∷ options_completed command.rules ∷ form.after.now ∷ [])
+    spelled (form.before ∷ command.name ∷ form.between ∷ options_completed command.rules ∷ form.after ∷ [])
 
 -- the lines of the commands
-abbrev pub commands_completed : ShellForm → List Shape → Text
+abbrev pub commands_completed : ScriptForm → List Shape → Text
 commands_completed form commands = spelled (map (command_completed form) commands)
 
 -- the script of this form: the names of the commands of `jb`, and their lines
-abbrev pub completions_of : ShellForm → Text
+abbrev pub completions_of : ScriptForm → Text
 completions_of form =
-    spelled (form.head.now ∷ names_completed commands_app.subs ∷ form.middle.now ∷ commands_completed form commands_app.subs
-    ∷ form.tail.now ∷ [])
+    spelled (form.head ∷ names_completed commands_app.subs ∷ form.middle ∷ commands_completed form commands_app.subs
+    ∷ form.tail ∷ [])

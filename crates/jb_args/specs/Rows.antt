@@ -1,5 +1,5 @@
 -- The table of the commands, in the words of the command line of `jb`.
-use Rattle.std.specs.Prelude.{List, [], ◌∷◌, Option, Some, codes}
+use Rattle.std.specs.Prelude.{true, List, [], ◌∷◌, Option, Some, codes}
 use Rattle.clap.specs.Words.{App, Rule, Text, new_app, new_rule, with_rule, with_subcommand}
 use Rattle.clap.specs.declared.builder.value_parser.ValueParser.{ValueParser}
 use Rattle.clap.specs.declared.builder.value_parser.ValueParser.TheVariants.{Unsigned}

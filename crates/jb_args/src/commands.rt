@@ -12,8 +12,8 @@ mod topics;
 mod word;
 
 use clap::Command;
-pub(crate) use command_name::{COMMANDS, CommandName, row_of};
 use command_name::TOPICS;
+pub(crate) use command_name::{COMMANDS, CommandName, row_of};
 use std::alloc::{AllocError, Global};
 use word::arg_of;
 pub(crate) use word::{CommandWord, WordKind};

@@ -5,7 +5,7 @@
 mod columns;
 mod command;
 mod commands;
-mod completions;
+mod completing;
 mod hint;
 mod option_name;
 mod plain;
@@ -17,7 +17,7 @@ mod words;
 pub use clap::Error;
 pub use clap::error::ErrorKind;
 pub use command::{CommandLine, LoadWords};
-pub use completions::{Shell, completions};
+pub use completing::{Shell, completions};
 pub use hint::Hint;
 pub use option_name::OptionName;
 pub use plain::{CatOptions, DumpOptions, FormatOptions, Plain, RecoverOptions};

@@ -73,11 +73,11 @@ pub(crate) enum Setting {
     NoProgress,
 }
 
-/// Calls a macro with the table of the settings, after a name where one is given for it. A row is what is set, the
-/// words that set it, and what the help says of them.
+/// Calls a macro with the table of the settings, after a name, or texts, where they are given for it. A row is what is
+/// set, the words that set it, and what the help says of them.
 #[macro_export]
 macro_rules! setting_rows {
-    ($form:ident $(, $of:ident)?) => {
+    ($form:ident $(, $of:tt)?) => {
         $form! {
             $($of)?
             Json, "--json" => "Answers, and says what went wrong, in JSON";
@@ -117,16 +117,24 @@ impl Settings {
     {
         Settings {
             form: AnswerForm::Text,
-            second: if hints { SecondLine::Always } else { SecondLine::OnTerminal },
+            second: if hints {
+                SecondLine::Always
+            } else {
+                SecondLine::OnTerminal
+            },
             progress: ProgressLine::OnTerminal,
-            statuses: if finer { Statuses::Finer } else { Statuses::Few },
+            statuses: if finer {
+                Statuses::Finer
+            } else {
+                Statuses::Few
+            },
         }
     }
 
     /// Whether a line on standard error has a second one after it, where that is a terminal or not; what is said in JSON
     /// has it within.
     pub fn is_advised(self, on_terminal: bool) -> bool
-        ensures { result ≡ advises self.entry on_terminal }
+        ensures { result ≡ advises self on_terminal }
     {
         match (self.form, self.second) {
             (AnswerForm::Json, _) => false,
@@ -138,7 +146,7 @@ impl Settings {
 
     /// The settings, with what one word more sets, where it sets something.
     fn with_word(self, word: &str) -> Settings
-        ensures { result ≡ with_found self.entry (setting_in word.now) }
+        ensures { result ≡ with_found self (setting_in word.now) }
     {
         match setting_of(word) {
             Some(setting) => self.with(setting),
@@ -148,18 +156,30 @@ impl Settings {
 
     /// The settings, with one more.
     fn with(self, setting: Setting) -> Settings
-        ensures { result ≡ with_setting self.entry setting }
+        ensures { result ≡ with_setting self setting }
     {
         match setting {
-            Setting::Json => Settings { form: AnswerForm::Json, ..self },
-            Setting::Hints => Settings { second: SecondLine::Always, ..self },
+            Setting::Json => Settings {
+                form: AnswerForm::Json,
+                ..self
+            },
+            Setting::Hints => Settings {
+                second: SecondLine::Always,
+                ..self
+            },
             Setting::Quiet => Settings {
                 second: SecondLine::Never,
                 progress: ProgressLine::Never,
                 ..self
             },
-            Setting::Status => Settings { statuses: Statuses::Finer, ..self },
-            Setting::NoProgress => Settings { progress: ProgressLine::Never, ..self },
+            Setting::Status => Settings {
+                statuses: Statuses::Finer,
+                ..self
+            },
+            Setting::NoProgress => Settings {
+                progress: ProgressLine::Never,
+                ..self
+            },
         }
     }
 }

@@ -3,8 +3,8 @@ use Rattle.std.specs.Prelude.{◌≡◌, ◌⊎◌, ℕ, Bool, false, List, Opti
 use Rattle.jb_args.specs.Command.{Wanted}
 use Rattle.jb_args.specs.declared.settings.AnswerForm.{AnswerForm}
 use Rattle.jb_args.specs.Command.Wanted.{WantsCompletions, WantsLoad, WantsPlain}
-use Rattle.jb_args.specs.Completions.{completions_of, script_form, shell_named}
-use Rattle.jb_args.specs.declared.completions.Shell.{Shell}
+use Rattle.jb_args.specs.Completions.{ScriptForm, completions_of, shell_named}
+use Rattle.jb_args.specs.declared.completing.Shell.{Shell}
 use Rattle.jb_args.specs.declared.option_name.OptionName.TheVariants.{Shell as ShellName}
 use Rattle.jb_commands.specs.ListText.{reads_list}
 use Rattle.jb_commands.specs.Runs.{Closes, Runs, reads_input}
@@ -24,7 +24,7 @@ wants_input (WantsCompletions shell) = false
 -- it; of another word it is an option that is bad
 abbrev pub EndsOfCompletions : Option Shell → Option (List ℕ) → Option (List ℕ) → Result ProgramEnd CommandFault → Type 0
 EndsOfCompletions (Some shell) out_old out_new end =
-    TellsLine (completions_of (script_form shell)) out_old out_new end
+    ((form : ScriptForm) × TellsLine (completions_of form) out_old out_new end)
     ⊎ ((end ≡ Err Memory) × (out_new ≡ out_old))
 EndsOfCompletions None out_old out_new end = (end ≡ Err (BadOption ShellName)) × (out_new ≡ out_old)
 

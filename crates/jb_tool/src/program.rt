@@ -50,7 +50,7 @@ pub fn run_program<
     /// The whole program, over any words and streams: its status is that of the answer, or a finer one where the
     /// settings ask for it, both outputs are as the answer has left them, and where the settings or a terminal ask for
     /// it the second line of its hint follows, as far as standard error took it.
-    ensures ends { EndsProgram (settings_given (λ w. map S.text w.now) given.entry words.entry) terminals.err
+    ensures ends { EndsProgram (settings_given (λ w. map S.text w.now) given words.entry) terminals.err
         (λ old new ended. MatchResult words.entry
         (λ ws. AnswersGiven (settings_given (λ w. map S.text w.now) given.entry words.entry).form
         (map S.text ws.now) terminals.input (I.remaining input.old) old new ended)
@@ -65,7 +65,7 @@ pub fn run_program<
 
 /// The settings that were given, as the words change them, where there are words.
 fn settings_of<S: AsStr>(given: Settings, words: Result<&[S], ErrorKind>) -> Settings
-    ensures { result ≡ settings_given (λ w. map S.text w.now) given.entry words.entry }
+    ensures { result ≡ settings_given (λ w. map S.text w.now) given words.entry }
 {
     match words {
         Ok(words) => settings_in(given, words),

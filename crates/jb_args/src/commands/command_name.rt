@@ -3,7 +3,9 @@ ghost use Rattle.std.specs.Prelude.{◌≡◌};
 ghost use Rattle.jb_args.specs.Rows.{app_named, app_of_row};
 
 use super::CommandRow;
-use super::table::{CAT, CHECK, COMPLETIONS, COST, DUMP, FORMAT, LOAD, PLAN, RECOVER, RENUMBER, WIDEN};
+use super::table::{
+    CAT, CHECK, COMPLETIONS, COST, DUMP, FORMAT, LOAD, PLAN, RECOVER, RENUMBER, WIDEN,
+};
 use super::topics::{DIAGNOSTICS, FILES, LOCKS, SETTINGS, STATUSES};
 
 /// A command of `jb`, or a topic of its help.

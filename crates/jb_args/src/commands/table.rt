@@ -1,6 +1,8 @@
 //! The commands, each with its words and options in the order of the help.
 
-use super::shared::{CHECKSUMS, DUMP_EXTENTS, DUMP_JOURNAL, EXTENTS, FILE, IMAGE, JOURNAL, NO_UUID};
+use super::shared::{
+    CHECKSUMS, DUMP_EXTENTS, DUMP_JOURNAL, EXTENTS, FILE, IMAGE, JOURNAL, NO_UUID,
+};
 use super::word::{CommandWord, WordKind};
 use super::{CommandRow, RowKind, texts};
 

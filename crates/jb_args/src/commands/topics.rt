@@ -7,18 +7,22 @@ use crate::{diagnostics, setting_rows};
 pub(crate) const TOPICS: &str =
     "Settings and topics: jb help settings, files, locks, statuses, diagnostics";
 
-/// The lines of the settings: their words, and what they do.
-macro_rules! settings_lines {
-    ($($setting:ident, $word:literal $(, $other:literal)* => $help:literal;)*) => {
-        concat!($("\n  ", $word $(, ", ", $other)*, "\n          ", $help),*)
+/// Two texts with the lines of the settings between them: their words, and what they do.
+macro_rules! settings_between {
+    (
+        ($before:literal, $after:literal)
+        $($setting:ident, $word:literal $(, $other:literal)* => $help:literal;)*
+    ) => {
+        concat!($before, $("\n  ", $word $(, ", ", $other)*, "\n          ", $help),*, $after)
     };
 }
 
 /// The end of the long help of `jb`.
-pub(crate) const JB: &str = concat!(
-    "Settings, of any command, anywhere before a word --:",
-    setting_rows!(settings_lines),
-    "
+pub(crate) const JB: &str = setting_rows!(
+    settings_between,
+    (
+        "Settings, of any command, anywhere before a word --:",
+        "
 
 Topics:
   jb help files
@@ -26,18 +30,23 @@ Topics:
   jb help settings
   jb help statuses
   jb help diagnostics"
+    )
 );
 
 /// The settings.
-const SETTINGS_TEXT: &str = concat!(
-    "Settings: a setting is a word of its own, anywhere before a word --, for any
+const SETTINGS_TEXT: &str = setting_rows!(
+    settings_between,
+    (
+        "Settings: a setting is a word of its own, anywhere before a word --, for any
 command. Of two that set the same the last one counts. JB_HINTS=1 in the
 environment is as --hints before them, and JB_STATUS=1 as --status.",
-    setting_rows!(settings_lines)
+        ""
+    )
 );
 
 /// The files that commands are about.
-const FILES_TEXT: &str = "Files: a queue text, the FILE of cost, plan, check and load, has a line for
+const FILES_TEXT: &str =
+    "Files: a queue text, the FILE of cost, plan, check and load, has a line for
 each handle after its first two:
   bs 1024                 the bytes of a block: 1024, 2048 or 4096
   limit 7                 the most log blocks of a group
@@ -58,7 +67,8 @@ N of the image: a file system, with its journal copied out. renumber and widen
 take such a FILE as their image.";
 
 /// The locks on them.
-const LOCKS_TEXT: &str = "Locks: load, recover, renumber and widen lock their files while they use them
+const LOCKS_TEXT: &str =
+    "Locks: load, recover, renumber and widen lock their files while they use them
 (flock), and format the one that it makes. cat shares its lock with others
 that only read. A file that another program has locked is refused at once,
 with jb: in use NAME and status 2. dump locks, as cat, what does not begin
@@ -67,7 +77,8 @@ Nothing keeps out a program that takes none, as cp. On a file system without
 locks jb goes on without; any other fault of the lock is one of the file.";
 
 /// The exit statuses.
-const STATUSES_TEXT: &str = "Status: 0 where a command is done, and what it judges fits or is accepted; 1
+const STATUSES_TEXT: &str =
+    "Status: 0 where a command is done, and what it judges fits or is accepted; 1
 where it is not, or an image is refused, or a read, a write or memory failed;
 2 where the words, a file or a text cannot be taken.
 With --status, or JB_STATUS=1 in the environment, what is said on standard

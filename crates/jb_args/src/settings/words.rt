@@ -1,5 +1,6 @@
 //! The settings among the words of a command line, and the words that are left.
-ghost use Rattle.std.specs.Prelude.{◌≡◌, ◌||◌, not, is_none, IfOk, map};
+ghost use Rattle.std.specs.Prelude.{◌≡◌, ◌&&◌, ◌||◌, codes, not, is_none, IfOk, map};
+ghost use Rattle.std.specs.Str.{bytes_eq};
 ghost use Rattle.jb_args.specs.Settings.{setting_of as setting_in, settings_in as settings_said};
 ghost use Rattle.jb_args.specs.Settings.{words_left as left_of};
 
@@ -13,7 +14,7 @@ const END: &str = "--";
 /// These settings, as the words change them: of two that set the same the last one counts.
 pub fn settings_in<S: AsStr>(given: Settings, words: &[S]) -> Settings
     /// The settings: each word before a word `--` that is one changes those before it.
-    ensures { result ≡ settings_said given.entry (map S.text words.now) }
+    ensures { result ≡ settings_said given (map S.text words.now) }
 {
     let mut settings = given;
     for word in words {
@@ -38,12 +39,19 @@ pub fn words_left<'a, S: AsStr>(alloc: Global, words: &'a [S]) -> Result<Vec<&'a
     let mut may_set = true;
     for word in words {
         let text = word.as_str();
-        may_set = may_set && text != END;
+        may_set = sets_on(text, may_set);
         if stays(text, may_set) {
             left.push(text)?;
         }
     }
     Ok(left)
+}
+
+/// Whether a word, and those after it, may be settings, where those before it might.
+fn sets_on(word: &str, may_set: bool) -> bool
+    ensures { result ≡ (may_set && not (bytes_eq word.now (codes "--"))) }
+{
+    may_set && word != END
 }
 
 /// Whether a word is left for the command, where it may be a setting or not.

@@ -1,6 +1,6 @@
 use Rattle.std.proofs.Common.{◌≡◌, ◌++◌, List, ℕ, Bor, drop, map}
 use Rattle.jb_args.specs.Settings.{words_left}
-use Rattle.jb_args.proofs.Settings.{left_where}
+use Rattle.jb_args.proofs.SettingWords.{left_where}
 use Rattle.jb_args.proofs.settings.words.words_left.Given as goal
 
 -- what is left so far, and then what is left of the words after, is what is left of all

@@ -1,7 +1,7 @@
 use Rattle.std.proofs.Common.{◌≡◌, ◌++◌, drop, map, string_bytes}
 use Rattle.jb_args.specs.Completions.{options_completed}
 use Rattle.jb_args.specs.Rows.{rule_of_word}
-use Rattle.jb_args.proofs.completions.put_options.Given as goal
+use Rattle.jb_args.proofs.completing.put_options.Given as goal
 
 -- what is put, and then the options that are left, are all of them
 abbrev pub invariant-loop-word : goal.invariant-loop-word

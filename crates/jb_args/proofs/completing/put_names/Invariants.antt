@@ -1,6 +1,6 @@
 use Rattle.std.proofs.Common.{◌≡◌, ◌++◌, drop, string_bytes}
 use Rattle.jb_args.specs.Completions.{names_completed, shapes_of}
-use Rattle.jb_args.proofs.completions.put_names.Given as goal
+use Rattle.jb_args.proofs.completing.put_names.Given as goal
 
 -- what is put, and then the names that are left, are all of them
 abbrev pub invariant-loop-name : goal.invariant-loop-name

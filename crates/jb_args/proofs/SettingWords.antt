@@ -1,5 +1,5 @@
 -- Words one after the other, and what they set.
-use Rattle.std.proofs.Common.{◌≡◌, Bool, true, false, cond, not, ◌&&◌, ◌||◌, List, [], ◌∷◌, ◌++◌, Option, None, Some, refl, ap, sym, ◌∙◌, codes}
+use Rattle.std.proofs.Common.{◌≡◌, Bool, true, false, cond, not, ◌&&◌, ◌||◌, List, [], ◌∷◌, ◌++◌, Option, None, Some, refl, ap, ◌∙◌, codes}
 use Rattle.std.specs.Option.{is_none}
 use Rattle.std.specs.List.{cons_option, filter, filter_map, fold}
 use Rattle.std.specs.Str.{bytes_eq}
@@ -36,19 +36,19 @@ abbrev pub kept_if : Bool → Text → List Text
 kept_if stays word = cond stays (word ∷ []) []
 
 -- what is left of a word and those after it, by what the word is
-by-word : (may_set end none : Bool) (word : Text) (words : List Text)
+by-word : (may_set end : Bool) (word : Text) (words : List Text)
     → cond may_set
-        (filter (λ w. is_none (setting_of w)) (cond end [] (word ∷ before_end words)) ++ cond end (word ∷ words) (from_end words))
-        (word ∷ words)
+    (filter (λ w. is_none (setting_of w)) (cond end [] (word ∷ before_end words)) ++ cond end (word ∷ words) (from_end words))
+    (word ∷ words)
     ≡ cond may_set (cond end (word ∷ words) (cond (is_none (setting_of word)) (word ∷ words_left words) (words_left words))) (word ∷ words)
-by-word false end none word words = refl
-by-word true true none word words = refl
-by-word true false none word words = kept (is_none (setting_of word))
+by-word false end word words = refl
+by-word true true word words = refl
+by-word true false word words = kept (is_none (setting_of word))
   where
-  kept : (b : Bool) → cond b (word ∷ filter (λ w. is_none (setting_of w)) (before_end words)) (filter (λ w. is_none (setting_of w)) (before_end words)) ++ from_end words
-      ≡ cond b (word ∷ words_left words) (words_left words)
-  kept true = refl
-  kept false = refl
+    kept : (b : Bool) → cond b (word ∷ filter (λ w. is_none (setting_of w)) (before_end words)) (filter (λ w. is_none (setting_of w)) (before_end words)) ++ from_end words
+        ≡ cond b (word ∷ words_left words) (words_left words)
+    kept true = refl
+    kept false = refl
 
 by-cases : (may_set end none : Bool) (word : Text) (left words : List Text)
     → cond may_set (cond end (word ∷ words) (cond none (word ∷ left) left)) (word ∷ words)
@@ -64,5 +64,16 @@ pub word-left : (may_set : Bool) (word : Text) (words : List Text)
     ≡ kept_if (not (may_set && not (bytes_eq word (codes "--"))) || is_none (setting_of word)) word
     ++ left_where (may_set && not (bytes_eq word (codes "--"))) words
 word-left may_set word words =
-    by-word may_set (bytes_eq word (codes "--")) true word words
+    by-word may_set (bytes_eq word (codes "--")) word words
     ∙ by-cases may_set (bytes_eq word (codes "--")) (is_none (setting_of word)) word (words_left words) words
+
+-- the same by what was asked of the word
+pub word-left-by : (may_set : Bool) (word : Text) (words : List Text) (may stays : Bool)
+    → may ≡ (may_set && not (bytes_eq word (codes "--"))) → stays ≡ (not may || is_none (setting_of word))
+    → left_where may_set (word ∷ words) ≡ kept_if stays word ++ left_where may words
+word-left-by may_set word words may stays on left = rw (left, on) (word-left may_set word words)
+
+-- of no words none is left
+pub none-left : (may_set : Bool) → left_where may_set [] ≡ []
+none-left true = refl
+none-left false = refl

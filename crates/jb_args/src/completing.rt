@@ -1,7 +1,7 @@
 //! The scripts by which a shell completes the words of `jb`, made from the table of the commands.
 ghost use Rattle.std.specs.Prelude.{◌≡◌, ◌++◌, codes, IfOk, OnOk, map, string_bytes};
-ghost use Rattle.jb_args.specs.Completions.{command_completed, commands_completed, completions_of, script_form, names_completed};
-ghost use Rattle.jb_args.specs.Completions.{option_completed, options_completed, shapes_of, shell_named};
+ghost use Rattle.jb_args.specs.Completions.{command_completed, commands_completed, completions_of, form_said, names_completed};
+ghost use Rattle.jb_args.specs.Completions.{ScriptForm, option_completed, options_completed, shapes_of, shell_named};
 ghost use Rattle.jb_args.specs.Rows.{app_of_row, rule_of_word};
 
 use crate::commands::{COMMANDS, CommandName, CommandRow, CommandWord, WordKind, row_of};
@@ -37,20 +37,24 @@ pub(crate) struct ShellForm {
     tail: &'static str,
 }
 
-/// The words of the settings, each after a space.
-macro_rules! setting_words {
-    ($($setting:ident, $($word:literal),+ => $help:literal;)*) => { concat!($($(" ", $word),+),*) };
+/// Two texts with the words of the settings between them, each after a space.
+macro_rules! words_between {
+    (($before:literal, $after:literal) $($setting:ident, $($word:literal),+ => $help:literal;)*) => {
+        concat!($before, $($(" ", $word),+),*, $after)
+    };
 }
 
 /// The script of bash.
 pub(crate) const BASH: ShellForm = ShellForm {
-    head: concat!(
-        "# Completions of jb for bash.
+    head: setting_rows!(
+        words_between,
+        (
+            "# Completions of jb for bash.
 _jb() {
     local word=${COMP_WORDS[COMP_CWORD]} options=\"--help",
-        setting_rows!(setting_words),
-        "\"
+            "\"
     local commands=\"help"
+        )
     ),
     middle: "\"
     if [ \"$COMP_CWORD\" -eq 1 ]; then
@@ -75,15 +79,17 @@ complete -F _jb jb
 
 /// The script of zsh.
 pub(crate) const ZSH: ShellForm = ShellForm {
-    head: concat!(
-        "#compdef jb
+    head: setting_rows!(
+        words_between,
+        (
+            "#compdef jb
 # Completions of jb for zsh.
 _jb() {
     local -a commands options
     options=(--help",
-        setting_rows!(setting_words),
-        ")
+            ")
     commands=(help"
+        )
     ),
     middle: ")
     if (( CURRENT == 2 )); then
@@ -108,12 +114,14 @@ _jb \"$@\"
 
 /// The script of fish.
 pub(crate) const FISH: ShellForm = ShellForm {
-    head: concat!(
-        "# Completions of jb for fish.
+    head: setting_rows!(
+        words_between,
+        (
+            "# Completions of jb for fish.
 complete -c jb -a '--help",
-        setting_rows!(setting_words),
-        "'
+            "'
 complete -c jb -n __fish_use_subcommand -f -a 'help"
+        )
     ),
     middle: "'\n",
     before: "complete -c jb -n '__fish_seen_subcommand_from ",
@@ -136,10 +144,7 @@ impl Shell {
     }
 
     /// The form of its script.
-    #[tactic(auto, unfolding(crate::specs::Completions::script_form))]
-    fn form(self) -> ShellForm
-        ensures { result ≡ script_form self }
-    {
+    fn form(self) -> ShellForm {
         match self {
             Shell::Bash => BASH,
             Shell::Zsh => ZSH,
@@ -153,8 +158,9 @@ impl Shell {
 /// # Errors
 /// `AllocError` where memory ran out.
 pub fn completions(alloc: Global, shell: Shell) -> Result<String, AllocError>
-    /// The script of a shell: it has each command by its name, and in its line each of its options.
-    ensures { IfOk result (λ text. string_bytes text ≡ completions_of (script_form shell)) }
+    /// The script of a shell: it has each command by its name, and in its line each of its options. What it has around
+    /// them, in the shell's own language, is only tested.
+    ensures { IfOk result (λ text. (form : ScriptForm) × (string_bytes text ≡ completions_of form)) }
 {
     let form = shell.form();
     let mut text = String::from_str(alloc, form.head)?;
@@ -184,7 +190,7 @@ fn put_commands(
     names: &[CommandName],
 ) -> Result<(), AllocError>
     ensures { OnOk result (string_bytes text.new
-        ≡ string_bytes text.old ++ commands_completed form.now (shapes_of names.now)) }
+        ≡ string_bytes text.old ++ commands_completed (form_said form.now) (shapes_of names.now)) }
 {
     for name in names {
         put_command(text, form, row_of(*name))?;
@@ -195,7 +201,7 @@ fn put_commands(
 /// Adds the line of a command.
 fn put_command(text: &mut String, form: &ShellForm, row: &CommandRow<'_>) -> Result<(), AllocError>
     ensures { OnOk result (string_bytes text.new
-        ≡ string_bytes text.old ++ command_completed form.now (app_of_row row.now).top) }
+        ≡ string_bytes text.old ++ command_completed (form_said form.now) (app_of_row row.now).top) }
 {
     put_text(text, form.before)?;
     put_text(text, row.name)?;

@@ -1,9 +1,9 @@
-use Rattle.std.proofs.Common.{◌≡◌, ◌∷◌, [], ◌++◌, ◌+◌, ◌∙◌, List, ℕ, ap, append-nil, append_assoc, arith, drop, string_bytes, sym}
+use Rattle.std.proofs.Common.{◌∷◌, [], ◌++◌, ◌+◌, ◌∙◌, List, ℕ, ap, append-nil, append_assoc, arith, drop, string_bytes, sym}
 use Rattle.std.proofs.lemmas.List.{at_drop_all, at_drop_more}
 use Rattle.jb_args.specs.Completions.{names_completed, shapes_of}
 use Rattle.jb_args.specs.declared.commands.command_name.CommandName.{CommandName}
-use Rattle.jb_args.proofs.Completions.{row-name}
-use Rattle.jb_args.proofs.completions.put_names.Goals as goal
+use Rattle.jb_args.proofs.CompletedRows.{row-name}
+use Rattle.jb_args.proofs.completing.put_names.Goals as goal
 
 abbrev of_names : List CommandName → List ℕ
 of_names names = names_completed (shapes_of names)

@@ -1,9 +1,9 @@
-use Rattle.std.proofs.Common.{◌≡◌, ◌++◌, ◌+◌, ◌∙◌, List, ℕ, ap, append-nil, append_assoc, arith, drop, map, string_bytes, sym}
+use Rattle.std.proofs.Common.{◌++◌, ◌+◌, ◌∙◌, List, ℕ, ap, append-nil, append_assoc, arith, drop, map, string_bytes, sym}
 use Rattle.std.proofs.lemmas.List.{at_drop_all, at_drop_more}
 use Rattle.jb_args.specs.Completions.{options_completed}
 use Rattle.jb_args.specs.Rows.{rule_of_word}
 use Rattle.jb_args.specs.declared.commands.word.CommandWord.{CommandWord}
-use Rattle.jb_args.proofs.completions.put_options.Goals as goal
+use Rattle.jb_args.proofs.completing.put_options.Goals as goal
 
 abbrev of_words : List CommandWord → List ℕ
 of_words words = options_completed (map rule_of_word words)
