@@ -1,8 +1,8 @@
-ghost use Rattle.std.specs.Prelude.{◌≡◌, ◌^◌, ◌<◌, IfOk, Ok, length};
+ghost use Rattle.std.specs.Prelude.{◌≡◌, ◌^◌, ◌<◌, ◌∷◌, [], IfOk, None, Ok, codes, length};
 ghost use Rattle.jb_queue.specs.QueueText.{value_of};
 ghost use Rattle.jb_handle.specs.Size.{IsWithinSize};
 ghost use Rattle.jb_commands.specs.AnswerSaid.{said};
-ghost use Rattle.jb_json.specs.Facts.{facts_of};
+ghost use Rattle.jb_json.specs.Facts.{Counted, Listed, Named, Sparse, facts_of};
 ghost use Rattle.jb_json.specs.Objects.{json_line};
 ghost use Rattle.jb_commands.specs.Plan.{IsBestCertOf, PlanSays, SaysPlan, cert_facts, cert_in, status_of_plan};
 ghost use Rattle.jb_commands.specs.Plan.{told_as};
@@ -72,18 +72,44 @@ fn cert_bytes(alloc: Global, form: AnswerForm, cert: &Cert) -> Result<Vec<u8>, M
 fn cert_json(alloc: Global, cert: &Cert) -> Result<Vec<u8>, Memory>
     ensures { IfOk result (λ out. out.items ≡ json_line (cert_facts cert.now)) }
 {
-    let prices = Field::Sparse("prices", cert.prices.as_slice());
     match &cert.answer {
         CertAnswer::Cut { bounds, total } => {
-            let ends = numbers_of(alloc, bounds.as_slice())?;
-            let cut = Field::Listed("cut", "", ends.as_slice());
-            json_bytes(alloc, &[prices, cut, Field::Counted("total", *total)])
+            let cut = numbers_of(alloc, bounds.as_slice())?;
+            cut_json(alloc, cert.prices.as_slice(), cut.as_slice(), *total)
         }
-        CertAnswer::NoCut => {
-            let (cut, total) = (Field::Named("cut", None), Field::Named("total", None));
-            json_bytes(alloc, &[prices, cut, total])
-        }
+        CertAnswer::NoCut => no_cut_json(alloc, cert.prices.as_slice()),
     }
+}
+
+/// A certificate with a cut in JSON.
+fn cut_json<'b>(
+    alloc: Global,
+    prices: &'b [Option<u64>],
+    cut: &'b [u64],
+    total: u64,
+) -> Result<Vec<u8>, Memory>
+    ensures { IfOk result (λ out. out.items ≡ json_line (Sparse (codes "prices") prices.now
+        ∷ Listed (codes "cut") [] cut.now ∷ Counted (codes "total") total ∷ [])) }
+{
+    let fields = [
+        Field::Sparse("prices", prices),
+        Field::Listed("cut", "", cut),
+        Field::Counted("total", total),
+    ];
+    json_bytes(alloc, &fields)
+}
+
+/// A certificate without a cut in JSON.
+fn no_cut_json(alloc: Global, prices: &[Option<u64>]) -> Result<Vec<u8>, Memory>
+    ensures { IfOk result (λ out. out.items ≡ json_line (Sparse (codes "prices") prices.now
+        ∷ Named (codes "cut") None ∷ Named (codes "total") None ∷ [])) }
+{
+    let fields = [
+        Field::Sparse("prices", prices),
+        Field::Named("cut", None),
+        Field::Named("total", None),
+    ];
+    json_bytes(alloc, &fields)
 }
 
 /// These fields in JSON.
