@@ -4,11 +4,11 @@ ghost use Rattle.jb_commands.specs.ListText.{reads_list};
 ghost use Rattle.jb_queue.specs.QueueLines.{queue_in};
 ghost use Rattle.jb_args.specs.Command.{load_said};
 ghost use Rattle.jb_tool.specs.Load.{EndsOfLoad, HasThreads, AreOptionsOf, LoadsApart, LoadsQueue, LoadsText};
-ghost use Rattle.jb_tool.specs.Load.{JudgesLoad, LoadsOpened, RunsLoad, load_fault};
+ghost use Rattle.jb_tool.specs.Load.{JudgesLoad, LoadsOpened, RunsLoad};
 
-use crate::load_report::{LoadDone, LoadReport};
+use crate::load_report::{LoadDone, LoadReport, fault_of};
 use crate::own_homes::own_touched;
-use crate::{LoadFault, LoadOptions, load_on};
+use crate::{LoadOptions, load_on};
 use jb_args::{AnswerForm, LoadWords, OptionName, Settings};
 use jb_block::Stamp;
 use jb_commands::{
@@ -17,7 +17,6 @@ use jb_commands::{
 };
 use jb_disk::{Disk, FileDisk, FixedClock, Start, Unknown};
 use jb_image::{ExtentsFault, ImageDisk, JournalUse};
-use jb_journal::OpenFault;
 use jb_queue::{QueueLines, read_lines};
 use jb_super::Checksums;
 use std::fs::File;
@@ -53,12 +52,8 @@ pub(crate) fn run_load<
 {
     let done = load_files::<Unknown, Unknown, R, I>(rt, load, settings.form, input);
     let told = done.tell(settings.form, out, err);
-    close(
-        settings.form,
-        told,
-        TwoFiles::of(load.image, load.journal),
-        err,
-    )
+    let files = TwoFiles::of(load.image, load.journal);
+    close(settings.form, told, files, err)
 }
 
 /// Loads the queue text of one file into the image that another one is. Where the journal is not at its front, the
@@ -287,20 +282,4 @@ fn load_options(load: LoadWords<'_>) -> Option<LoadOptions>
         hold: load.hold,
         checkpoint: load.checkpoint,
     })
-}
-
-/// What a fault of a load is reported as.
-fn fault_of<'a>(fault: LoadFault) -> CommandFault<'a>
-    ensures { result ≡ load_fault fault }
-{
-    match fault {
-        LoadFault::BlockSize => CommandFault::BlockSize,
-        LoadFault::Open(OpenFault::DeviceFault) => CommandFault::DeviceFault,
-        LoadFault::Open(OpenFault::Super(fault)) => CommandFault::Super(fault),
-        LoadFault::Open(OpenFault::NeedsRecovery) => CommandFault::NeedsRecovery,
-        LoadFault::Open(OpenFault::NumbersSpent) => CommandFault::NumbersSpent,
-        LoadFault::Open(OpenFault::Memory) => CommandFault::Memory,
-        LoadFault::Memory => CommandFault::Memory,
-        LoadFault::Accounts => CommandFault::Accounts,
-    }
 }

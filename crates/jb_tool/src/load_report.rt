@@ -1,12 +1,14 @@
 //! What came of a load, and how it is told.
-ghost use Rattle.jb_tool.specs.Load.{TellsLoadReport};
+ghost use Rattle.std.specs.Prelude.{◌≡◌};
+ghost use Rattle.jb_tool.specs.Load.{TellsLoadReport, load_fault};
 
 use crate::hints::load_hint;
-use crate::{Loaded, tell_loaded};
+use crate::{LoadFault, Loaded, tell_loaded};
 use jb_args::AnswerForm;
 use jb_commands::{CommandFault, CommandOutput, ProgramEnd, tell};
 use jb_disk::{FileDisk, Start, Unknown};
 use jb_image::ImageDisk;
+use jb_journal::OpenFault;
 use std::io::Write;
 
 /// What a load has to say once its image is closed.
@@ -76,5 +78,21 @@ fn tell_report<'a, O: Write, E: Write>(
             Ok(ProgramEnd { status, hint })
         }
         LoadReport::Text(answer) => tell(answer, out, err),
+    }
+}
+
+/// What a fault of a load is reported as.
+pub(crate) fn fault_of<'a>(fault: LoadFault) -> CommandFault<'a>
+    ensures { result ≡ load_fault fault }
+{
+    match fault {
+        LoadFault::BlockSize => CommandFault::BlockSize,
+        LoadFault::Open(OpenFault::DeviceFault) => CommandFault::DeviceFault,
+        LoadFault::Open(OpenFault::Super(fault)) => CommandFault::Super(fault),
+        LoadFault::Open(OpenFault::NeedsRecovery) => CommandFault::NeedsRecovery,
+        LoadFault::Open(OpenFault::NumbersSpent) => CommandFault::NumbersSpent,
+        LoadFault::Open(OpenFault::Memory) => CommandFault::Memory,
+        LoadFault::Memory => CommandFault::Memory,
+        LoadFault::Accounts => CommandFault::Accounts,
     }
 }

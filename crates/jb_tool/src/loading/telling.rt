@@ -28,9 +28,9 @@ pub(crate) enum LoadPart {
 }
 
 /// Writes what a load did, part by part and without memory, and gives its status. As text, its counts on `out`, and on
-/// `err` the handle that was refused, and how the committer and the checkpointer ended where they did not end `Shut`; in
-/// JSON all of it on `out`, with what to do where there is a hint. The status is 0 where all ended well and every handle
-/// of the queue is settled, and otherwise 1. A fault of `err` is ignored.
+/// `err` the handle that was refused, and how the committer and the checkpointer ended where they did not end `Shut`.
+/// In JSON all of it on `out`, with what to do where there is a hint. The status is 0 where all ended well and every
+/// handle of the queue is settled, and otherwise 1. A fault of `err` is ignored.
 ///
 /// # Errors
 /// `WriteFault` where `out` took only the beginning of its line; then nothing was written to `err`.
