@@ -52,7 +52,7 @@ pub fn run_program<
     /// it the second line of its hint follows, as far as standard error took it.
     ensures ends { EndsProgram (settings_given (λ w. map S.text w.now) given words.entry) terminals.err
         (λ old new ended. MatchResult words.entry
-        (λ ws. AnswersGiven (settings_given (λ w. map S.text w.now) given.entry words.entry).form
+        (λ ws. AnswersGiven (settings_given (λ w. map S.text w.now) given words.entry).form
         (map S.text ws.now) terminals.input (I.remaining input.old) old new ended)
         (λ kind. RefusesKind kind old new ended))
         (record { out = O.contents out.old; err = E.contents err.old })

@@ -16,6 +16,6 @@ returns g c =
               | else-at_terminal-via-then-at_terminal+else-is_empty w ↦ absurd (false≢true (sym w.if-is_empty.false ∙ w.is_empty.ensures ∙ ap (λ (ws : List (Bor (List ℕ))). eqb (length ws) 0) empty))
               | else-at_terminal-via-else-at_terminal w ↦ absurd (false≢true (sym w.if-at_terminal.false ∙ at))
             ];
-        run = λ which. runs-texts (λ (word : Bor (List ℕ)). word.now) words _ _ _ c.run.result ran.bare ran.asked ran.refused;
+        run = λ which. runs-texts c.args.settings.form (λ (word : Bor (List ℕ)). word.now) words _ _ _ c.run.result ran.bare ran.asked ran.refused;
       };
     }

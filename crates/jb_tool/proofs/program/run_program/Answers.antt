@@ -14,7 +14,7 @@ returns g c =
       ends = (
         ended,
         record { out = g.O.Write.contents c.answered-ended.new.out; err = mid },
-        c.answered-ended.ensures.answers,
+        (rw c.settings_of-settings.ensures at c.answered-ended.ensures.answers),
         subst (λ (s : Settings). c.finish.result ≡ exit_status s.statuses ended) c.settings_of-settings.ensures c.finish.ensures.status,
         refl,
         subst (λ (s : Settings). Advises (is_advised s c.args.terminals.err) ended.hint mid new) c.settings_of-settings.ensures c.finish.ensures.advises,
