@@ -17,7 +17,7 @@ def is_of(value, schema):
         return is_of(value, DEFINED[schema["$ref"].rpartition("/")[2]])
     if "anyOf" in schema and not any(is_of(value, one) for one in schema["anyOf"]):
         return False
-    if "const" in schema and value is not schema["const"] or "enum" in schema and value not in schema["enum"]:
+    if "const" in schema and (type(value), value) != (type(schema["const"]), schema["const"]) or "enum" in schema and value not in schema["enum"]:
         return False
     if "type" in schema and type(value) is not TYPES[schema["type"]]:
         return False
@@ -44,6 +44,16 @@ def by_jq(text):
         return None
     ran = subprocess.run([JQ, "-c", "."], input=text.encode(), capture_output=True)
     return [json.loads(line) for line in ran.stdout.decode().splitlines()] if ran.returncode == 0 else "jq refuses it"
+
+
+def are_json(kind, wanted):
+    """The same of lines with these values, one each."""
+
+    def judge(text):
+        lines = text.splitlines(True)
+        return len(lines) == len(wanted) and all(is_json(kind, value)(line) for value, line in zip(wanted, lines))
+
+    return judge
 
 
 def is_json(kind, wanted):

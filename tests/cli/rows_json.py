@@ -2,7 +2,7 @@
 import re
 
 from images import image, superblock
-from json_text import is_json
+from json_text import are_json, is_json
 from rows import BAD_QUEUES, BAD_SUPERS, BASIC, CLEAN, CLEARED, FOUR, FULL, HANDLE, MADE, OLD, OUT_OF_RANGE, PLANS, RECOVERED, ROWS, SMALL, THREE, TWO_COPIES
 from rows import WIDENED, queue, row
 from rows_load import LOADED
@@ -82,6 +82,33 @@ row("load a q --hold --json", 1, loaded(1, 2, 0, 0, 0, commit="Aborted", hint="a
     files={"a": image(SMALL), "q": queue(HANDLE)}, how="trap '' XFSZ; ulimit -f 1", after={"a": image(superblock(2, 1))})
 row("load a q --json", 1, err=fault("BlockSize"), files={"a": image(SMALL), "q": queue(HANDLE, first="bs 2048")})
 row("load a q --json", 1, err=fault("WriteFault"), files={"a": image(SMALL), "q": queue(HANDLE)}, to="full", after={"a": LOADED})
+
+# ---- dumps: each line of the text as an object ----------------------------------------------------------------------------------
+
+BITS = ("compat", "incompat", "rocompat", "checksum")
+
+
+def value_of(kind, name, value):
+    if (kind, name) == ("revoke", "homes"):
+        return [int(home) for home in value.split(",")] if value != "-" else []
+    return int(value) if value.isdigit() and name not in BITS and (kind, name) != ("copy", "head") else value
+
+
+def entry(line):
+    """The object of a line of a dump."""
+    words, members = line.split(" "), {}
+    if words[0].isdigit():
+        members["block"] = int(words.pop(0))
+    kind = members["kind"] = words.pop(0)
+    for word in words:
+        name, mark, value = word.partition("=")
+        members.update({name: value_of(kind, name, value)} if mark else {"uuid": word} if kind == "uuid" else {word: True})
+    return members
+
+
+for one in [one for one in ROWS if one["words"].startswith("dump ") and " -h" not in one["words"] and "--help" not in one["words"]
+            and not one["status"] and one["to"] == "pipe" and isinstance(one["out"], str)]:
+    ROWS.append({**one, "words": "--json " + one["words"], "out": are_json("dump", [entry(line) for line in one["out"].splitlines()])})
 
 # ---- faults ------------------------------------------------------------------------------------------------------------------
 
