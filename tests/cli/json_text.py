@@ -38,12 +38,17 @@ def members(pairs):
     return dict(pairs)
 
 
-def by_jq(text):
-    """What jq reads in a text, numbers as it has them; what python reads where there is no jq."""
+def rounded(text):
+    """A text's value, its numbers as jq 1.6 has them: as doubles, which are whole up to 2^53."""
+    return json.loads(text, parse_int=float)
+
+
+def is_by_jq(text):
+    """Whether jq reads the same value in a text as python does; where there is no jq, nothing is asked of it."""
     if not JQ:
-        return None
+        return True
     ran = subprocess.run([JQ, "-c", "."], input=text.encode(), capture_output=True)
-    return [json.loads(line) for line in ran.stdout.decode().splitlines()] if ran.returncode == 0 else "jq refuses it"
+    return ran.returncode == 0 and [rounded(line) for line in ran.stdout.decode().split("\n")[:-1]] == [rounded(text)]
 
 
 def are_json(kind, wanted):
@@ -66,6 +71,6 @@ def is_json(kind, wanted):
             return False
         compact = json.dumps(value, separators=(",", ":"), ensure_ascii=False) + "\n"
         return (value == wanted and list(value) == list(wanted) and text == compact and is_of(value, DEFINED[kind])
-                and by_jq(text) in (None, [value]))
+                and is_by_jq(text))
 
     return judge

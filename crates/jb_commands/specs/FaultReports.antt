@@ -27,8 +27,8 @@ facts_with words ns reason file hint =
 abbrev pub told_facts : List ℕ → Numbers → Option (List ℕ) → List ℕ → List Fact
 told_facts words ns file hint = facts_with words (fault_numbers ns) (spelled (fault_parts words ns)) file hint
 
--- a fault of a command: the name, the numbers and the file of its line, and what its second line says, with this text of
--- the system's
+-- a fault of a command: the name, the numbers and the file of its line, and what its second line says, with this text
+-- of the system's
 abbrev pub fault_facts : Option PairNames → List ℕ → CommandFault → List Fact
 fault_facts names system fault =
     told_facts (fault_words fault).0 (fault_words fault).1 (named names fault) (hint_text system (hint_of fault))

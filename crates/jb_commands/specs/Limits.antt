@@ -15,7 +15,8 @@ cert_limit = 150994944
 -- what `jb plan` writes as text for a queue text within its limit has at most nine times the bytes of the text
 abbrev pub PlansAreWithin : Type 0
 PlansAreWithin =
-    (text : List ℕ) (words : Said) → length text ≤ text_limit → PlanSays Text text words → length words.out ≤ 9 * length text
+    (text : List ℕ) (words : Said) → length text ≤ text_limit → PlanSays Text text words
+    → length words.out ≤ 9 * length text
 
 -- what `plan` prints for a queue text within its limit is within the limit of a certificate
 abbrev pub PlansAreReadable : Type 0

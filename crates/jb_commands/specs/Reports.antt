@@ -14,8 +14,8 @@ use Rattle.jb_commands.specs.declared.report.Report.{Report}
 use Rattle.jb_commands.specs.declared.report.Report.TheVariants.{Said, Formatted, Foreseen, Recovered, Renumbered}
 use Rattle.jb_commands.specs.declared.report.Report.TheVariants.{Widened}
 
--- it is on standard output in this form, with status 0, or standard output failed part of the way; of a command that has
--- said all itself, its end
+-- it is on standard output in this form, with status 0, or standard output failed part of the way; of a command that
+-- has said all itself, its end
 abbrev pub TellsReport : AnswerForm → Report → Option (List ℕ) → Option (List ℕ) → Result ProgramEnd CommandFault
     → Type 0
 TellsReport form (Said ended) out_old out_new end = (end ≡ Ok ended) × (out_new ≡ out_old)

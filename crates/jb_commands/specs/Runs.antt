@@ -106,14 +106,17 @@ module _ {S T : Type 0} {start : Starts S} {other : Starts T} where
       → Option (ImageDisk (FileDisk S start) (FileDisk T other)) → Result Report CommandFault → Type 0
   EndsAsked form (AsksCost file) input old new image end =
       SaidAll (EndsAsSaid (λ text words. cost_said form text ≡ Some words) file input old new) image end
-  EndsAsked form (AsksPlan file) input old new image end = SaidAll (EndsAsSaid (PlanSays form) file input old new) image end
-  EndsAsked form (AsksCheck file cert) input old new image end = SaidAll (EndsOfTwo (CheckSays form) file cert old new) image end
+  EndsAsked form (AsksPlan file) input old new image end =
+      SaidAll (EndsAsSaid (PlanSays form) file input old new) image end
+  EndsAsked form (AsksCheck file cert) input old new image end =
+      SaidAll (EndsOfTwo (CheckSays form) file cert old new) image end
   EndsAsked form (AsksDump file words) input old new image end =
       DumpedAll (EndsOfDumpIn start other form words file input old.out new.out) image end × (new.err ≡ old.err)
   EndsAsked form (AsksFormat name options) input old new image end = EndsOfFormat name options image end × (new ≡ old)
   EndsAsked form (AsksCat name words) input old new image end =
       EndsOfCat name words input old.out new.out image end × (new.err ≡ old.err)
-  EndsAsked form (AsksRecover name words) input old new image end = EndsOfRecover name words input image end × (new ≡ old)
+  EndsAsked form (AsksRecover name words) input old new image end =
+      EndsOfRecover name words input image end × (new ≡ old)
   EndsAsked form (AsksRenumber name extents) input old new image end =
       EndsOfChange Renumbers IsRenumbering RenumbersAs ReportsRenumbered name extents input image end × (new ≡ old)
   EndsAsked form (AsksWiden name extents) input old new image end =

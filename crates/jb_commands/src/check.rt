@@ -30,7 +30,7 @@ pub fn check_answer(
     claim: &[u8],
 ) -> Result<CommandOutput, Memory>
     requires { IsWithinSize queue.now.handles.items }
-    /// What `check` prints is the checker's verdict, or the first fault of the certificate's text, and in JSON the same;
+    /// What `check` prints is the checker's verdict, or the first fault of the certificate's text, in JSON the same;
     /// it accepts only where the cut and the total are right.
     ensures said { IfOk result (λ answer. SaysCheck form (value_of queue.now) claim.now (said answer)) }
 {

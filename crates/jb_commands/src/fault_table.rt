@@ -15,7 +15,7 @@ use crate::streams::{Numbers, words_of_sum};
 use jb_args::Hint;
 
 /// Calls a macro with the table, after the names that are given for it. A row is a fault: its name and its numbers, as
-/// its line and its JSON have them; the file that is named after them; the exit status; and what a second line is about.
+/// its line and its JSON have them; the file named after them; the exit status; and what a second line is about.
 /// The file is the fault's own, or, of a command over two files, that of the journal or of the image.
 macro_rules! fault_rows {
     ($form:ident $(, $with:ident)+) => {

@@ -36,4 +36,5 @@ HaveFieldNumbers (fact ∷ facts) = HasFieldNumbers fact × HaveFieldNumbers fac
 -- doubled or changed, whatever bytes its words have
 abbrev pub ObjectsReadBack : Type 0
 ObjectsReadBack =
-    (facts : List Fact) → HaveFieldNumbers facts → document (print (json_tokens (object_of facts))) ≡ Some (object_of facts)
+    (facts : List Fact) → HaveFieldNumbers facts
+    → document (print (json_tokens (object_of facts))) ≡ Some (object_of facts)

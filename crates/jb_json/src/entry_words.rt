@@ -3,7 +3,8 @@ ghost use Rattle.std.specs.Prelude.{◌≡◌, ◌++◌, codes};
 ghost use Rattle.json.specs.Print.{quoted};
 ghost use Rattle.jb_text.specs.Parts.{number_of};
 ghost use Rattle.jb_text.specs.Puts.{Puts};
-ghost use Rattle.jb_json.specs.Entries.{alone_text, entry_value, is_digits as is_said_digits, is_numbers as is_said_numbers};
+ghost use Rattle.jb_json.specs.Entries.{alone_text, entry_value};
+ghost use Rattle.jb_json.specs.Entries.{is_digits as is_said_digits, is_numbers as is_said_numbers};
 ghost use Rattle.jb_json.specs.Entries.{number_or_text, numbers_said, named_word, entry_word};
 
 use crate::numbers::put_digits;

@@ -83,7 +83,8 @@ TellsLoadReport form (ReportsLoaded loaded homes) old new end =
 TellsLoadReport form (ReportsText answer) old new end = Tells (said answer) old new end
 
 -- what a load ended with is told, or it ended with a fault, and then nothing is written
-abbrev pub TellsLoadEnd : AnswerForm → Result LoadReport CommandFault → Outputs → Outputs → Result ProgramEnd CommandFault → Type 0
+abbrev pub TellsLoadEnd : AnswerForm → Result LoadReport CommandFault → Outputs → Outputs
+    → Result ProgramEnd CommandFault → Type 0
 TellsLoadEnd form (Ok report) old new end = TellsLoadReport form report old new end
 TellsLoadEnd form (Err fault) old new end = (end ≡ Err fault) × (new ≡ old)
 
@@ -123,7 +124,8 @@ module _ {S T : Type 0} {start : Starts S} {other : Starts T} where
       ⊎ ((is_within disk ≡ true) × (image ≡ Some disk) × (end ≡ Err Memory))
 
   -- the queue of a text was loaded; or the text's first fault is told, and the image is as it was opened
-  abbrev pub LoadsRead : AnswerForm → LoadOptions → ℕ → ImageDisk (FileDisk S start) (FileDisk T other) → Result Queue QueueFault
+  abbrev pub LoadsRead : AnswerForm → LoadOptions → ℕ → ImageDisk (FileDisk S start) (FileDisk T other)
+      → Result Queue QueueFault
       → Option (ImageDisk (FileDisk S start) (FileDisk T other)) → Result LoadReport CommandFault → Type 0
   LoadsRead form options homes disk (Ok queue) image end = LoadsApart options homes disk queue image end
   LoadsRead form options homes disk (Err fault) image end =
@@ -172,7 +174,8 @@ module _ {S T : Type 0} {start : Starts S} {other : Starts T} where
 
   -- the image was not opened, and nothing was done; or it was, wherever its journal is, in blocks of the size that its
   -- first bytes say, with this many home blocks, and it was judged, and then the text came
-  abbrev pub EndsOfLoad : AnswerForm → Loading → Option (List ℕ) → Option (ImageDisk (FileDisk S start) (FileDisk T other))
+  abbrev pub EndsOfLoad : AnswerForm → Loading → Option (List ℕ)
+      → Option (ImageDisk (FileDisk S start) (FileDisk T other))
       → Result LoadReport CommandFault → Type 0
   EndsOfLoad form load input image end =
       ((fault : CommandFault) × (image ≡ None) × (end ≡ Err fault) × IsLoadUnopened start other load input fault)

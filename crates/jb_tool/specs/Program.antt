@@ -39,7 +39,8 @@ Helps err_old err_new ended =
 
 -- what the program answers to words that are no settings: at a terminal its help where there are none, and else a run
 -- with them
-pub record AnswersWords (form : AnswerForm) (words : List (List ℕ)) (at_terminal : Bool) (input : Option (List ℕ)) (old new : Outputs)
+pub record AnswersWords (form : AnswerForm) (words : List (List ℕ)) (at_terminal : Bool) (input : Option (List ℕ))
+    (old new : Outputs)
     (ended : ProgramEnd) : Type 0 where
   pub help : words ≡ [] → at_terminal ≡ true → Helps old.err new.err ended × (new.out ≡ old.out)
   pub run : (words ≢ []) ⊎ (at_terminal ≡ false) → RunsWords form words input old new ended

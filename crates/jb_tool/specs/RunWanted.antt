@@ -33,7 +33,8 @@ EndsOfCompletions None out_old out_new end = (end ≡ Err (BadOption ShellName))
 abbrev pub RunsCompletions : AnswerForm → List ℕ → Outputs → Outputs → ProgramEnd → Type 0
 RunsCompletions form name old new ended =
     (end : Result ProgramEnd CommandFault) × (mid : Outputs)
-    × EndsOfCompletions (shell_named name) old.out mid.out end × (mid.err ≡ old.err) × Closes form None end mid new ended
+    × EndsOfCompletions (shell_named name) old.out mid.out end × (mid.err ≡ old.err)
+    × Closes form None end mid new ended
 
 -- the whole run of the command that is wanted, in this form
 abbrev pub RunsWanted : AnswerForm → Wanted → Option (List ℕ) → Outputs → Outputs → ProgramEnd → Type 0
