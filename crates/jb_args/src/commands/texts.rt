@@ -89,7 +89,8 @@ Where FILE begins with no journal, and is a file system of ext2, ext3 or ext4, i
 
 With --summary the journal at a glance is printed in place of the lines, whatever the other options say: how
 much of the log is used, the blocks of a transaction, the copies and the homes that are written most, the
-revokes, and when the first and the last transaction were committed.
+revokes, and when the first and the last transaction were committed. With --summary --draw the log is drawn
+after them, each column for so many blocks, and the homes that are written most.
 
 With --checksums a journal with checksums (CSUM_V2 or CSUM_V3) is taken, too. It is refused where a descriptor,
 revoke or commit block of a committed transaction has a wrong one (jb: BadChecksum); the line of a copy ends in
@@ -106,7 +107,7 @@ fails, 2 where a file cannot be opened, or is in use.
 Examples:
   jb dump journal.bin
   jb dump journal.bin --home 5 --last 2     # what the last two transactions do to home block 5
-  jb dump journal.bin --summary
+  jb dump journal.bin --summary --draw
   jb dump fs.img --super
   jb dump fs.img --checksums --ring";
 

@@ -175,6 +175,7 @@ pub(crate) fn choice_of(options: DumpOptions<'_>) -> DumpFilter
         last: options.last,
         superblock: options.superblock,
         summary: options.summary,
+        drawn: options.drawn,
         checksums: options.checksums,
     }
 }
