@@ -4,3 +4,4 @@ pub mod Command
 pub mod Faults
 pub mod PlainCommand
 pub mod Rows
+pub mod Settings

@@ -8,6 +8,7 @@ mod hint;
 mod option_name;
 mod plain;
 mod second;
+mod settings;
 mod table;
 mod words;
 
@@ -18,4 +19,7 @@ pub use hint::Hint;
 pub use option_name::OptionName;
 pub use plain::{CatOptions, DumpOptions, FormatOptions, Plain, RecoverOptions};
 pub use second::put_hint;
+pub use settings::{
+    AnswerForm, Detail, ProgressLine, SecondLine, Settings, Statuses, settings_in, words_left,
+};
 pub use words::{parse, show_help};

@@ -19,7 +19,7 @@ use crate::names::{TwoFiles, files_of};
 use crate::program_end::ProgramEnd;
 use crate::streams::{CERT_LIMIT, told};
 use crate::{check_answer, cost_answer, fault_answer, plan_answer};
-use jb_args::Plain;
+use jb_args::{Plain, Settings};
 use jb_disk::{Start, Unknown};
 use jb_queue::{QueueText, read_queue};
 use std::fs::File;
@@ -159,6 +159,7 @@ fn check_file<'a, R: Files + AllocGlobal, O: Write, E: Write>(
 pub fn run_plain<R: Files<File = File> + AllocGlobal, I: Read, O: Write, E: Write>(
     rt: &R,
     plain: Plain<'_>,
+    _settings: Settings,
     input: &mut I,
     out: &mut O,
     err: &mut E,

@@ -11,7 +11,7 @@ ghost use Rattle.jb_tool.specs.RefusedWords.{RefusesWords};
 ghost use Rattle.jb_tool.specs.RunWanted.{RunsWanted, wants_input};
 
 use crate::load_command::run_load;
-use jb_args::{CommandLine, Error, ErrorKind, Plain, parse};
+use jb_args::{CommandLine, Error, ErrorKind, Plain, Settings, parse};
 use jb_commands::{CommandFault, ProgramEnd, run_plain};
 use std::convert::AsStr;
 use std::fs::File;
@@ -23,14 +23,21 @@ use std::time::Clock;
 
 /// Runs `jb` with these words, the program's name left out, and gives its end. With no words it acts as
 /// `jb cost -`. Words that are no command are answered by clap's text: status 2 and `err`, or status 0 and `out` for
-/// help and the version. `input` is read by a command whose text it is, and else left as it is.
+/// help and the version. The words have no settings among them any more. `input` is read by a command whose text it is, and else left as it is.
 pub fn run<
     R: Files<File = File> + AllocGlobal + Threads + Wait + Clock + Sync,
     S: AsStr,
     I: Read,
     O: Write,
     E: Write,
->(rt: &R, words: &[S], input: &mut I, out: &mut O, err: &mut E) -> ProgramEnd
+>(
+    rt: &R,
+    words: &[S],
+    settings: Settings,
+    input: &mut I,
+    out: &mut O,
+    err: &mut E,
+) -> ProgramEnd
     /// Without words, the same of `cost -`.
     ensures bare { words.now ≡ [] → Runs (AsksCost (codes "-")) (I.remaining input.old)
         (record { out = O.contents out.old; err = E.contents err.old })
@@ -54,11 +61,11 @@ pub fn run<
         → input.new ≡ input.old }
 {
     if words.is_empty() {
-        return run_plain(rt, Plain::Cost { file: "-" }, input, out, err);
+        return run_plain(rt, Plain::Cost { file: "-" }, settings, input, out, err);
     }
     match parse(rt.alloc(), words) {
-        Ok(CommandLine::Plain(plain)) => run_plain(rt, plain, input, out, err),
-        Ok(CommandLine::Load(load)) => run_load(rt, load, input, out, err),
+        Ok(CommandLine::Plain(plain)) => run_plain(rt, plain, settings, input, out, err),
+        Ok(CommandLine::Load(load)) => run_load(rt, load, settings, input, out, err),
         Err(error) => tell_refusal(&error, out, err),
     }
 }

@@ -11,6 +11,7 @@ mod own_homes;
 mod program;
 
 pub use command_line::run;
+pub use jb_args::Settings;
 pub use jb_commands::{
     CommandEnd, CommandFault, Plain, ProgramEnd, Report, TEXT_LIMIT, TwoFiles, cat_file, dump_from,
     format_file, perform, recover_file, recover_on, refuse_words, renumber_file, renumber_on,

@@ -9,7 +9,7 @@ ghost use Rattle.jb_tool.specs.Load.{JudgesLoad, LoadsOpened, RunsLoad, load_fau
 use crate::load_report::{LoadDone, LoadReport};
 use crate::own_homes::own_touched;
 use crate::{LoadFault, LoadOptions, load_on};
-use jb_args::{LoadWords, OptionName};
+use jb_args::{LoadWords, OptionName, Settings};
 use jb_block::Stamp;
 use jb_commands::{
     CommandFault, Opening, ProgramEnd, TwoFiles, close, fault_answer, judge_on, open_placed,
@@ -37,7 +37,14 @@ pub(crate) fn run_load<
     I: Read,
     O: Write,
     E: Write,
->(rt: &R, load: LoadWords<'_>, input: &mut I, out: &mut O, err: &mut E) -> ProgramEnd
+>(
+    rt: &R,
+    load: LoadWords<'_>,
+    _settings: Settings,
+    input: &mut I,
+    out: &mut O,
+    err: &mut E,
+) -> ProgramEnd
     ensures runs { RunsLoad (load_said load.entry) (I.remaining input.old)
         (record { out = O.contents out.old; err = E.contents err.old })
         (record { out = O.contents out.new; err = E.contents err.new }) result }

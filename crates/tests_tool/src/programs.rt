@@ -2,7 +2,7 @@
 
 use crate::checks::{check_at, check_number, check_text};
 use crate::runs::{End, Host, words_of};
-use jb_tool::{Terminals, run_program};
+use jb_tool::{Settings, Terminals, run_program};
 use std::io::ErrorKind::{self, InvalidData, OutOfMemory};
 
 /// The command line, or why there is none; whether standard input and standard error are terminals; and how the program
@@ -50,7 +50,7 @@ fn ran(
     input: &mut &[u8],
 ) -> Ended {
     let (mut out, mut err) = (Vec::new(rt.alloc()), Vec::new(rt.alloc()));
-    let status = run_program(rt, words, terminals, input, &mut out, &mut err);
+    let status = run_program(rt, words, Settings::new(false, false), terminals, input, &mut out, &mut err);
     Ended { out, err, status }
 }
 
