@@ -8,3 +8,4 @@ pub mod Judgement
 pub mod LineByLine
 pub mod ListWords
 pub mod Verdicts
+pub mod WatchedCalls

@@ -31,3 +31,4 @@ pub mod Reports
 pub mod Runs
 pub mod Searched
 pub mod Texts
+pub mod Watched

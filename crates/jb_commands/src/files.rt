@@ -14,6 +14,7 @@ mod recovered;
 mod searching;
 mod shut;
 mod texts;
+mod watched;
 
 pub use changes::{renumber_file, widen_file};
 pub use homes::cat_file;

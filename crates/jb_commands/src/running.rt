@@ -25,6 +25,7 @@ use jb_queue::{QueueText, read_queue};
 use std::fs::File;
 use std::io::{Read, Write};
 use std::rt::Files;
+use std::time::Clock;
 
 /// Runs a command: reads its files, or `input` for `-` and for nothing else, and works on its image. A command over
 /// texts, `dump` and `cat` write as they go; what the others have to say is in the answer, with the image, still open.
@@ -34,11 +35,18 @@ pub fn perform<
     'a,
     S: Start,
     T: Start,
-    R: Files<File = File> + AllocGlobal,
+    R: Files<File = File> + AllocGlobal + Clock,
     I: Read,
     O: Write,
     E: Write,
->(rt: &R, plain: Plain<'a>, input: &mut I, out: &mut O, err: &mut E) -> CommandEnd<'a, S, T>
+>(
+    rt: &R,
+    plain: Plain<'a>,
+    settings: Settings,
+    input: &mut I,
+    out: &mut O,
+    err: &mut E,
+) -> CommandEnd<'a, S, T>
     /// The command that the words ask for: what it has written, the image as it has left it, and what it has to say.
     ensures ends { EndsAsked (asks plain.entry) (I.remaining input.old)
         (record { out = O.contents out.old; err = E.contents err.old })
@@ -55,7 +63,9 @@ pub fn perform<
         }
         Plain::Format { image, options } => format_file(rt, image, options),
         Plain::Cat { image, options } => cat_file(rt, image, options, input, out),
-        Plain::Recover { image, options } => recover_file(rt, image, options, input),
+        Plain::Recover { image, options } => {
+            recover_file(rt, image, options, settings.progress, input)
+        }
         Plain::Renumber { image, extents } => renumber_file(rt, image, extents, input),
         Plain::Widen { image, extents } => widen_file(rt, image, extents, input),
     }
@@ -156,10 +166,10 @@ fn check_file<'a, R: Files + AllocGlobal, O: Write, E: Write>(
 }
 
 /// Runs a command and gives the end of the program; a command that ends without an answer has its line on `err`.
-pub fn run_plain<R: Files<File = File> + AllocGlobal, I: Read, O: Write, E: Write>(
+pub fn run_plain<R: Files<File = File> + AllocGlobal + Clock, I: Read, O: Write, E: Write>(
     rt: &R,
     plain: Plain<'_>,
-    _settings: Settings,
+    settings: Settings,
     input: &mut I,
     out: &mut O,
     err: &mut E,
@@ -171,7 +181,7 @@ pub fn run_plain<R: Files<File = File> + AllocGlobal, I: Read, O: Write, E: Writ
         (record { out = O.contents out.new; err = E.contents err.new }) result }
     ensures unread { reads_input (asks plain.entry) ≡ false → input.new ≡ input.old }
 {
-    let done = perform::<Unknown, Unknown, R, I, O, E>(rt, plain, input, out, err);
+    let done = perform::<Unknown, Unknown, R, I, O, E>(rt, plain, settings, input, out, err);
     close(done.tell(out), files_of(plain), err)
 }
 

@@ -17,6 +17,7 @@ mod recovering;
 mod refusal;
 mod showing;
 mod telling;
+mod watched_disk;
 
 pub use catting::{ShownHomes, cat_on};
 pub use changing::{renumber_on, widen_on};
@@ -37,3 +38,4 @@ pub use refusal::refuse_words;
 pub(crate) use showing::show_on;
 pub use telling::tell;
 pub(crate) use telling::told;
+pub(crate) use watched_disk::WatchedDisk;

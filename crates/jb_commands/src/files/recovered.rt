@@ -11,10 +11,13 @@ ghost use Rattle.jb_commands.specs.OpenRefusals.{opening_for};
 use crate::command_end::CommandEnd;
 use crate::fault::CommandFault;
 use crate::files::opening::Opening;
+use crate::files::opened::OpenedImage;
 use crate::files::placed::open_placed;
+use crate::files::watched::{foresee_watched, recover_watched};
+use crate::progress::Progress;
 use crate::report::Report;
-use crate::streams::{foresee_by, foresee_unread_by, judge_on, recover_on};
-use jb_args::{OptionName, RecoverOptions};
+use crate::streams::{foresee_by, foresee_unread_by, judge_on};
+use jb_args::{OptionName, ProgressLine, RecoverOptions};
 use jb_disk::{Disk, Start};
 use jb_ext::MapSource;
 use jb_image::{ExtentsFault, ImageDisk, JournalUse};
@@ -24,6 +27,7 @@ use std::alloc::Global;
 use std::fs::File;
 use std::io::Read;
 use std::rt::Files;
+use std::time::Clock;
 
 /// Recovers the journal of the image of this name; with `--dry-run` only reports what a recovery would do. Where the
 /// journal is not at its front, the image may be a file system, which has to be the journal's own. A list of extents
@@ -32,10 +36,17 @@ use std::rt::Files;
 /// # Errors
 /// `CommandFault::BadOption` where `--list` is given without `--dry-run`; those of `open_placed` and of `judge_on`, and
 /// those of `recover_on`; `CommandFault::Extents` where a copy is for a home block that is one of the journal's own.
-pub fn recover_file<'a, S: Start, T: Start, R: Files<File = File> + AllocGlobal, I: Read>(
+pub fn recover_file<
+    'a,
+    S: Start,
+    T: Start,
+    R: Files<File = File> + AllocGlobal + Clock,
+    I: Read,
+>(
     rt: &R,
     image: &'a str,
     options: RecoverOptions<'a>,
+    shown: ProgressLine,
     input: &mut I,
 ) -> CommandEnd<'a, S, T>
     /// `recover` over files: the image was not opened, or, if its files are honest, it was recovered, also after a
@@ -76,12 +87,14 @@ pub fn recover_file<'a, S: Start, T: Start, R: Files<File = File> + AllocGlobal,
         checksums_of(options.checksums),
         input,
     ) {
-        Ok(mut opened) => {
-            let (homes, found) = (opened.homes, opened.found);
-            let end = recover_opened(rt.alloc(), &mut opened.disk, homes, found, options);
+        Ok(opened) => {
+            let OpenedImage { disk, homes, found } = opened;
+            let journal = disk.blocks().saturating_sub(homes);
+            let progress = Progress::new(rt, rt, shown, "jb recover", journal);
+            let done = recover_opened(rt.alloc(), disk, homes, found, options, progress);
             CommandEnd {
-                image: Some(opened.disk),
-                end,
+                image: Some(done.0),
+                end: done.1,
             }
         }
         Err(fault) => CommandEnd {
@@ -104,29 +117,32 @@ fn opening_of(dry_run: bool, force: bool) -> Opening
     }
 }
 
-/// The same of an image that is open, with this many home blocks.
-fn recover_opened<'a, D: Disk, E: Disk>(
+/// The same of an image that is open, with this many home blocks; gives it back, too.
+fn recover_opened<'a, D: Disk, E: Disk, K: Clock>(
     alloc: Global,
-    disk: &mut ImageDisk<D, E>,
+    disk: ImageDisk<D, E>,
     homes: u64,
     found: Option<MapSource>,
     options: RecoverOptions<'_>,
-) -> Result<Report, CommandFault<'a>>
-    ensures recovers { RecoversOpened (as_disks D.Disk E.Disk) (recover_said options.entry) homes found disk.old
-        disk.new result }
+    progress: Progress<'_, K>,
+) -> (ImageDisk<D, E>, Result<Report, CommandFault<'a>>)
+    ensures recovers { RecoversOpened (as_disks D.Disk E.Disk) (recover_said options.entry) homes found disk result.0
+        result.1 }
 {
+    let mut disk = disk;
     let beside = is_beside(options.journal, disk.is_within());
     let used = use_of(options.journal);
     let sums = checksums_of(options.checksums);
-    match judge_beside(disk, beside, used, options.force, sums) {
+    match judge_beside(&mut disk, beside, used, options.force, sums) {
         Ok(()) => {}
-        Err(fault) => return Err(fault),
+        Err(fault) => return (disk, Err(fault)),
     }
     if options.dry_run {
-        let answer = foresee_by(alloc, disk, sums);
-        foreseen_end(disk, homes, found, options.list, answer)
+        let (disk, answer) = foresee_watched(alloc, disk, sums, progress);
+        let end = foreseen_end(&disk, homes, found, options.list, answer);
+        (disk, end)
     } else {
-        recover_image(alloc, disk, homes, found, sums)
+        recover_image(alloc, disk, homes, found, sums, progress)
     }
 }
 
@@ -205,18 +221,20 @@ fn foreseen_end<'a, D: Disk, E: Disk>(
 ///
 /// # Errors
 /// Those of `recover_on`, and `CommandFault::Extents` for such a copy: nothing is written then.
-fn recover_image<'a, D: Disk, E: Disk>(
+fn recover_image<'a, D: Disk, E: Disk, K: Clock>(
     alloc: Global,
-    disk: &mut ImageDisk<D, E>,
+    disk: ImageDisk<D, E>,
     homes: u64,
     found: Option<MapSource>,
     sums: Checksums,
-) -> Result<Report, CommandFault<'a>>
-    ensures recovers { RecoversImage (as_disks D.Disk E.Disk) sums homes found disk.old disk.new result }
+    progress: Progress<'_, K>,
+) -> (ImageDisk<D, E>, Result<Report, CommandFault<'a>>)
+    ensures recovers { RecoversImage (as_disks D.Disk E.Disk) sums homes found disk result.0 result.1 }
 {
-    match check_own(alloc, disk, homes, sums) {
-        Ok(()) => recover_on(alloc, disk, Some(homes), found, sums),
-        Err(fault) => Err(fault),
+    let mut disk = disk;
+    match check_own(alloc, &mut disk, homes, sums) {
+        Ok(()) => recover_watched(alloc, disk, homes, found, sums, progress),
+        Err(fault) => (disk, Err(fault)),
     }
 }
 

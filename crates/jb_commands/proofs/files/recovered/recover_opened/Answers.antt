@@ -13,8 +13,8 @@ returns-then-options g c = record {
     Ok tt,
     rw (c.is_beside-beside.ensures, c.is_within.ensures, c.use_of-used.ensures, c.checksums_of-sums.ensures) at c.in-Ok.ensures.judges,
     rw c.if-options.true (
-      c.foresee_by-answer.result,
-      rw c.checksums_of-sums.ensures at c.foresee_by-answer.ensures.foretells,
+      c.foresee_watched.result.1,
+      rw c.checksums_of-sums.ensures at c.foresee_watched.ensures.foretells,
       c.foreseen_end.ensures,
     ),
   );
