@@ -1,5 +1,5 @@
 -- What was done to a disk whose calls are shown was done to the disk that they are passed on to.
-use Rattle.std.proofs.Common.{◌≡◌, ℕ, Bool, false, Option, Result, sym, subst}
+use Rattle.std.proofs.Common.{ℕ, false, Option, Result}
 use Rattle.std.specs.Prelude.{Unit}
 use Rattle.jb_disk.specs.Image.{Image, ChangesNothing}
 use Rattle.jb_disk.specs.KeptOn.{KeptOn, ReadsOn}
@@ -12,7 +12,7 @@ use Rattle.jb_recover.specs.Passes.{PassedBy}
 use Rattle.jb_recover.specs.declared.checked_fault.CheckedFault.{CheckedFault}
 use Rattle.jb_recover.specs.declared.recovered.Foreseen.{Foreseen}
 use Rattle.jb_recover.specs.declared.recovered.Recovered.{Recovered}
-use Rattle.jb_commands.specs.Checking.{ForetellsBy, RecoversBy}
+use Rattle.jb_commands.specs.Checking.{ForetellsBy, ForetellsUnreadBy, RecoversBy}
 use Rattle.jb_commands.specs.Recover.{RecoversOn}
 use Rattle.jb_commands.specs.Watched.{watched}
 use Rattle.jb_commands.specs.declared.fault.CommandFault.{CommandFault}
@@ -93,20 +93,16 @@ module _ {D K : Type 0} (G : Disks D) where
     unsynced = watched-reads old new passed.unsynced;
   }
 
-  watched-foretells : (sums : Checksums) (old new : WatchedDisk D K) (answer : Result Foreseen CheckedFault) → ForetellsBy sums (as_watched G) old new answer → ForetellsBy sums G (watched old) (watched new) answer
+  pub watched-foretells : (sums : Checksums) (old new : WatchedDisk D K) (answer : Result Foreseen CheckedFault) → ForetellsBy sums (as_watched G) old new answer → ForetellsBy sums G (watched old) (watched new) answer
   watched-foretells Refused old new answer (plain, f, is) = (plain, record { passed = watched-passed _ plain old new f.passed; foresees = f.foresees }, is)
   watched-foretells Allowed old new answer f = record { passed = watched-passed _ answer old new f.passed; foresees = f.foresees }
   watched-foretells Unjudged old new answer f = record { passed = watched-passed _ answer old new f.passed; foresees = f.foresees }
 
-  module _ (old new : WatchedDisk D K) (first last : D) (begins : watched old ≡ first) (ends : last ≡ watched new) where
-    pub recovers-through : (sums : Checksums) (homes : Option ℕ) (found : Option MapSource) (end : Result Report CommandFault) → RecoversOn sums (as_watched G) homes found old new end → RecoversOn sums G homes found first last end
-    recovers-through sums homes found end r =
-        subst (λ d. RecoversOn sums G homes found d last end) begins (subst (λ d. RecoversOn sums G homes found (watched old) d end) (sym ends) (record {
-          answer = r.answer;
-          recovers = watched-recovers sums old new r.answer r.recovers;
-          told = r.told;
-        }))
+  pub watched-unread : (sums : Checksums) (old new : WatchedDisk D K) (answer : Result Foreseen CheckedFault) → ForetellsUnreadBy sums (as_watched G) old new answer → ForetellsUnreadBy sums G (watched old) (watched new) answer
+  watched-unread Refused old new answer (plain, f, is) = (plain, record { passed = watched-passed _ plain old new f.passed; foresees = f.foresees }, is)
+  watched-unread Allowed old new answer f = record { passed = watched-passed _ answer old new f.passed; foresees = f.foresees }
+  watched-unread Unjudged old new answer f = record { passed = watched-passed _ answer old new f.passed; foresees = f.foresees }
 
-    pub foretells-through : (sums : Checksums) (answer : Result Foreseen CheckedFault) → ForetellsBy sums (as_watched G) old new answer → ForetellsBy sums G first last answer
-    foretells-through sums answer f =
-        subst (λ d. ForetellsBy sums G d last answer) begins (subst (λ d. ForetellsBy sums G (watched old) d answer) (sym ends) (watched-foretells sums old new answer f))
+  pub watched-recovery : (sums : Checksums) (homes : Option ℕ) (found : Option MapSource) (old new : WatchedDisk D K) (end : Result Report CommandFault)
+      → RecoversOn sums (as_watched G) homes found old new end → RecoversOn sums G homes found (watched old) (watched new) end
+  watched-recovery sums homes found old new end r = record { answer = r.answer; recovers = watched-recovers sums old new r.answer r.recovers; told = r.told }

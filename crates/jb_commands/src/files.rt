@@ -11,6 +11,7 @@ mod opening;
 mod own;
 mod placed;
 mod recovered;
+mod recovering;
 mod searching;
 mod shut;
 mod texts;

@@ -2,21 +2,23 @@
 ghost use Rattle.std.specs.Prelude.{◌≡◌, false, option_map};
 ghost use Rattle.jb_image.specs.Files.{as_disks};
 ghost use Rattle.jb_args.specs.PlainCommand.{recover_said};
-ghost use Rattle.jb_commands.specs.Foresee.{foreseen_end as foreseen_so, own_checked};
+ghost use Rattle.jb_commands.specs.Foresee.{foreseen_end as foreseen_so};
 ghost use Rattle.jb_commands.specs.ListText.{reads_list};
 ghost use Rattle.jb_commands.specs.JournalPlace.{EndsOfRecover, is_beside as stands_beside, sums_of, use_of as use_so};
-ghost use Rattle.jb_commands.specs.JournalPlace.{ChecksOwn, JudgesBeside, JudgesOwn, RecoversImage, RecoversOpened};
+ghost use Rattle.jb_commands.specs.JournalPlace.{DoesRecover, ForeseesImage, JudgesBeside, RecoversOpened};
 ghost use Rattle.jb_commands.specs.OpenRefusals.{opening_for};
+ghost use Rattle.jb_commands.specs.Watched.{watched};
 
 use crate::command_end::CommandEnd;
 use crate::fault::CommandFault;
 use crate::files::opening::Opening;
 use crate::files::opened::OpenedImage;
 use crate::files::placed::open_placed;
-use crate::files::watched::{foresee_watched, recover_watched};
+use crate::files::recovering::recover_image;
+use crate::files::watched::foresee_watched;
 use crate::progress::Progress;
 use crate::report::Report;
-use crate::streams::{foresee_by, foresee_unread_by, judge_on};
+use crate::streams::{WatchedDisk, judge_on};
 use jb_args::{OptionName, ProgressLine, RecoverOptions};
 use jb_disk::{Disk, Start};
 use jb_ext::MapSource;
@@ -117,7 +119,7 @@ fn opening_of(dry_run: bool, force: bool) -> Opening
     }
 }
 
-/// The same of an image that is open, with this many home blocks; gives it back, too.
+/// The same of an image that is open, with this many home blocks. Gives it back, too.
 fn recover_opened<'a, D: Disk, E: Disk, K: Clock>(
     alloc: Global,
     disk: ImageDisk<D, E>,
@@ -137,12 +139,32 @@ fn recover_opened<'a, D: Disk, E: Disk, K: Clock>(
         Ok(()) => {}
         Err(fault) => return (disk, Err(fault)),
     }
-    if options.dry_run {
-        let (disk, answer) = foresee_watched(alloc, disk, sums, progress);
-        let end = foreseen_end(&disk, homes, found, options.list, answer);
-        (disk, end)
+    let mut watched = WatchedDisk::of(disk, progress);
+    let (dry_run, list) = (options.dry_run, options.list);
+    let end = recover_or_foresee(alloc, &mut watched, homes, found, dry_run, list, sums);
+    (watched.into_inner(), end)
+}
+
+/// Recovers an image, or only says what a recovery would do.
+///
+/// # Errors
+/// Those of `recover_image`.
+fn recover_or_foresee<'a, D: Disk, E: Disk, K: Clock>(
+    alloc: Global,
+    disk: &mut WatchedDisk<'_, ImageDisk<D, E>, K>,
+    homes: u64,
+    found: Option<MapSource>,
+    dry_run: bool,
+    list: bool,
+    sums: Checksums,
+) -> Result<Report, CommandFault<'a>>
+    ensures does { DoesRecover (as_disks D.Disk E.Disk) sums dry_run list homes found (watched disk.old)
+        (watched disk.new) result }
+{
+    if dry_run {
+        foresee_image(alloc, disk, homes, found, list, sums)
     } else {
-        recover_image(alloc, disk, homes, found, sums, progress)
+        recover_image(alloc, disk, homes, found, sums)
     }
 }
 
@@ -197,6 +219,25 @@ pub(crate) fn judge_beside<'a, D: Disk>(
     }
 }
 
+/// Says what a recovery of an image would do.
+///
+/// # Errors
+/// Those of `recover_image`.
+fn foresee_image<'a, D: Disk, E: Disk, K: Clock>(
+    alloc: Global,
+    disk: &mut WatchedDisk<'_, ImageDisk<D, E>, K>,
+    homes: u64,
+    found: Option<MapSource>,
+    list: bool,
+    sums: Checksums,
+) -> Result<Report, CommandFault<'a>>
+    ensures foresees { ForeseesImage (as_disks D.Disk E.Disk) sums homes found list (watched disk.old)
+        (watched disk.new) result }
+{
+    let answer = foresee_watched(alloc, disk, sums);
+    foreseen_end(disk.inner(), homes, found, list, answer)
+}
+
 /// What was foreseen of an image, as the command's end.
 fn foreseen_end<'a, D: Disk, E: Disk>(
     disk: &ImageDisk<D, E>,
@@ -210,80 +251,6 @@ fn foreseen_end<'a, D: Disk, E: Disk>(
     match answer {
         Ok(told) => match disk.first_own(told.homes.as_slice()) {
             None => Ok(Report::Foreseen(told, list, found)),
-            Some(home) => Err(CommandFault::Extents(ExtentsFault::Home(home))),
-        },
-        Err(fault) => Err(CommandFault::of_recovery(fault, Some(homes))),
-    }
-}
-
-/// Recovers an image. Where its journal is within its home blocks, it is foreseen first whether no copy is for one
-/// of those.
-///
-/// # Errors
-/// Those of `recover_on`, and `CommandFault::Extents` for such a copy: nothing is written then.
-fn recover_image<'a, D: Disk, E: Disk, K: Clock>(
-    alloc: Global,
-    disk: ImageDisk<D, E>,
-    homes: u64,
-    found: Option<MapSource>,
-    sums: Checksums,
-    progress: Progress<'_, K>,
-) -> (ImageDisk<D, E>, Result<Report, CommandFault<'a>>)
-    ensures recovers { RecoversImage (as_disks D.Disk E.Disk) sums homes found disk result.0 result.1 }
-{
-    let mut disk = disk;
-    match check_own(alloc, &mut disk, homes, sums) {
-        Ok(()) => recover_watched(alloc, disk, homes, found, sums, progress),
-        Err(fault) => (disk, Err(fault)),
-    }
-}
-
-/// Whether a recovery of an image may write: no copy is for a home block that is the journal's own, where that is
-/// within the home blocks. The data of copies is read only where one is; else the recovery itself judges it.
-fn check_own<'a, D: Disk, E: Disk>(
-    alloc: Global,
-    disk: &mut ImageDisk<D, E>,
-    homes: u64,
-    sums: Checksums,
-) -> Result<(), CommandFault<'a>>
-    ensures checks { ChecksOwn (as_disks D.Disk E.Disk) sums homes disk.old disk.new result }
-{
-    if !disk.is_within() {
-        return Ok(());
-    }
-    match foresee_unread_by(alloc, disk, sums) {
-        Ok(told) => match disk.first_own(told.homes.as_slice()) {
-            None => Ok(()),
-            Some(_) => judge_own(alloc, disk, homes, sums),
-        },
-        Err(fault) => Err(CommandFault::of_recovery(fault, Some(homes))),
-    }
-}
-
-/// The same by all that a recovery judges, which may refuse something before such a copy.
-fn judge_own<'a, D: Disk, E: Disk>(
-    alloc: Global,
-    disk: &mut ImageDisk<D, E>,
-    homes: u64,
-    sums: Checksums,
-) -> Result<(), CommandFault<'a>>
-    ensures judges { JudgesOwn (as_disks D.Disk E.Disk) sums homes disk.old disk.new result }
-{
-    let answer = foresee_by(alloc, disk, sums);
-    own_end(disk, homes, answer)
-}
-
-/// Whether a recovery of an image may write, by what was foreseen.
-fn own_end<'a, D: Disk, E: Disk>(
-    disk: &ImageDisk<D, E>,
-    homes: u64,
-    answer: Result<Foreseen, CheckedFault>,
-) -> Result<(), CommandFault<'a>>
-    ensures { result ≡ own_checked disk.now homes answer }
-{
-    match answer {
-        Ok(told) => match disk.first_own(told.homes.as_slice()) {
-            None => Ok(()),
             Some(home) => Err(CommandFault::Extents(ExtentsFault::Home(home))),
         },
         Err(fault) => Err(CommandFault::of_recovery(fault, Some(homes))),

@@ -1,12 +1,12 @@
-//! The long calls of a recovery, of a disk whose progress is shown.
-ghost use Rattle.jb_commands.specs.Checking.{ForetellsBy};
-ghost use Rattle.jb_commands.specs.Recover.{RecoversOn};
+//! The long calls of a recovery, of a disk whose progress is shown: what is said of them is said of the disk within.
 ghost use Rattle.std.specs.Prelude.{Some};
+ghost use Rattle.jb_commands.specs.Checking.{ForetellsBy, ForetellsUnreadBy};
+ghost use Rattle.jb_commands.specs.Recover.{RecoversOn};
+ghost use Rattle.jb_commands.specs.Watched.{watched};
 
 use crate::fault::CommandFault;
-use crate::progress::Progress;
 use crate::report::Report;
-use crate::streams::{WatchedDisk, foresee_by, recover_on};
+use crate::streams::{WatchedDisk, foresee_by, foresee_unread_by, recover_on};
 use jb_disk::Disk;
 use jb_ext::MapSource;
 use jb_recover::{CheckedFault, Foreseen};
@@ -14,38 +14,46 @@ use jb_super::Checksums;
 use std::alloc::Global;
 use std::time::Clock;
 
-/// Recovers the journal at the front of a disk with this many home blocks, as `recover_on` does, and gives the disk back.
+/// Recovers the journal at the front of a disk with this many home blocks, as `recover_on` does.
 ///
 /// # Errors
 /// Those of `recover_on`.
 pub(crate) fn recover_watched<'a, D: Disk, K: Clock>(
     alloc: Global,
-    disk: D,
+    disk: &mut WatchedDisk<'_, D, K>,
     homes: u64,
     found: Option<MapSource>,
     sums: Checksums,
-    progress: Progress<'_, K>,
-) -> (D, Result<Report, CommandFault<'a>>)
-    ensures recovers { RecoversOn sums D.Disk (Some homes) found disk result.0 result.1 }
+) -> Result<Report, CommandFault<'a>>
+    ensures recovers { RecoversOn sums D.Disk (Some homes) found (watched disk.old) (watched disk.new) result }
 {
-    let mut watched = WatchedDisk::of(disk, progress);
-    let end = recover_on(alloc, &mut watched, Some(homes), found, sums);
-    (watched.into_inner(), end)
+    recover_on(alloc, disk, Some(homes), found, sums)
 }
 
-/// Says what a recovery of a disk would do, as `foresee_by` does, and gives the disk back.
+/// Says what a recovery of a disk would do, as `foresee_by` does.
 ///
 /// # Errors
 /// Those of `foresee_by`.
 pub(crate) fn foresee_watched<D: Disk, K: Clock>(
     alloc: Global,
-    disk: D,
+    disk: &mut WatchedDisk<'_, D, K>,
     sums: Checksums,
-    progress: Progress<'_, K>,
-) -> (D, Result<Foreseen, CheckedFault>)
-    ensures foretells { ForetellsBy sums D.Disk disk result.0 result.1 }
+) -> Result<Foreseen, CheckedFault>
+    ensures foretells { ForetellsBy sums D.Disk (watched disk.old) (watched disk.new) result }
 {
-    let mut watched = WatchedDisk::of(disk, progress);
-    let answer = foresee_by(alloc, &mut watched, sums);
-    (watched.into_inner(), answer)
+    foresee_by(alloc, disk, sums)
+}
+
+/// The same but for the data of copies, as `foresee_unread_by` does.
+///
+/// # Errors
+/// Those of `foresee_unread_by`.
+pub(crate) fn foresee_unread_watched<D: Disk, K: Clock>(
+    alloc: Global,
+    disk: &mut WatchedDisk<'_, D, K>,
+    sums: Checksums,
+) -> Result<Foreseen, CheckedFault>
+    ensures foretells { ForetellsUnreadBy sums D.Disk (watched disk.old) (watched disk.new) result }
+{
+    foresee_unread_by(alloc, disk, sums)
 }

@@ -21,7 +21,14 @@ impl<'a, D: Disk, K: Clock> WatchedDisk<'a, D, K> {
         WatchedDisk { disk, progress }
     }
 
-    /// The disk that calls are passed on to. Nothing is shown any more.
+    /// The disk that calls are passed on to.
+    pub(crate) fn inner(&self) -> &D
+        ensures { result.now ≡ watched self.now }
+    {
+        &self.disk
+    }
+
+    /// The same, once nothing is shown any more.
     pub(crate) fn into_inner(self) -> D
         ensures { result ≡ watched self.entry }
     {
