@@ -212,6 +212,8 @@ PLACE). So what e2fsck and the kernel would write and then lose is still there.
 With --dry-run nothing is written, the image is opened for reading, and the line is that of the recovery;
 with --list the home block of each copy that would be written follows, as home N, in the log's order.
 
+Once it has run for a second, a line on a terminal shows how far it has come; not with -q or --no-progress.
+
 Status: 0 where the image is recovered, 1 where it is refused, by the name of its fault, and stays as it
 is, 2 where the file cannot be opened or read. After jb: DeviceFault, status 1, it is to be called again.
 
