@@ -1,6 +1,6 @@
 -- Columns that are put one after the other, and transactions that are counted so.
-use Rattle.std.proofs.Common.{◌≡◌, ◌<◌, ℕ, suc, ◌+◌, ◌^◌, ◌%◌, List, [], ◌∷◌, ◌++◌, length, drop, refl, sym, ap, ◌∙◌, arith, mod-eq_of_lt, nat_eq, if◌then◌else◌}
-use Rattle.std.proofs.lemmas.List.{drop_more}
+use Rattle.std.proofs.Common.{◌≡◌, ◌<◌, ◌≤◌, ℕ, suc, ◌+◌, ◌*◌, ◌/◌, ◌^◌, ◌%◌, List, [], ◌∷◌, ◌++◌, length, drop, refl, sym, ap, ◌∙◌, arith, mod-eq_of_lt, mul-le-mul_right, nat_eq, if◌then◌else◌}
+use Rattle.std.proofs.Math.Nat.{mul-div-le}
 use Rattle.jb_super.specs.Superblock.{Superblock}
 use Rattle.jb_super.specs.Geometry.{place}
 use Rattle.jb_dump.specs.Picture.{begun_in, column_of, columns_upto}
@@ -27,3 +27,9 @@ counted-more s sizes column i at begun one size next few counted is here goes =
       rest = rw there (omega (arith, all));
       behind = rw there (omega (arith, sums));
     }
+
+pub part-within : (n k : ℕ) → 0 < k → n / k ≤ n
+part-within n k some =
+    let whole : k * (n / k) ≤ n = mul-div-le n k in
+    let least : 1 * (n / k) ≤ k * (n / k) = mul-le-mul_right (n / k) some in
+    omega (arith, whole, least)

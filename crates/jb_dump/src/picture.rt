@@ -1,7 +1,8 @@
 //! A log as a picture in text, within 80 columns.
 ghost use Rattle.std.specs.Prelude.{◌≡◌, ◌<◌, ◌≤◌, ◌^◌, ◌++◌, nat_eq, nat_lt, if◌then◌else◌, string_bytes, OnOk};
 ghost use Rattle.jb_super.specs.Geometry.{place};
-ghost use Rattle.jb_dump.specs.Picture.{bar_column, begun_in as begun_within, column_blocks as blocks_of_column};
+ghost use Rattle.jb_dump.specs.Picture.{bar_column, begun_in as begun_within, block_text};
+ghost use Rattle.jb_dump.specs.Picture.{column_blocks as blocks_of_column};
 ghost use Rattle.jb_dump.specs.Picture.{column_count as count_of_columns, column_of as column_with};
 ghost use Rattle.jb_dump.specs.Picture.{column_place as place_of_column, column_text, columns_upto, copies_column};
 ghost use Rattle.jb_dump.specs.Picture.{home_bar, home_bars, index_at as index_of_place, legend_line, mark_column};
@@ -82,12 +83,19 @@ fn begun_in(sb: &Super, sizes: &[u32], column: u32) -> u64
     begun
 }
 
+/// What stands for a column in which no transaction begins, and whose first block is used or not.
+fn block_mark(used: bool) -> &'static str
+    ensures { result.now ≡ block_text used }
+{
+    if used { "-" } else { "." }
+}
+
 /// Puts a column in which so many transactions begin, and whose first block is used or not.
 fn put_column(text: &mut String, begun: u64, used: bool) -> Result<(), Memory>
     ensures { OnOk result (string_bytes text.new ≡ string_bytes text.old ++ column_text begun used) }
 {
     if begun == 0 {
-        text.push_str(if used { "-" } else { "." })?;
+        text.push_str(block_mark(used))?;
         return Ok(());
     }
     if begun > 9 {
@@ -144,18 +152,16 @@ fn put_legend(text: &mut String, blocks: u32) -> Result<(), Memory>
     )
 }
 
-/// Puts a column of a home's bar.
-fn put_copies_column(
-    text: &mut String,
-    most: u64,
-    copies: u64,
-    column: u32,
-) -> Result<(), Memory>
-    ensures { OnOk result (string_bytes text.new ≡ string_bytes text.old ++ copies_column most copies column) }
+/// A column of a home's bar.
+fn copies_mark(most: u64, copies: u64, column: u32) -> &'static str
+    ensures { result.now ≡ copies_column most copies column }
 {
-    let reached = u128::from(column) * u128::from(most) < u128::from(COPIES_COLUMNS) * u128::from(copies);
-    text.push_str(if reached { "#" } else { " " })?;
-    Ok(())
+    let (column, most) = (u128::from(column), u128::from(most));
+    if column * most < u128::from(COPIES_COLUMNS) * u128::from(copies) {
+        "#"
+    } else {
+        " "
+    }
 }
 
 /// Puts the columns of a home's bar.
@@ -164,7 +170,7 @@ fn put_copies(text: &mut String, most: u64, copies: u64) -> Result<(), Memory>
         ≡ string_bytes text.old ++ columns_upto (copies_column most copies) 30) }
 {
     for column in 0..COPIES_COLUMNS {
-        put_copies_column(text, most, copies, column)?;
+        text.push_str(copies_mark(most, copies, column))?;
     }
     Ok(())
 }
