@@ -92,7 +92,7 @@ pub fn recover_file<
         Ok(opened) => {
             let OpenedImage { disk, homes, found } = opened;
             let journal = disk.blocks().saturating_sub(homes);
-            let progress = Progress::new(rt, rt, shown, "jb recover", journal);
+            let progress = Progress::over_log(rt, rt, shown, "jb recover", journal);
             let done = recover_opened(rt.alloc(), disk, homes, found, options, progress);
             CommandEnd {
                 image: Some(done.0),
