@@ -59,7 +59,9 @@ pub fn perform<
         Plain::Plan { file } => CommandEnd::said(perform_plan(rt, file, input, out, err)),
         Plain::Check { file, cert } => CommandEnd::said(perform_check(rt, file, cert, out, err)),
         Plain::Dump { file, options } => {
-            CommandEnd::status(dump_named::<S, T, R, I, O>(rt, file, options, input, out))
+            let shown = settings.progress;
+            let end = dump_named::<S, T, R, I, O>(rt, file, options, shown, input, out);
+            CommandEnd::status(end)
         }
         Plain::Format { image, options } => format_file(rt, image, options),
         Plain::Cat { image, options } => cat_file(rt, image, options, input, out),

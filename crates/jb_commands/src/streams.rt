@@ -18,6 +18,7 @@ mod refusal;
 mod showing;
 mod telling;
 mod watched_disk;
+mod watched_reader;
 
 pub use catting::{ShownHomes, cat_on};
 pub use changing::{renumber_on, widen_on};
@@ -39,3 +40,4 @@ pub(crate) use showing::show_on;
 pub use telling::tell;
 pub(crate) use telling::told;
 pub(crate) use watched_disk::WatchedDisk;
+pub(crate) use watched_reader::WatchedReader;
