@@ -11,13 +11,13 @@ columns-more text n = let is : n + 1 ≡ suc n = omega arith in ap (columns_upto
 
 -- this many transactions are counted, and the others begin at this block: with those that begin behind them in a column
 -- they are all
-pub record Counted (s : Superblock) (sizes : List ℕ) (column i at begun : ℕ) : Type 0 where
+pub record BegunUpTo (s : Superblock) (sizes : List ℕ) (column i at begun : ℕ) : Type 0 where
   pub rest : begun + begun_in s column at (drop i sizes) ≡ begun_in s column 0 sizes
   pub behind : at + sum_of (drop i sizes) ≡ sum_of sizes
 
-pub counted-more : (s : Superblock) (sizes : List ℕ) (column i at begun one size next : ℕ) → sum_of sizes < 2 ^ 32 → Counted s sizes column i at begun
+pub counted-more : (s : Superblock) (sizes : List ℕ) (column i at begun one size next : ℕ) → sum_of sizes < 2 ^ 32 → BegunUpTo s sizes column i at begun
     → drop i sizes ≡ size ∷ drop (i + 1) sizes → one ≡ (if nat_eq (column_of s (place s at)) column then 1 else 0) → next ≡ (at + size) % 2 ^ 32
-    → Counted s sizes column (i + 1) next (begun + one)
+    → BegunUpTo s sizes column (i + 1) next (begun + one)
 counted-more s sizes column i at begun one size next few counted is here goes =
     let sums : at + (size + sum_of (drop (i + 1) sizes)) ≡ sum_of sizes = ap (λ l. at + sum_of l) (sym is) ∙ counted.behind in
     let there : next ≡ at + size = goes ∙ mod-eq_of_lt (omega (arith, sums, few)) in

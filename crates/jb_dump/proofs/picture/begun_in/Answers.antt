@@ -1,7 +1,7 @@
 use Rattle.std.proofs.Common.{◌≡◌, ◌+◌, ◌∷◌, get_or, length, refl, rules, sym, ap, ◌∙◌, drop, arith}
 use Rattle.std.proofs.lemmas.List.{drop_more, drop_all}
 use Rattle.jb_dump.specs.Picture.{begun_in}
-use Rattle.jb_dump.proofs.PictureColumns.{Counted, counted-more}
+use Rattle.jb_dump.proofs.PictureColumns.{BegunUpTo, counted-more}
 use Rattle.jb_dump.proofs.PutByLine.{rest-by}
 use Rattle.jb_dump.proofs.picture.begun_in.Goals as goal
 
