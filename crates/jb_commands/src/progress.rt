@@ -44,12 +44,7 @@ impl<'a, K: Clock> Progress<'a, K> {
         what: &'static str,
         journal: u64,
     ) -> Progress<'a, K> {
-        let course = Course::Log(Pass::new(journal));
-        let line = match shown {
-            ProgressLine::OnTerminal => Line::new(opened(rt, ERROR), clock, what, course),
-            ProgressLine::Never => None,
-        };
-        Progress { clock, line }
+        Progress::new(rt, clock, shown, what, Course::Log(Pass::new(journal)))
     }
 
     /// Of a command that reads this many bytes and writes text. Nothing is shown where standard error is no terminal, or
@@ -61,12 +56,21 @@ impl<'a, K: Clock> Progress<'a, K> {
         what: &'static str,
         bytes: u64,
     ) -> Progress<'a, K> {
-        let course = Course::Bytes(Stretch::new(bytes));
+        let shown = beside_text(rt, shown, bytes);
+        Progress::new(rt, clock, shown, what, Course::Bytes(Stretch::new(bytes)))
+    }
+
+    /// Of a command with this course.
+    fn new<R: Files<File = File>>(
+        rt: &R,
+        clock: &'a K,
+        shown: ProgressLine,
+        what: &'static str,
+        course: Course,
+    ) -> Progress<'a, K> {
         let line = match shown {
-            ProgressLine::OnTerminal if bytes > 0 && opened(rt, OUTPUT).is_none() => {
-                Line::new(opened(rt, ERROR), clock, what, course)
-            }
-            ProgressLine::OnTerminal | ProgressLine::Never => None,
+            ProgressLine::OnTerminal => Line::new(opened(rt, ERROR), clock, what, course),
+            ProgressLine::Never => None,
         };
         Progress { clock, line }
     }
@@ -90,6 +94,20 @@ impl<'a, K: Clock> Progress<'a, K> {
         if let Some(line) = self.line {
             line.erase()
         }
+    }
+}
+
+/// Whether progress is shown of so many bytes that are read, beside the text on standard output.
+fn beside_text<R: Files<File = File>>(rt: &R, shown: ProgressLine, bytes: u64) -> ProgressLine {
+    if bytes == 0 {
+        return ProgressLine::Never;
+    }
+    match shown {
+        ProgressLine::OnTerminal => match opened(rt, OUTPUT) {
+            Some(_) => ProgressLine::Never,
+            None => ProgressLine::OnTerminal,
+        },
+        ProgressLine::Never => ProgressLine::Never,
     }
 }
 

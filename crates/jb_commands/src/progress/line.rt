@@ -44,9 +44,10 @@ impl Line {
         what: &'static str,
         course: Course,
     ) -> Option<Line> {
+        let terminal = terminal?;
         let begun = Instant::now(clock).ok()?;
         Some(Line {
-            terminal: terminal?,
+            terminal,
             what,
             begun,
             due: FIRST,
@@ -108,7 +109,8 @@ impl Line {
     /// Writes the line.
     fn show(&mut self, now: u64) {
         self.stands = true;
-        match self.course {
+        let course = self.course;
+        match course {
             Course::Log(pass) => self.show_pass(pass.number, pass.blocks, now),
             Course::Bytes(stretch) => self.show_bytes(stretch, now),
         }
