@@ -145,10 +145,18 @@ impl Settings {
     {
         Settings {
             form: AnswerForm::Text,
-            second: if hints { SecondLine::Always } else { SecondLine::OnTerminal },
+            second: if hints {
+                SecondLine::Always
+            } else {
+                SecondLine::OnTerminal
+            },
             progress: ProgressLine::OnTerminal,
             detail: Detail::Answer,
-            statuses: if finer { Statuses::Finer } else { Statuses::Few },
+            statuses: if finer {
+                Statuses::Finer
+            } else {
+                Statuses::Few
+            },
         }
     }
 
@@ -157,17 +165,32 @@ impl Settings {
         ensures { result ≡ with_setting self setting }
     {
         match setting {
-            Setting::Json => Settings { form: AnswerForm::Json, ..self },
-            Setting::Hints => Settings { second: SecondLine::Always, ..self },
+            Setting::Json => Settings {
+                form: AnswerForm::Json,
+                ..self
+            },
+            Setting::Hints => Settings {
+                second: SecondLine::Always,
+                ..self
+            },
             Setting::Quiet => Settings {
                 second: SecondLine::Never,
                 progress: ProgressLine::Never,
                 detail: Detail::Answer,
                 ..self
             },
-            Setting::Verbose => Settings { detail: Detail::Verbose, ..self },
-            Setting::Status => Settings { statuses: Statuses::Finer, ..self },
-            Setting::NoProgress => Settings { progress: ProgressLine::Never, ..self },
+            Setting::Verbose => Settings {
+                detail: Detail::Verbose,
+                ..self
+            },
+            Setting::Status => Settings {
+                statuses: Statuses::Finer,
+                ..self
+            },
+            Setting::NoProgress => Settings {
+                progress: ProgressLine::Never,
+                ..self
+            },
         }
     }
 }

@@ -60,16 +60,16 @@ module _ {D K : Type 0} (G : Disks D) where
 
   watched-recovers : (sums : Checksums) (old new : WatchedDisk D K) (answer : Result Recovered CheckedFault) → RecoversBy sums (as_watched G) old new answer → RecoversBy sums G (watched old) (watched new) answer
   watched-recovers Refused old new answer (plain, r, is) = (
-      plain,
-      record {
-        kept = watched-kept _ old new r.kept;
-        recovers = r.recovers;
-        crash = λ honest. watched-leaves _ old new (r.crash honest);
-        again = r.again;
-        durable = r.durable;
-      },
-      is,
-    )
+    plain,
+    record {
+      kept = watched-kept _ old new r.kept;
+      recovers = r.recovers;
+      crash = λ honest. watched-leaves _ old new (r.crash honest);
+      again = r.again;
+      durable = r.durable;
+    },
+    is,
+  )
   watched-recovers Allowed old new answer r = record {
     kept = watched-kept _ old new r.kept;
     recovers = r.recovers;

@@ -16,6 +16,7 @@ use std::time::Clock;
 
 /// Standard error and standard output, by the names with which they are opened once more.
 const ERROR: &str = "/dev/stderr";
+
 const OUTPUT: &str = "/dev/stdout";
 
 /// What a command goes over.

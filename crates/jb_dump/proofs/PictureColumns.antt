@@ -1,5 +1,5 @@
 -- Columns that are put one after the other, and transactions that are counted so.
-use Rattle.std.proofs.Common.{◌≡◌, ◌<◌, ◌≤◌, ℕ, suc, ◌+◌, ◌*◌, ◌/◌, ◌^◌, ◌%◌, List, [], ◌∷◌, ◌++◌, length, drop, refl, sym, ap, ◌∙◌, arith, mod-eq_of_lt, mul-le-mul_right, nat_eq, if◌then◌else◌}
+use Rattle.std.proofs.Common.{◌≡◌, ◌<◌, ◌≤◌, ℕ, suc, ◌+◌, ◌*◌, ◌/◌, ◌^◌, ◌%◌, List, [], ◌∷◌, ◌++◌, length, drop, refl, sym, ap, ◌∙◌, arith, mod-eq_of_lt, mul-le-mul_right, append_assoc, append-nil, nat_eq, if◌then◌else◌}
 use Rattle.std.proofs.Math.Nat.{mul-div-le}
 use Rattle.jb_super.specs.Superblock.{Superblock}
 use Rattle.jb_super.specs.Geometry.{place}
@@ -33,3 +33,11 @@ part-within n k some =
     let whole : k * (n / k) ≤ n = mul-div-le n k in
     let least : 1 * (n / k) ≤ k * (n / k) = mul-le-mul_right (n / k) some in
     omega (arith, whole, least)
+
+-- parts that were put one after another
+pub framed : {a b new : List ℕ} (old p q r : List ℕ) → a ≡ old ++ p → b ≡ a ++ q → new ≡ b ++ r → new ≡ old ++ (p ++ (q ++ r))
+framed old p q r first second third = rw (third, second, first) (simp append_assoc)
+
+pub six-parts : {t1 t2 t3 t4 t5 t6 : List ℕ} (old a b c d e f : List ℕ) → t1 ≡ old ++ a → t2 ≡ t1 ++ b → t3 ≡ t2 ++ c → t4 ≡ t3 ++ d → t5 ≡ t4 ++ e → t6 ≡ t5 ++ f
+    → t6 ≡ old ++ ((a ++ (b ++ (c ++ (d ++ (e ++ []))))) ++ f)
+six-parts old a b c d e f p1 p2 p3 p4 p5 p6 = rw (p6, p5, p4, p3, p2, p1) (simp (append_assoc, append-nil))

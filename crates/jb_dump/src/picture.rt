@@ -181,7 +181,8 @@ fn put_home_bar(text: &mut String, most: u64, home: u64, copies: u64) -> Result<
 {
     text.push_str("|")?;
     put_copies(text, most, copies)?;
-    write!(text, "| home {home}: {copies}\n")
+    write!(text, "| home {home}: {copies}\n")?;
+    Ok(())
 }
 
 /// How often the first of some homes is written.

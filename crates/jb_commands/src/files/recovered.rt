@@ -11,8 +11,8 @@ ghost use Rattle.jb_commands.specs.Watched.{watched};
 
 use crate::command_end::CommandEnd;
 use crate::fault::CommandFault;
-use crate::files::opening::Opening;
 use crate::files::opened::OpenedImage;
+use crate::files::opening::Opening;
 use crate::files::placed::open_placed;
 use crate::files::recovering::recover_image;
 use crate::files::watched::foresee_watched;
@@ -38,13 +38,7 @@ use std::time::Clock;
 /// # Errors
 /// `CommandFault::BadOption` where `--list` is given without `--dry-run`; those of `open_placed` and of `judge_on`, and
 /// those of `recover_on`; `CommandFault::Extents` where a copy is for a home block that is one of the journal's own.
-pub fn recover_file<
-    'a,
-    S: Start,
-    T: Start,
-    R: Files<File = File> + AllocGlobal + Clock,
-    I: Read,
->(
+pub fn recover_file<'a, S: Start, T: Start, R: Files<File = File> + AllocGlobal + Clock, I: Read>(
     rt: &R,
     image: &'a str,
     options: RecoverOptions<'a>,

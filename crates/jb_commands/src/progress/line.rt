@@ -161,7 +161,9 @@ impl Line {
     /// Erases the line where it stands.
     pub(crate) fn erase(self) {
         let Line {
-            terminal, stands, ..
+            terminal,
+            stands,
+            ..
         } = self;
         if stands {
             let mut terminal = terminal;

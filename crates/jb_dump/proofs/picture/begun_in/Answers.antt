@@ -1,23 +1,21 @@
-use Rattle.std.proofs.Common.{◌≡◌, ◌+◌, ◌∷◌, get_or, length, refl, rules, sym, ap, ◌∙◌, drop, arith}
-use Rattle.std.proofs.lemmas.List.{drop_more, drop_all}
-use Rattle.jb_dump.specs.Picture.{begun_in}
-use Rattle.jb_dump.proofs.PictureColumns.{BegunUpTo, counted-more}
-use Rattle.jb_dump.proofs.PutByLine.{rest-by}
+use Rattle.std.proofs.Common.{refl, arith}
+use Rattle.std.proofs.lemmas.List.{drop_all, drop_more}
+use Rattle.std.proofs.Common.{get_or}
+use Rattle.jb_dump.proofs.PictureColumns.{counted-more}
 use Rattle.jb_dump.proofs.picture.begun_in.Goals as goal
 
 pub loop-size-init : goal.loop-size-init
-loop-size-init c = record { few = omega arith; counted = λ few. record { rest = refl; behind = refl } }
+loop-size-init c = record { few = omega arith; counted = λ few. record { rest = omega arith; behind = omega arith } }
 
 pub loop-size-preserved : goal.loop-size-preserved
 loop-size-preserved c =
     let sizes = c.args.sizes.now in
     let i = c.loop-size.size-index in
-    let split = rest-by sizes i c.size-item.result c.loop-size-test.true c.size-item.is in
     record {
-      few = omega (arith, c.loop-size.invariant.few, c.one_in.ensures.most);
+      few = omega (arith, c.loop-size.invariant.few, c.one_in-begun.ensures.most);
       counted = λ few.
-          counted-more c.args.sb.now sizes c.args.column i c.loop-size.at c.loop-size.begun c.one_in.result c.size-item.result c.wrapping_add.result few (c.loop-size.invariant.counted few) split
-          c.one_in.ensures.value c.wrapping_add.ensures;
+          counted-more c.args.sb.now sizes c.args.column i c.loop-size.at c.loop-size.begun c.one_in-begun.result (get_or sizes i 0) _ few (c.loop-size.invariant.counted few)
+          (drop_more sizes i 0 c.loop-size-test.true) c.one_in-begun.ensures.value refl;
     }
 
 pub returns : goal.returns
