@@ -1,6 +1,6 @@
 -- What is advised on a line of standard error: what the table says in the row of its hint.
 use denote.Enum.Declared.{tag_of}
-use Rattle.std.specs.Prelude.{ℕ, ℤ, List, [], ◌∷◌, codes, decimal, map, slice_index_or, Option, None, Some}
+use Rattle.std.specs.Prelude.{ℕ, ℤ, List, [], ◌∷◌, codes, decimal, map, slice_index, slice_index_or, Option, None, Some}
 use Rattle.jb_text.specs.TextParts.{spelled}
 use Rattle.jb_args.specs.contracts.hint.Hint as hints
 use Rattle.jb_args.specs.contracts.option_name.OptionName as options
@@ -9,11 +9,15 @@ use Rattle.jb_args.specs.declared.hint.HintArg.TheVariants.{Nothing, BadOption, 
 use Rattle.jb_args.specs.declared.hint.Hint.{Hint}
 use Rattle.jb_args.specs.declared.hint.Hint.TheVariants as hint
 use Rattle.jb_args.specs.declared.option_name.OptionName.{OptionName}
-use Rattle.jb_args.specs.declared.table.TheConstants.{ADVICE, OPTIONS}
+use Rattle.jb_args.specs.declared.columns.TheConstants.{ADVICE, OPTIONS, STATUSES}
 
 -- what is advised on a hint: the words of its row, which has the place in the table that the hint has in its enum
 unfoldable pub advice_of : Hint → List ℕ
 advice_of hint = slice_index_or (map (λ words. words.now) ADVICE.now) (tag_of hints.the_type hint) []
+
+-- the finer status at a hint, in the same row
+unfoldable pub finer_of : Hint → ℕ
+finer_of hint = slice_index STATUSES.now (tag_of hints.the_type hint)
 
 -- the name of an option, in its row, which has the place in the table that the option has in its enum
 unfoldable pub option_text : OptionName → List ℕ

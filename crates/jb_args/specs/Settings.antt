@@ -7,11 +7,11 @@ use Rattle.clap.specs.Words.{Text}
 use Rattle.jb_args.specs.declared.settings.Setting.{Setting}
 use Rattle.jb_args.specs.declared.settings.Setting.TheVariants as sets
 use Rattle.jb_args.specs.declared.settings.Settings.{Settings}
+use Rattle.jb_args.specs.declared.settings.AnswerForm.{AnswerForm}
 use Rattle.jb_args.specs.declared.settings.AnswerForm.TheVariants as forms
 use Rattle.jb_args.specs.declared.settings.SecondLine.{SecondLine}
 use Rattle.jb_args.specs.declared.settings.SecondLine.TheVariants as seconds
 use Rattle.jb_args.specs.declared.settings.ProgressLine.TheVariants as progresses
-use Rattle.jb_args.specs.declared.settings.Detail.TheVariants as details
 use Rattle.jb_args.specs.declared.settings.Statuses.TheVariants as counts
 
 -- what a word sets, where it is a setting
@@ -20,20 +20,23 @@ setting_of word =
     if bytes_eq word (codes "--json") then Some sets.Json
     else if bytes_eq word (codes "--hints") then Some sets.Hints
     else if bytes_eq word (codes "-q") || bytes_eq word (codes "--quiet") then Some sets.Quiet
-    else if bytes_eq word (codes "-v") || bytes_eq word (codes "--verbose") then Some sets.Verbose
     else if bytes_eq word (codes "--status") then Some sets.Status
     else if bytes_eq word (codes "--no-progress") then Some sets.NoProgress
     else None
 
--- the settings, with what one word more sets
+-- the settings, with one more
 abbrev pub with_setting : Settings → Setting → Settings
 with_setting settings sets.Json = record settings { form = forms.Json }
 with_setting settings sets.Hints = record settings { second = seconds.Always }
 with_setting settings sets.Quiet =
-    record settings { second = seconds.Never; progress = progresses.Never; detail = details.Answer }
-with_setting settings sets.Verbose = record settings { detail = details.Verbose }
+    record settings { second = seconds.Never; progress = progresses.Never }
 with_setting settings sets.Status = record settings { statuses = counts.Finer }
 with_setting settings sets.NoProgress = record settings { progress = progresses.Never }
+
+-- the same, where it sets something
+abbrev pub with_found : Settings → Option Setting → Settings
+with_found settings None = settings
+with_found settings (Some setting) = with_setting settings setting
 
 -- the settings of a run without words that set any, where the environment asks for the second line, or for finer
 -- statuses, or not
@@ -42,17 +45,16 @@ first_settings hints finer = record {
   form = forms.Text;
   second = if hints then seconds.Always else seconds.OnTerminal;
   progress = progresses.OnTerminal;
-  detail = details.Answer;
   statuses = if finer then counts.Finer else counts.Few;
 }
 
 -- the words before a word `--`: those that may be settings
-pub before_end : List Text → List Text
+abbrev pub before_end : List Text → List Text
 before_end [] = []
 before_end (word ∷ words) = if bytes_eq word (codes "--") then [] else word ∷ before_end words
 
 -- the words from a word `--` on
-pub from_end : List Text → List Text
+abbrev pub from_end : List Text → List Text
 from_end [] = []
 from_end (word ∷ words) = if bytes_eq word (codes "--") then word ∷ words else from_end words
 
@@ -64,8 +66,14 @@ settings_in given words = fold with_setting given (filter_map setting_of (before
 abbrev pub words_left : List Text → List Text
 words_left words = filter (λ word. is_none (setting_of word)) (before_end words) ++ from_end words
 
--- whether a line on standard error has a second one after it, where that is a terminal or not
-abbrev pub is_advised : SecondLine → Bool → Bool
-is_advised seconds.OnTerminal on_terminal = on_terminal
-is_advised seconds.Always on_terminal = true
-is_advised seconds.Never on_terminal = false
+-- whether a line on standard error has a second one after it, in this form, where that is a terminal or not: what is
+-- said in JSON has it within
+abbrev pub advised_in : AnswerForm → SecondLine → Bool → Bool
+advised_in forms.Json second on_terminal = false
+advised_in forms.Text seconds.OnTerminal on_terminal = on_terminal
+advised_in forms.Text seconds.Always on_terminal = true
+advised_in forms.Text seconds.Never on_terminal = false
+
+-- the same by the settings
+abbrev pub is_advised : Settings → Bool → Bool
+is_advised settings on_terminal = advised_in settings.form settings.second on_terminal

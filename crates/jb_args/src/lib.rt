@@ -2,8 +2,10 @@
 //! when a command ends with a line on standard error.
 #![tactic(auto)]
 
+mod columns;
 mod command;
 mod commands;
+mod completing;
 mod hint;
 mod option_name;
 mod plain;
@@ -15,11 +17,12 @@ mod words;
 pub use clap::Error;
 pub use clap::error::ErrorKind;
 pub use command::{CommandLine, LoadWords};
+pub use completing::{Shell, completions};
 pub use hint::Hint;
 pub use option_name::OptionName;
 pub use plain::{CatOptions, DumpOptions, FormatOptions, Plain, RecoverOptions};
 pub use second::put_hint;
 pub use settings::{
-    AnswerForm, Detail, ProgressLine, SecondLine, Settings, Statuses, settings_in, words_left,
+    AnswerForm, ProgressLine, SecondLine, Settings, Statuses, settings_in, words_left,
 };
 pub use words::{parse, show_help};

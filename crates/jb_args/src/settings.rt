@@ -36,15 +36,6 @@ pub enum ProgressLine {
     Never,
 }
 
-/// What a run says beside its answer.
-#[derive(Clone, Copy)]
-pub enum Detail {
-    /// Nothing.
-    Answer,
-    /// What it is over, and how that was found: lines on standard error.
-    Verbose,
-}
-
 /// Which statuses a run ends with.
 #[derive(Clone, Copy)]
 pub enum Statuses {
@@ -63,8 +54,6 @@ pub struct Settings {
     pub second: SecondLine,
     /// Whether it shows how far it has come.
     pub progress: ProgressLine,
-    /// What it says beside its answer.
-    pub detail: Detail,
     /// Which statuses it ends with.
     pub statuses: Statuses,
 }
@@ -78,25 +67,22 @@ pub(crate) enum Setting {
     Hints,
     /// Nothing but the answer, or the line of a fault.
     Quiet,
-    /// More than the answer.
-    Verbose,
     /// Finer statuses.
     Status,
     /// No progress is shown.
     NoProgress,
 }
 
-/// Calls a macro with the table of the settings, after a name where one is given for it. A row is what is set, the
-/// words that set it, and what the help says of them.
+/// Calls a macro with the table of the settings, after a name, or texts, where they are given for it. A row is what is
+/// set, the words that set it, and what the help says of them.
 #[macro_export]
-macro_rules! settings {
-    ($form:ident $(, $of:ident)?) => {
+macro_rules! setting_rows {
+    ($form:ident $(, $of:tt)?) => {
         $form! {
             $($of)?
             Json, "--json" => "Answers, and says what went wrong, in JSON";
             Hints, "--hints" => "Says on a second line what to do; without it on a terminal alone";
             Quiet, "-q", "--quiet" => "Says neither what to do nor how far it has come";
-            Verbose, "-v", "--verbose" => "Says which journal it has found, and how, on standard error";
             Status, "--status" => "Ends with a finer status: 3, 4 or 5 in place of some 1";
             NoProgress, "--no-progress" => "Does not show how far it has come";
         }
@@ -104,7 +90,7 @@ macro_rules! settings {
 }
 
 /// A `match` of a word with what it sets in each arm.
-macro_rules! setting_in_rows {
+macro_rules! setting_in {
     ($of:ident $($setting:ident, $($word:literal),+ => $help:literal;)*) => {
         match $of {
             $($($word)|+ => Some(Setting::$setting),)*
@@ -117,26 +103,12 @@ macro_rules! setting_in_rows {
 pub(crate) fn setting_of(word: &str) -> Option<Setting>
     ensures { result ≡ setting_in word.now }
 {
-    settings!(setting_in_rows, word)
-}
-
-impl SecondLine {
-    ghost use Rattle.jb_args.specs.Settings.{is_advised};
-
-    /// Whether a line has a second one after it, where standard error is a terminal or not.
-    pub fn is_shown(self, on_terminal: bool) -> bool
-        ensures { result ≡ is_advised self on_terminal }
-    {
-        match self {
-            SecondLine::OnTerminal => on_terminal,
-            SecondLine::Always => true,
-            SecondLine::Never => false,
-        }
-    }
+    setting_rows!(setting_in, word)
 }
 
 impl Settings {
-    ghost use Rattle.jb_args.specs.Settings.{first_settings, with_setting};
+    ghost use Rattle.jb_args.specs.Settings.{first_settings, is_advised as advises, setting_of as setting_in};
+    ghost use Rattle.jb_args.specs.Settings.{with_found, with_setting};
 
     /// The settings of a run without words that set any, where the environment asks for the second line, or for finer
     /// statuses, or not.
@@ -151,7 +123,6 @@ impl Settings {
                 SecondLine::OnTerminal
             },
             progress: ProgressLine::OnTerminal,
-            detail: Detail::Answer,
             statuses: if finer {
                 Statuses::Finer
             } else {
@@ -160,8 +131,31 @@ impl Settings {
         }
     }
 
-    /// The settings, with what one word more sets.
-    pub(crate) fn with(self, setting: Setting) -> Settings
+    /// Whether a line on standard error has a second one after it, where that is a terminal or not; what is said in JSON
+    /// has it within.
+    pub fn is_advised(self, on_terminal: bool) -> bool
+        ensures { result ≡ advises self on_terminal }
+    {
+        match (self.form, self.second) {
+            (AnswerForm::Json, _) => false,
+            (AnswerForm::Text, SecondLine::OnTerminal) => on_terminal,
+            (AnswerForm::Text, SecondLine::Always) => true,
+            (AnswerForm::Text, SecondLine::Never) => false,
+        }
+    }
+
+    /// The settings, with what one word more sets, where it sets something.
+    fn with_word(self, word: &str) -> Settings
+        ensures { result ≡ with_found self (setting_in word.now) }
+    {
+        match setting_of(word) {
+            Some(setting) => self.with(setting),
+            None => self,
+        }
+    }
+
+    /// The settings, with one more.
+    fn with(self, setting: Setting) -> Settings
         ensures { result ≡ with_setting self setting }
     {
         match setting {
@@ -176,11 +170,6 @@ impl Settings {
             Setting::Quiet => Settings {
                 second: SecondLine::Never,
                 progress: ProgressLine::Never,
-                detail: Detail::Answer,
-                ..self
-            },
-            Setting::Verbose => Settings {
-                detail: Detail::Verbose,
                 ..self
             },
             Setting::Status => Settings {

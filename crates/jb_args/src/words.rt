@@ -77,10 +77,12 @@ fn words_of<'a>(matches: &ArgMatches<'a>) -> Option<CommandLine<'a>>
     ensures { option_map wants result ≡ wanted_of (subcommand_rows_of matches.now) }
 {
     let (name, found) = matches.subcommand()?;
-    if name == "load" {
-        Some(CommandLine::Load(load_of(found)?))
-    } else {
-        Some(CommandLine::Plain(plain_of(name, found)?))
+    match name {
+        "load" => Some(CommandLine::Load(load_of(found)?)),
+        "completions" => Some(CommandLine::Completions {
+            shell: word_of(found, "SHELL")?,
+        }),
+        _ => Some(CommandLine::Plain(plain_of(name, found)?)),
     }
 }
 

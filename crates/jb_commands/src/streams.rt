@@ -9,6 +9,7 @@ mod dumping;
 mod fault_line;
 mod foreseeing;
 mod formatting;
+mod hidden;
 mod judging;
 mod own_line;
 mod putting;

@@ -5,13 +5,13 @@ use Rattle.std.specs.declared.io.ErrorKind.{ErrorKind}
 use Rattle.std.specs.declared.io.ErrorKind.TheVariants.{InvalidData}
 use Rattle.jb_args.specs.Advice.{hint_line}
 use Rattle.jb_args.specs.declared.hint.Hint.{Hint}
-use Rattle.jb_args.specs.Settings.{settings_in, words_left}
+use Rattle.jb_args.specs.Settings.{is_advised, settings_in, words_left}
 use Rattle.jb_args.specs.declared.settings.Settings.{Settings}
 use Rattle.jb_text.specs.Puts.{PutsPart}
 use Rattle.jb_args.specs.Faults.{fault_kinds}
 use Rattle.jb_args.specs.PlainCommand.Asked.{AsksCost}
 use Rattle.jb_args.specs.Command.{wanted_in}
-use Rattle.jb_commands.specs.Ends.{of_fault, with_status}
+use Rattle.jb_commands.specs.Ends.{exit_status, of_fault, with_status}
 use Rattle.jb_commands.specs.Faults.{line_of, not_utf8}
 use Rattle.jb_commands.specs.Runs.{Closes, Runs}
 use Rattle.jb_commands.specs.Outputs.{Outputs}
@@ -65,9 +65,9 @@ Advises true (Some hint) err_old err_new = (system : List ℕ) × PutsPart err_o
 Advises true None err_old err_new = err_new ≡ err_old
 Advises false hint err_old err_new = err_new ≡ err_old
 
--- the program's status and outputs by what it answered: the status is the answer's, and where it is advised the second
--- line follows
-abbrev pub EndsProgram : Bool → (Outputs → Outputs → ProgramEnd → Type 0) → Outputs → Outputs → ℕ → Type 0
-EndsProgram advised Answers old new status =
-    (ended : ProgramEnd) × (mid : Outputs) × Answers old mid ended × (status ≡ ended.status) × (new.out ≡ mid.out)
-    × Advises advised ended.hint mid.err new.err
+-- the program's status and outputs by what it answered: the status is the answer's, or a finer one where the settings
+-- ask for it, and where they or a terminal ask for it the second line follows
+abbrev pub EndsProgram : Settings → Bool → (Outputs → Outputs → ProgramEnd → Type 0) → Outputs → Outputs → ℕ → Type 0
+EndsProgram settings on_terminal Answers old new status =
+    (ended : ProgramEnd) × (mid : Outputs) × Answers old mid ended × (status ≡ exit_status settings.statuses ended)
+    × (new.out ≡ mid.out) × Advises (is_advised settings on_terminal) ended.hint mid.err new.err

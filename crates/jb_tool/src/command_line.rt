@@ -10,6 +10,7 @@ ghost use Rattle.jb_commands.specs.declared.fault.CommandFault.TheVariants.{Memo
 ghost use Rattle.jb_tool.specs.RefusedWords.{RefusesWords};
 ghost use Rattle.jb_tool.specs.RunWanted.{RunsWanted, wants_input};
 
+use crate::completing::run_completions;
 use crate::load_command::run_load;
 use jb_args::{CommandLine, Error, ErrorKind, Plain, Settings, parse};
 use jb_commands::{CommandFault, ProgramEnd, run_plain};
@@ -66,6 +67,7 @@ pub fn run<
     match parse(rt.alloc(), words) {
         Ok(CommandLine::Plain(plain)) => run_plain(rt, plain, settings, input, out, err),
         Ok(CommandLine::Load(load)) => run_load(rt, load, settings, input, out, err),
+        Ok(CommandLine::Completions { shell }) => run_completions(rt.alloc(), shell, out, err),
         Err(error) => tell_refusal(&error, out, err),
     }
 }

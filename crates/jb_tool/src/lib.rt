@@ -3,6 +3,7 @@
 #![tactic(auto)]
 
 mod command_line;
+mod completing;
 mod hints;
 mod load_command;
 mod load_report;

@@ -2,7 +2,7 @@
 ghost use Rattle.std.specs.Prelude.{◌≡◌, MatchResult, None, map, true};
 ghost use Rattle.jb_args.specs.Settings.{is_advised};
 ghost use Rattle.jb_text.specs.Puts.{PutsPart};
-ghost use Rattle.jb_commands.specs.Ends.{of_fault};
+ghost use Rattle.jb_commands.specs.Ends.{exit_status, of_fault};
 ghost use Rattle.jb_commands.specs.Faults.{line_of};
 ghost use Rattle.jb_commands.specs.declared.fault.CommandFault.TheVariants.{Memory as CommandMemory};
 ghost use Rattle.jb_tool.specs.Program.{Advises, AnswersGiven, AnswersWords, EndsProgram, Helps, RefusesKind};
@@ -47,10 +47,10 @@ pub fn run_program<
     out: &mut O,
     err: &mut E,
 ) -> u8
-    /// The whole program, over any words and streams: its status is that of the answer, both outputs are as the answer
-    /// has left them, and where the settings or a terminal ask for it the second line of its hint follows, as far as
-    /// standard error took it.
-    ensures ends { EndsProgram (is_advised (settings_given (λ w. map S.text w.now) given.entry words.entry).second terminals.err)
+    /// The whole program, over any words and streams: its status is that of the answer, or a finer one where the
+    /// settings ask for it, both outputs are as the answer has left them, and where the settings or a terminal ask for
+    /// it the second line of its hint follows, as far as standard error took it.
+    ensures ends { EndsProgram (settings_given (λ w. map S.text w.now) given words.entry) terminals.err
         (λ old new ended. MatchResult words.entry
         (λ words. AnswersGiven (map S.text words.now) terminals.input (I.remaining input.old) old new ended)
         (λ kind. RefusesKind kind old new ended))
@@ -59,12 +59,12 @@ pub fn run_program<
 {
     let settings = settings_of(given, words);
     let ended = answered(rt, words, settings, terminals.input, input, out, err);
-    finish(ended, settings.second.is_shown(terminals.err), err)
+    finish(ended, settings, terminals.err, err)
 }
 
 /// The settings that were given, as the words change them, where there are words.
 fn settings_of<S: AsStr>(given: Settings, words: Result<&[S], ErrorKind>) -> Settings
-    ensures { result ≡ settings_given (λ w. map S.text w.now) given.entry words.entry }
+    ensures { result ≡ settings_given (λ w. map S.text w.now) given words.entry }
 {
     match words {
         Ok(words) => settings_in(given, words),
@@ -74,14 +74,15 @@ fn settings_of<S: AsStr>(given: Settings, words: Result<&[S], ErrorKind>) -> Set
 
 /// Writes the second line that an end has where it is advised, and gives the exit status. A fault of the writer is
 /// ignored.
-fn finish<E: Write>(ended: ProgramEnd, advised: bool, err: &mut E) -> u8
-    ensures status { result ≡ ended.status }
-    ensures advises { Advises advised ended.hint (E.contents err.old) (E.contents err.new) }
+fn finish<E: Write>(ended: ProgramEnd, settings: Settings, on_terminal: bool, err: &mut E) -> u8
+    ensures status { result ≡ exit_status settings.statuses ended }
+    ensures advises { Advises (is_advised settings on_terminal) ended.hint (E.contents err.old)
+        (E.contents err.new) }
 {
-    if advised {
+    if settings.is_advised(on_terminal) {
         advise(ended, err);
     }
-    ended.status
+    ended.exit_status(settings.statuses)
 }
 
 /// Writes the second line that an end has.

@@ -118,6 +118,9 @@ fn asked(rt: &impl Host, words: &[&str]) -> String {
     match parse(rt.alloc(), words) {
         Ok(CommandLine::Plain(plain)) => put_plain(rt, &mut text, plain),
         Ok(CommandLine::Load(of)) => put_load(rt, &mut text, of),
+        Ok(CommandLine::Completions { shell }) => {
+            put_words(rt, &mut text, &["completions", shell])
+        }
         Err(_) => fail(rt, "words that are refused"),
     }
     text
@@ -129,6 +132,7 @@ static ROWS: [(&str, &str); 37] = [
     ("cost -", "cost -"),
     ("cost -- -x", "cost -x"),
     ("plan -", "plan -"),
+    ("completions zsh", "completions zsh"),
     ("check a b", "check a b"),
     ("renumber a.img", "renumber a.img -"),
     ("renumber --extents=1-33 a.img", "renumber a.img 1-33"),
@@ -247,18 +251,20 @@ fn commands_with_their_words_are_taken(rt: HostRuntime) {
 
 /// The short help of `jb`.
 const HELP: &str = "A block journal in jbd2's format\n\nUsage: jb <COMMAND>\n\nCommands:\
-     \n  cost      Prints the log blocks that the queue takes as one group\
-     \n  plan      Prints a least cut of the queue into groups, with its prices\
-     \n  check     Checks a certificate of the queue, whoever made it\
-     \n  dump      Prints the committed transactions of a journal, block by block\
-     \n  cat       Writes home blocks of an image as recovery would leave them\
-     \n  format    Makes an image: a new journal, and home blocks of zeros after it\
-     \n  load      Commits the handles of a queue text to an image, run by threads\
-     \n  recover   Writes home what an image's journal has committed, and empties its log\
-     \n  renumber  Restarts the transaction numbers of a clean journal at 1\
-     \n  widen     Gives a clean journal block numbers of 64 bits\
-     \n  help      Print this message or the help of the given subcommand(s)\n\nOptions:\
-     \n  -h, --help     Print help (see more with '--help')\n  -V, --version  Print version\n";
+     \n  cost         Prints the log blocks that the queue takes as one group\
+     \n  plan         Prints a least cut of the queue into groups, with its prices\
+     \n  check        Checks a certificate of the queue, whoever made it\
+     \n  dump         Prints the committed transactions of a journal, block by block\
+     \n  cat          Writes home blocks of an image as recovery would leave them\
+     \n  format       Makes an image: a new journal, and home blocks of zeros after it\
+     \n  load         Commits the handles of a queue text to an image, run by threads\
+     \n  recover      Writes home what a journal has committed, and empties its log\
+     \n  renumber     Restarts the transaction numbers of a clean journal at 1\
+     \n  widen        Gives a clean journal block numbers of 64 bits\
+     \n  completions  Prints a script by which a shell completes the words of jb\
+     \n  help         Print this message or the help of the given subcommand(s)\n\nOptions:\
+     \n  -h, --help     Print help (see more with '--help')\n  -V, --version  Print version\
+     \n\nSettings and topics: jb help settings, files, locks, statuses, diagnostics\n";
 
 /// Checks the help that is shown where there are no words.
 fn check_short_help(rt: &impl Host) {

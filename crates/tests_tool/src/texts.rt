@@ -114,7 +114,7 @@ static ROWS: [Row; 30] = [
         (2, "", "jb: cannot read no-such.img\n"),
     ),
     ("cost ''", QUEUE, (2, "", "jb: cannot read \n")),
-    ("--version", b"", (0, "jb 0.1.0\n", "")),
+    ("-V", b"", (0, "jb 0.1.0\n", "")),
     (
         "cost",
         b"",

@@ -1,6 +1,8 @@
 //! The settings among the words of a command line, and the words that are left.
-ghost use Rattle.std.specs.Prelude.{◌≡◌, IfOk, map};
-ghost use Rattle.jb_args.specs.Settings.{settings_in as settings_said, words_left as left_of};
+ghost use Rattle.std.specs.Prelude.{◌≡◌, ◌&&◌, ◌||◌, codes, not, is_none, IfOk, map};
+ghost use Rattle.std.specs.Str.{bytes_eq};
+ghost use Rattle.jb_args.specs.Settings.{setting_of as setting_in, settings_in as settings_said};
+ghost use Rattle.jb_args.specs.Settings.{words_left as left_of};
 
 use super::{Settings, setting_of};
 use std::alloc::{AllocError, Global};
@@ -16,13 +18,11 @@ pub fn settings_in<S: AsStr>(given: Settings, words: &[S]) -> Settings
 {
     let mut settings = given;
     for word in words {
-        let word = word.as_str();
-        if word == END {
+        let text = word.as_str();
+        if text == END {
             return settings;
         }
-        if let Some(setting) = setting_of(word) {
-            settings = settings.with(setting);
-        }
+        settings = settings.with_word(text);
     }
     settings
 }
@@ -38,11 +38,25 @@ pub fn words_left<'a, S: AsStr>(alloc: Global, words: &'a [S]) -> Result<Vec<&'a
     let mut left = Vec::new(alloc);
     let mut may_set = true;
     for word in words {
-        let word = word.as_str();
-        may_set = may_set && word != END;
-        if !may_set || setting_of(word).is_none() {
-            left.push(word)?;
+        let text = word.as_str();
+        may_set = sets_on(text, may_set);
+        if stays(text, may_set) {
+            left.push(text)?;
         }
     }
     Ok(left)
+}
+
+/// Whether a word, and those after it, may be settings, where those before it might.
+fn sets_on(word: &str, may_set: bool) -> bool
+    ensures { result ≡ (may_set && not (bytes_eq word.now (codes "--"))) }
+{
+    may_set && word != END
+}
+
+/// Whether a word is left for the command, where it may be a setting or not.
+fn stays(word: &str, may_set: bool) -> bool
+    ensures { result ≡ (not may_set || is_none (setting_in word.now)) }
+{
+    !may_set || setting_of(word).is_none()
 }
