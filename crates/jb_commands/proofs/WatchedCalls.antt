@@ -1,6 +1,5 @@
 -- What was done to a disk whose calls are shown was done to the disk that they are passed on to.
 use Rattle.std.proofs.Common.{ℕ, false, Option, Result}
-use Rattle.std.specs.Prelude.{Unit}
 use Rattle.jb_disk.specs.Image.{Image, ChangesNothing}
 use Rattle.jb_disk.specs.KeptOn.{KeptOn, ReadsOn}
 use Rattle.jb_disk.specs.Time.{Goes, LeavesOnly}
