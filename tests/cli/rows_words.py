@@ -248,7 +248,7 @@ for words in "load a q --threads 0 --hints", "--quiet --hints load a q --threads
 row("load a q --threads 0", 2, err="jb: bad option\n", beside="--threads", how="export JB_HINTS=1")
 row("load -q a q --threads 0", 2, err="jb: bad option\n", beside="--threads", how="export JB_HINTS=1")
 for value in "0", "11", "":
-    row("load a q --threads 0", 2, err="jb: bad option\n", how="export JB_HINTS='%s' JB_STATUS='%s'" % (value, value))
+    row("load a q --threads 0", 2, err="jb: bad option\n", beside="--threads", how="export JB_HINTS='%s' JB_STATUS='%s'" % (value, value))
 row("cost -- --hints", 2, err="jb: cannot read --hints\n", beside=MISSING)
 row("cost --status --no-progress q", 1, "cost 7 limit 6 over\n", files={"q": queue(THREE, 6)})
 row("--hints", 0, "cost 7 limit 7 fits\n", stdin=queue(THREE, 7))

@@ -8,10 +8,10 @@ use crate::pipes::{Heard, Heeding};
 use crate::streams::fill_closed;
 use jb_tool::{CommandFault, Settings, Terminals, run_program};
 use std::cell::Cell;
+use std::env::Env;
 use std::io::{IsTerminal, Write};
 use std::process::ExitCode;
 use std::{env, io};
-use std::env::Env;
 
 /// The words after the program's name.
 fn words(rt: &HostRuntime) -> io::Result<Vec<String>> {
@@ -48,6 +48,8 @@ fn main(rt: HostRuntime) -> ExitCode {
         err: on_terminal,
     };
     let settings = Settings::new(is_set(&rt, "JB_HINTS"), is_set(&rt, "JB_STATUS"));
-    let status = run_program(&rt, given, settings, terminals, &mut input, &mut out, &mut err);
+    let status = run_program(
+        &rt, given, settings, terminals, &mut input, &mut out, &mut err,
+    );
     ExitCode::from(status)
 }

@@ -1,7 +1,8 @@
 //! The scripts by which a shell completes the words of `jb`, made from the table of the commands.
 ghost use Rattle.std.specs.Prelude.{◌≡◌, ◌++◌, codes, IfOk, OnOk, map, string_bytes};
-ghost use Rattle.jb_args.specs.Completions.{command_completed, commands_completed, completions_of, form_said, names_completed};
-ghost use Rattle.jb_args.specs.Completions.{ScriptForm, option_completed, options_completed, shapes_of, shell_named};
+ghost use Rattle.jb_args.specs.Completions.{ScriptForm, command_completed, commands_completed, completions_of};
+ghost use Rattle.jb_args.specs.Completions.{form_said, names_completed, option_completed, options_completed};
+ghost use Rattle.jb_args.specs.Completions.{shapes_of, shell_named};
 ghost use Rattle.jb_args.specs.Rows.{app_of_row, rule_of_word};
 
 use crate::commands::{COMMANDS, CommandName, CommandRow, CommandWord, WordKind, row_of};

@@ -220,8 +220,8 @@ impl Hint {
         diagnostics!(advice_in, hint)
     }
 
-    /// The finer status of a run that ends with this line: 2 for words, files and texts that cannot be taken, 3 for what
-    /// is refused, 4 for a failed read or write, and 5 for want of memory.
+    /// The finer status of a run that ends with this line: 2 for words, files and texts that cannot be taken, 3 for
+    /// what is refused, 4 for a failed read or write, and 5 for want of memory.
     #[tactic(auto, unfolding(crate::specs::Advice::finer_of))]
     pub fn finer_status(self) -> u8
         ensures { result ≡ finer_of self }

@@ -131,8 +131,8 @@ impl Settings {
         }
     }
 
-    /// Whether a line on standard error has a second one after it, where that is a terminal or not; what is said in JSON
-    /// has it within.
+    /// Whether a line on standard error has a second one after it, where that is a terminal or not; what is said in
+    /// JSON has it within.
     pub fn is_advised(self, on_terminal: bool) -> bool
         ensures { result ≡ advises self on_terminal }
     {

@@ -21,9 +21,9 @@ none-of text (word ∷ words) none = cc
 pub runs-texts : {W : Type 0} (text : W → List ℕ) (words : List W) (input : Option (List ℕ)) (old new : Outputs) (ended : ProgramEnd)
     → (words ≡ [] → Runs (AsksCost (codes "-")) input old new ended)
     → (words ≢ [] → fault_kinds (map text words) ≡ []
-      → IfSome (wanted_in (map text words)) (λ wanted. RunsWanted wanted input old new ended ⊎ Closes None (Err Memory) old new ended))
+    → IfSome (wanted_in (map text words)) (λ wanted. RunsWanted wanted input old new ended ⊎ Closes None (Err Memory) old new ended))
     → (words ≢ [] → (fault_kinds (map text words) ≢ []) ⊎ (wanted_in (map text words) ≡ None)
-      → RefusesWords (fault_kinds (map text words)) (wanted_in (map text words)) old new ended)
+    → RefusesWords (fault_kinds (map text words)) (wanted_in (map text words)) old new ended)
     → RunsWords (map text words) input old new ended
 runs-texts text words input old new ended bare asked refused = record {
   bare = λ none. bare (none-of text words none);

@@ -21,8 +21,8 @@ use Rattle.jb_tool.specs.RefusedWords.{RefusesWords}
 use Rattle.jb_tool.specs.RunWanted.{RunsWanted}
 
 -- what `run` says of a run with these words
-pub record RunsWords (words : List (List ℕ)) (input : Option (List ℕ)) (old new : Outputs) (ended : ProgramEnd) : Type 0
-where
+pub record RunsWords (words : List (List ℕ)) (input : Option (List ℕ)) (old new : Outputs) (ended : ProgramEnd)
+    : Type 0 where
   pub bare : words ≡ [] → Runs (AsksCost (codes "-")) input old new ended
   pub asked : words ≢ [] → fault_kinds words ≡ []
       → IfSome (wanted_in words) (λ wanted. RunsWanted wanted input old new ended

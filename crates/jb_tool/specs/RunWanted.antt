@@ -19,9 +19,10 @@ wants_input (WantsPlain asked) = reads_input asked
 wants_input (WantsLoad load) = reads_list load.extents
 wants_input (WantsCompletions shell) = false
 
--- the script of a shell is on standard output, with status 0, or that failed part of the way, or there was no memory for
--- it; of another word it is an option that is bad
-abbrev pub EndsOfCompletions : Option Shell → Option (List ℕ) → Option (List ℕ) → Result ProgramEnd CommandFault → Type 0
+-- the script of a shell is on standard output, with status 0, or that failed part of the way, or there was no memory
+-- for it; of another word it is an option that is bad
+abbrev pub EndsOfCompletions : Option Shell → Option (List ℕ) → Option (List ℕ) → Result ProgramEnd CommandFault
+    → Type 0
 EndsOfCompletions (Some shell) out_old out_new end =
     ((form : ScriptForm) × TellsLine (completions_of form) out_old out_new end)
     ⊎ ((end ≡ Err Memory) × (out_new ≡ out_old))

@@ -24,21 +24,15 @@ use std::time::Clock;
 
 /// Runs `jb` with these words, the program's name left out, and gives its end. With no words it acts as
 /// `jb cost -`. Words that are no command are answered by clap's text: status 2 and `err`, or status 0 and `out` for
-/// help and the version. The words have no settings among them any more. `input` is read by a command whose text it is, and else left as it is.
+/// help and the version. The words have no settings among them any more. `input` is read by a command whose text it
+/// is, and else left as it is.
 pub fn run<
     R: Files<File = File> + AllocGlobal + Threads + Wait + Clock + Sync,
     S: AsStr,
     I: Read,
     O: Write,
     E: Write,
->(
-    rt: &R,
-    words: &[S],
-    settings: Settings,
-    input: &mut I,
-    out: &mut O,
-    err: &mut E,
-) -> ProgramEnd
+>(rt: &R, words: &[S], settings: Settings, input: &mut I, out: &mut O, err: &mut E) -> ProgramEnd
     /// Without words, the same of `cost -`.
     ensures bare { words.now ≡ [] → Runs (AsksCost (codes "-")) (I.remaining input.old)
         (record { out = O.contents out.old; err = E.contents err.old })

@@ -16,7 +16,7 @@ fn put(rt: &impl Host, text: &mut String, word: &str) {
 }
 
 /// Adds these words.
-fn put_words(rt: &impl Host, text: &mut String, words: &[&str]) {
+pub fn put_words(rt: &impl Host, text: &mut String, words: &[&str]) {
     for word in words {
         put(rt, text, word)
     }

@@ -86,7 +86,7 @@ error has a status of its own, which jb help diagnostics has for each line:
   0       the command is done, and what it judges fits or is accepted
   1       what it judges does not fit, or is not accepted
   2       the words, a file or a text cannot be taken
-  3       the journal, or the image, is refused, or it refuses what is to be done
+  3       the journal or the image is refused, or refuses what is to be done
   4       a read or a write failed, of an image, a journal or standard output
   5       memory ran out
 With no words jb acts as jb cost -; where standard input is a terminal it

@@ -2,7 +2,8 @@
 //! text or end its line.
 ghost use Rattle.std.specs.Prelude.{◌≡◌, ◌<◌, ◌==◌, ◌&&◌, ◌||◌, get_or, length, nat_lt, not};
 ghost use Rattle.jb_commands.specs.Lines.{hidden_from, hidden_length as length_hidden, is_control as is_control_byte};
-ghost use Rattle.jb_commands.specs.Lines.{is_control_pair as is_pair_of_control, is_control_triple as is_triple_of_control};
+ghost use Rattle.jb_commands.specs.Lines.{is_control_pair as is_pair_of_control};
+ghost use Rattle.jb_commands.specs.Lines.{is_control_triple as is_triple_of_control};
 ghost use Rattle.jb_commands.specs.Lines.{is_hidden_after as is_after_hidden, is_hidden_at as is_at_hidden};
 
 /// Whether the byte at a place of a name belongs to a character that is not shown.
