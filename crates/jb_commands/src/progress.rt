@@ -1,13 +1,13 @@
-//! How far a long command has come, on a terminal: one line, which is written anew and erased at the end. It has a stream
-//! of its own: standard error is given what the clauses of a command say, and nothing else.
+//! How far a long command has come, on a terminal: one line, which is written anew and erased at the end. It has a
+//! stream of its own: standard error is given what the clauses of a command say, and nothing else.
 
+mod advance;
 mod line;
 mod pass;
-mod stretch;
 
-use crate::progress::line::Line;
+use crate::progress::advance::Advance;
+use crate::progress::line::TerminalLine;
 use crate::progress::pass::Pass;
-use crate::progress::stretch::Stretch;
 use jb_args::ProgressLine;
 use std::fs::{File, OpenOptions};
 use std::io::IsTerminal;
@@ -25,17 +25,17 @@ pub(crate) enum Course {
     /// The log of a journal, once or several times.
     Log(Pass),
     /// A text of bytes, once.
-    Bytes(Stretch),
+    Bytes(Advance),
 }
 
 /// How far a command has come, where that is shown.
 #[derive(Drop)]
-pub(crate) struct Progress<'a, K: Clock> {
+pub(crate) struct ShownProgress<'a, K: Clock> {
     clock: &'a K,
-    line: Option<Line>,
+    line: Option<TerminalLine>,
 }
 
-impl<'a, K: Clock> Progress<'a, K> {
+impl<'a, K: Clock> ShownProgress<'a, K> {
     /// Of a command over the log of a journal of this many blocks, which has done nothing yet. Nothing is shown where
     /// standard error is no terminal.
     pub(crate) fn over_log<R: Files<File = File>>(
@@ -44,21 +44,21 @@ impl<'a, K: Clock> Progress<'a, K> {
         shown: ProgressLine,
         what: &'static str,
         journal: u64,
-    ) -> Progress<'a, K> {
-        Progress::new(rt, clock, shown, what, Course::Log(Pass::new(journal)))
+    ) -> ShownProgress<'a, K> {
+        ShownProgress::new(rt, clock, shown, what, Course::Log(Pass::new(journal)))
     }
 
-    /// Of a command that reads this many bytes and writes text. Nothing is shown where standard error is no terminal, or
-    /// standard output is one: the text would be written over the line.
+    /// Of a command that reads this many bytes and writes text. Nothing is shown where standard error is no terminal,
+    /// or standard output is one: the text would be written over the line.
     pub(crate) fn over_bytes<R: Files<File = File>>(
         rt: &R,
         clock: &'a K,
         shown: ProgressLine,
         what: &'static str,
         bytes: u64,
-    ) -> Progress<'a, K> {
+    ) -> ShownProgress<'a, K> {
         let shown = beside_text(rt, shown, bytes);
-        Progress::new(rt, clock, shown, what, Course::Bytes(Stretch::new(bytes)))
+        ShownProgress::new(rt, clock, shown, what, Course::Bytes(Advance::new(bytes)))
     }
 
     /// Of a command with this course.
@@ -68,12 +68,12 @@ impl<'a, K: Clock> Progress<'a, K> {
         shown: ProgressLine,
         what: &'static str,
         course: Course,
-    ) -> Progress<'a, K> {
+    ) -> ShownProgress<'a, K> {
         let line = match shown {
-            ProgressLine::OnTerminal => Line::new(opened(rt, ERROR), clock, what, course),
+            ProgressLine::OnTerminal => TerminalLine::new(opened(rt, ERROR), clock, what, course),
             ProgressLine::Never => None,
         };
-        Progress { clock, line }
+        ShownProgress { clock, line }
     }
 
     /// The block at a place is read or written.

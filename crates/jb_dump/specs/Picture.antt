@@ -40,13 +40,13 @@ abbrev pub index_at : Superblock → ℕ → ℕ
 index_at s at = if nat_lt at s.start then at + usable_of s - s.start else at - s.start
 
 -- a column in which no transaction begins: one that began before it takes its first block, or its blocks are free
-abbrev pub block_text : Bool → List ℕ
-block_text used = if used then codes "-" else codes "."
+abbrev pub bare_text : Bool → List ℕ
+bare_text used = if used then codes "-" else codes "."
 
 -- a column, by how many transactions begin in it: their number, or + for more than nine
 abbrev pub column_text : ℕ → Bool → List ℕ
 column_text begun used =
-    if nat_eq begun 0 then block_text used else (if nat_lt 9 begun then codes "+" else decimal begun)
+    if nat_eq begun 0 then bare_text used else (if nat_lt 9 begun then codes "+" else decimal begun)
 
 -- the same of a log with transactions of these sizes, which take this many blocks
 abbrev pub bar_column : Superblock → List ℕ → ℕ → ℕ → List ℕ

@@ -1,7 +1,7 @@
 //! A log as a picture in text, within 80 columns.
 ghost use Rattle.std.specs.Prelude.{◌≡◌, ◌<◌, ◌≤◌, ◌^◌, ◌++◌, nat_eq, nat_lt, if◌then◌else◌, string_bytes, OnOk};
 ghost use Rattle.jb_super.specs.Geometry.{place};
-ghost use Rattle.jb_dump.specs.Picture.{bar_column, begun_in as begun_within, block_text};
+ghost use Rattle.jb_dump.specs.Picture.{bar_column, begun_in as begun_within, bare_text};
 ghost use Rattle.jb_dump.specs.Picture.{column_blocks as blocks_of_column};
 ghost use Rattle.jb_dump.specs.Picture.{column_count as count_of_columns, column_of as column_with};
 ghost use Rattle.jb_dump.specs.Picture.{column_place as place_of_column, column_text, columns_upto, copies_column};
@@ -85,7 +85,7 @@ fn begun_in(sb: &Super, sizes: &[u32], column: u32) -> u64
 
 /// What stands for a column in which no transaction begins, and whose first block is used or not.
 fn block_mark(used: bool) -> &'static str
-    ensures { result.now ≡ block_text used }
+    ensures { result.now ≡ bare_text used }
 {
     if used { "-" } else { "." }
 }

@@ -118,7 +118,7 @@ static BY_HAND: [Case; 6] = [
     ),
 ];
 
-/// What the picture of WRAPPED comes to after its lines: a transaction that begins in column 29 and goes on in column 0.
+/// WRAPPED with its picture: a transaction that begins in column 29 and goes on in column 0.
 const WRAPS_DRAWN: &str = "log transactions=1 used=6 usable=32 free=26
 ends tail=30 head=4
 blocks least=6 mean=6 most=6

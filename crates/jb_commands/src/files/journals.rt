@@ -16,7 +16,7 @@ use crate::files::recovered::checksums_of;
 use crate::files::searching::dump_opened;
 use crate::files::shut::FileFault;
 use crate::files::texts::unopened;
-use crate::progress::Progress;
+use crate::progress::ShownProgress;
 use crate::streams::{WatchedReader, dump_from};
 use jb_args::{DumpOptions, OptionName, ProgressLine};
 use jb_block::Memory;
@@ -150,7 +150,7 @@ fn dump_open<
         (O.contents out.old) (O.contents out.new) result }
     ensures unread { reads_list (dump_said options.entry).extents ≡ false → input.new ≡ input.old }
 {
-    let progress = Progress::over_bytes(rt, rt, shown, "jb dump", len_of(&file));
+    let progress = ShownProgress::over_bytes(rt, rt, shown, "jb dump", len_of(&file));
     let mut journal = WatchedReader::of(file, progress);
     let end = dump_from(rt.alloc(), &mut journal, choice_of(options), out);
     let mut file = journal.into_inner();
@@ -210,7 +210,7 @@ fn dump_placed<
             let disk = opened.disk;
             let journal = disk.blocks().saturating_sub(opened.homes);
             let bytes = journal.saturating_mul(u64::from(disk.block_size().bytes()));
-            let progress = Progress::over_bytes(rt, rt, shown, "jb dump", bytes);
+            let progress = ShownProgress::over_bytes(rt, rt, shown, "jb dump", bytes);
             dump_opened(rt.alloc(), disk, options, progress, out)
         }
         Err(fault) => Err(fault),

@@ -16,7 +16,7 @@ use crate::files::opening::Opening;
 use crate::files::placed::open_placed;
 use crate::files::recovering::recover_image;
 use crate::files::watched::foresee_watched;
-use crate::progress::Progress;
+use crate::progress::ShownProgress;
 use crate::report::Report;
 use crate::streams::{WatchedDisk, judge_on};
 use jb_args::{OptionName, ProgressLine, RecoverOptions};
@@ -86,7 +86,7 @@ pub fn recover_file<'a, S: Start, T: Start, R: Files<File = File> + AllocGlobal 
         Ok(opened) => {
             let OpenedImage { disk, homes, found } = opened;
             let journal = disk.blocks().saturating_sub(homes);
-            let progress = Progress::over_log(rt, rt, shown, "jb recover", journal);
+            let progress = ShownProgress::over_log(rt, rt, shown, "jb recover", journal);
             let done = recover_opened(rt.alloc(), disk, homes, found, options, progress);
             CommandEnd {
                 image: Some(done.0),
@@ -120,7 +120,7 @@ fn recover_opened<'a, D: Disk, E: Disk, K: Clock>(
     homes: u64,
     found: Option<MapSource>,
     options: RecoverOptions<'_>,
-    progress: Progress<'_, K>,
+    progress: ShownProgress<'_, K>,
 ) -> (ImageDisk<D, E>, Result<Report, CommandFault<'a>>)
     ensures recovers { RecoversOpened (as_disks D.Disk E.Disk) (recover_said options.entry) homes found disk result.0
         result.1 }

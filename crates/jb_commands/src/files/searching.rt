@@ -6,7 +6,7 @@ ghost use Rattle.jb_commands.specs.Searched.{DumpsDisk, DumpsSearched, end_unles
 
 use crate::fault::CommandFault;
 use crate::files::journals::choice_of;
-use crate::progress::Progress;
+use crate::progress::ShownProgress;
 use crate::streams::{DiskReader, WatchedReader, dump_from};
 use jb_args::DumpOptions;
 use jb_disk::Disk;
@@ -25,7 +25,7 @@ pub(crate) fn dump_opened<'a, D: Disk + Drop, K: Clock, O: Write>(
     alloc: Global,
     disk: D,
     options: DumpOptions<'a>,
-    progress: Progress<'_, K>,
+    progress: ShownProgress<'_, K>,
     out: &mut O,
 ) -> Result<u8, CommandFault<'a>>
     ensures dumps { DumpsDisk D.Disk (dump_said options.entry) disk (O.contents out.old) (O.contents out.new)
@@ -47,7 +47,7 @@ fn dump_searched<'a, D: Disk + Drop, K: Clock, O: Write>(
     alloc: Global,
     disk: D,
     filter: DumpFilter,
-    progress: Progress<'_, K>,
+    progress: ShownProgress<'_, K>,
     out: &mut O,
 ) -> Result<u8, CommandFault<'a>>
     ensures dumps { DumpsSearched D.Disk filter disk (O.contents out.old) (O.contents out.new) result }
@@ -90,7 +90,7 @@ fn dump_disk<'a, D: Disk + Drop, K: Clock, O: Write>(
     alloc: Global,
     disk: D,
     filter: DumpFilter,
-    progress: Progress<'_, K>,
+    progress: ShownProgress<'_, K>,
     out: &mut O,
 ) -> Result<u8, CommandFault<'a>>
     ensures dumps { DumpsOn filter None None (O.contents out.old) (O.contents out.new) result }

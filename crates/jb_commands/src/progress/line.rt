@@ -1,7 +1,7 @@
 //! The line on a terminal.
 
 use crate::progress::Course;
-use crate::progress::stretch::Stretch;
+use crate::progress::advance::Advance;
 use itoa::Buffer;
 use jb_text::{put, put_parts};
 use std::fs::File;
@@ -21,7 +21,7 @@ const CALLS_A_LOOK: u32 = 256;
 
 /// A line on a terminal, which says how far a command has come.
 #[derive(Drop)]
-pub(crate) struct Line {
+pub(crate) struct TerminalLine {
     terminal: File,
     /// What the command does.
     what: &'static str,
@@ -36,17 +36,17 @@ pub(crate) struct Line {
     course: Course,
 }
 
-impl Line {
+impl TerminalLine {
     /// A line that is not written yet, where there is a terminal and a clock.
     pub(crate) fn new<K: Clock>(
         terminal: Option<File>,
         clock: &K,
         what: &'static str,
         course: Course,
-    ) -> Option<Line> {
+    ) -> Option<TerminalLine> {
         let terminal = terminal?;
         let begun = Instant::now(clock).ok()?;
-        Some(Line {
+        Some(TerminalLine {
             terminal,
             what,
             begun,
@@ -67,8 +67,8 @@ impl Line {
 
     /// So many bytes more are read.
     pub(crate) fn read<K: Clock>(&mut self, clock: &K, bytes: u64) {
-        if let Course::Bytes(stretch) = &mut self.course {
-            stretch.at = stretch.at.saturating_add(bytes)
+        if let Course::Bytes(advance) = &mut self.course {
+            advance.at = advance.at.saturating_add(bytes)
         }
         self.call(clock)
     }
@@ -102,7 +102,7 @@ impl Line {
     fn see(&mut self, now: u64) {
         match &mut self.course {
             Course::Log(pass) => pass.blocks.see(now),
-            Course::Bytes(stretch) => stretch.see(now),
+            Course::Bytes(advance) => advance.see(now),
         }
     }
 
@@ -112,12 +112,12 @@ impl Line {
         let course = self.course;
         match course {
             Course::Log(pass) => self.show_pass(pass.number, pass.blocks, now),
-            Course::Bytes(stretch) => self.show_bytes(stretch, now),
+            Course::Bytes(advance) => self.show_bytes(advance, now),
         }
     }
 
     /// Writes it of a pass over a log. A fault of the terminal is ignored.
-    fn show_pass(&mut self, number: u64, blocks: Stretch, now: u64) {
+    fn show_pass(&mut self, number: u64, blocks: Advance, now: u64) {
         let (mut pass, mut at, mut of) = (Buffer::new(), Buffer::new(), Buffer::new());
         let (mut percent, mut left) = (Buffer::new(), Buffer::new());
         let parts = [
@@ -139,7 +139,7 @@ impl Line {
     }
 
     /// Writes it of bytes that are read, in KiB.
-    fn show_bytes(&mut self, bytes: Stretch, now: u64) {
+    fn show_bytes(&mut self, bytes: Advance, now: u64) {
         let (mut at, mut of) = (Buffer::new(), Buffer::new());
         let (mut percent, mut left) = (Buffer::new(), Buffer::new());
         let parts = [
@@ -160,7 +160,7 @@ impl Line {
 
     /// Erases the line where it stands.
     pub(crate) fn erase(self) {
-        let Line {
+        let TerminalLine {
             terminal,
             stands,
             ..

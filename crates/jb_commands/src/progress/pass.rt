@@ -1,9 +1,9 @@
 //! Where a command is that goes over the log of a journal, once or several times.
 
-use crate::progress::stretch::Stretch;
+use crate::progress::advance::Advance;
 
-/// A pass over a log. It is known by the places of the blocks that are read and written: each pass begins at the same one,
-/// the log's tail, and goes on to where the log ends.
+/// A pass over a log. It is known by the places of the blocks that are read and written: each pass begins at the same
+/// one, the log's tail, and goes on to where the log ends.
 #[derive(Clone, Copy)]
 pub(crate) struct Pass {
     /// How many blocks the journal has after its superblock.
@@ -14,7 +14,7 @@ pub(crate) struct Pass {
     tail: u64,
     /// How many blocks of the log it has come over: of the first pass of all that there are, of a later one of those of
     /// the one before.
-    pub blocks: Stretch,
+    pub blocks: Advance,
 }
 
 impl Pass {
@@ -25,7 +25,7 @@ impl Pass {
             ring,
             number: 0,
             tail: 0,
-            blocks: Stretch::new(ring),
+            blocks: Advance::new(ring),
         }
     }
 
@@ -38,7 +38,7 @@ impl Pass {
             self.tail = place;
             self.number = 1;
         } else if place == self.tail {
-            self.blocks = Stretch::new(self.blocks.at);
+            self.blocks = Advance::new(self.blocks.at);
             self.number = self.number.saturating_add(1);
         } else {
             self.blocks.at = self.behind(place);

@@ -1,4 +1,4 @@
-use crate::progress::Progress;
+use crate::progress::ShownProgress;
 use jb_block::BlockSize;
 use jb_disk::{Disk, Fault};
 use std::time::Clock;
@@ -7,7 +7,7 @@ use std::time::Clock;
 #[derive(Drop)]
 pub(crate) struct WatchedDisk<'a, D: Disk, K: Clock> {
     disk: D,
-    progress: Progress<'a, K>,
+    progress: ShownProgress<'a, K>,
 }
 
 impl<'a, D: Disk, K: Clock> WatchedDisk<'a, D, K> {
@@ -15,7 +15,7 @@ impl<'a, D: Disk, K: Clock> WatchedDisk<'a, D, K> {
     ghost use Rattle.jb_commands.specs.Watched.{watched};
 
     /// A disk that passes calls on to `disk`.
-    pub(crate) fn of(disk: D, progress: Progress<'a, K>) -> WatchedDisk<'a, D, K>
+    pub(crate) fn of(disk: D, progress: ShownProgress<'a, K>) -> WatchedDisk<'a, D, K>
         ensures { watched result ≡ disk }
     {
         WatchedDisk { disk, progress }

@@ -1,4 +1,4 @@
-use crate::progress::Progress;
+use crate::progress::ShownProgress;
 use std::io::{self, Read};
 use std::time::Clock;
 
@@ -6,12 +6,12 @@ use std::time::Clock;
 #[derive(Drop)]
 pub(crate) struct WatchedReader<'a, I: Read, K: Clock> {
     reader: I,
-    progress: Progress<'a, K>,
+    progress: ShownProgress<'a, K>,
 }
 
 impl<'a, I: Read, K: Clock> WatchedReader<'a, I, K> {
     /// A reader that passes reads on to `reader`.
-    pub(crate) fn of(reader: I, progress: Progress<'a, K>) -> WatchedReader<'a, I, K> {
+    pub(crate) fn of(reader: I, progress: ShownProgress<'a, K>) -> WatchedReader<'a, I, K> {
         WatchedReader { reader, progress }
     }
 

@@ -2,7 +2,7 @@
 
 /// So many of so many.
 #[derive(Clone, Copy)]
-pub(crate) struct Stretch {
+pub(crate) struct Advance {
     /// How many are done.
     pub at: u64,
     /// How many there are at most.
@@ -11,10 +11,10 @@ pub(crate) struct Stretch {
     since: Option<u64>,
 }
 
-impl Stretch {
+impl Advance {
     /// None of so many.
-    pub(crate) fn new(of: u64) -> Stretch {
-        Stretch {
+    pub(crate) fn new(of: u64) -> Advance {
+        Advance {
             at: 0,
             of,
             since: None,
