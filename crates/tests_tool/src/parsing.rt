@@ -147,7 +147,10 @@ static ROWS: [(&str, &str); 37] = [
         "format a.img 1024 33 16 0 00000000000000000000000000000000 false",
     ),
     ("dump a", "dump a - - false false false - - false false"),
-    ("dump --home 5 a", "dump a 5 - false false false - - false false"),
+    (
+        "dump --home 5 a",
+        "dump a 5 - false false false - - false false",
+    ),
     (
         "dump --journal j a",
         "dump a - - false false false j - false false",
@@ -160,8 +163,14 @@ static ROWS: [(&str, &str); 37] = [
         "dump a --last=18446744073709551615",
         "dump a - 18446744073709551615 false false false - - false false",
     ),
-    ("dump --super a", "dump a - - true false false - - false false"),
-    ("dump --summary a", "dump a - - false true false - - false false"),
+    (
+        "dump --super a",
+        "dump a - - true false false - - false false",
+    ),
+    (
+        "dump --summary a",
+        "dump a - - false true false - - false false",
+    ),
     (
         "dump --draw a --summary",
         "dump a - - false true true - - false false",
@@ -182,7 +191,10 @@ static ROWS: [(&str, &str); 37] = [
         "dump --ring a --checksums",
         "dump a - - false false false - - true true",
     ),
-    ("dump a --ring", "dump a - - false false false - - false true"),
+    (
+        "dump a --ring",
+        "dump a - - false false false - - false true",
+    ),
     ("cat a.img 5", "cat a.img 5 1 false - - false"),
     (
         "cat --hex a.img -n 3 18446744073709551615",

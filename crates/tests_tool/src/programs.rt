@@ -68,7 +68,15 @@ fn ran(
     input: &mut &[u8],
 ) -> Ended {
     let (mut out, mut err) = (Vec::new(rt.alloc()), Vec::new(rt.alloc()));
-    let status = run_program(rt, words, Settings::new(false, false), terminals, input, &mut out, &mut err);
+    let status = run_program(
+        rt,
+        words,
+        Settings::new(false, false),
+        terminals,
+        input,
+        &mut out,
+        &mut err,
+    );
     Ended { out, err, status }
 }
 

@@ -43,7 +43,14 @@ pub fn words_of<'a>(rt: &impl Host, line: &'a str) -> Vec<&'a str> {
 pub fn ran_from<I: Read>(rt: &impl Host, line: &str, input: &mut I) -> Outcome {
     let mut out = Vec::new(rt.alloc());
     let mut err = Vec::new(rt.alloc());
-    let ended = run(rt, &words_of(rt, line), Settings::new(false, false), input, &mut out, &mut err);
+    let ended = run(
+        rt,
+        &words_of(rt, line),
+        Settings::new(false, false),
+        input,
+        &mut out,
+        &mut err,
+    );
     Outcome { ended, out, err }
 }
 

@@ -34,7 +34,13 @@ fn check_left(rt: &impl Host, line: &str, wanted: &str, row: usize) {
     let left = words_left(rt.alloc(), words.as_slice()).expect(rt, "memory");
     let mut text = String::new(rt.alloc());
     put_words(rt, &mut text, left.as_slice());
-    check_text(rt, text.as_bytes(), wanted, "the words that are left of row", row)
+    check_text(
+        rt,
+        text.as_bytes(),
+        wanted,
+        "the words that are left of row",
+        row,
+    )
 }
 
 /// Checks how the script of a shell begins.

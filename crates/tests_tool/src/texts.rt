@@ -131,7 +131,14 @@ static ROWS: [Row; 30] = [
 fn ran_plain(rt: &impl Host, plain: Plain, text: &[u8]) -> Outcome {
     let mut rest = text;
     let (mut out, mut err) = (Vec::new(rt.alloc()), Vec::new(rt.alloc()));
-    let ended = run_plain(rt, plain, Settings::new(false, false), &mut rest, &mut out, &mut err);
+    let ended = run_plain(
+        rt,
+        plain,
+        Settings::new(false, false),
+        &mut rest,
+        &mut out,
+        &mut err,
+    );
     Outcome { ended, out, err }
 }
 
