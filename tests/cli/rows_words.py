@@ -128,6 +128,7 @@ Options:
       --max <N>      The most log blocks of a transaction; 0 for a quarter of the log [default: 0]
       --uuid <HEX>   The journal's UUID, as 32 hexadecimal digits [default: 00000000000000000000000000000000]
       --wide         Block numbers of 64 bits
+      --sparse       Takes no room for a block before it is first written
   -h, --help         Print help (see more with '--help')
 """,
     "load -h": """Commits the handles of a queue text to an image, run by threads
