@@ -28,7 +28,7 @@ NO_SPACE = b"No space left on device (os error 28)"
 QUEUE = "bs 1024\nlimit 127\n" + "".join("h %s\n" % " ".join("w%d=%02x" % (home, 1 + home % 250) for home in range(at, at + 32)) for at in range(0, 1024, 32))
 # the examples: their words before the image and after it, what each is given, what it prints, and the bytes of its image
 PROGRAMS = [([STORE], [], b"put 1 5\nget 1\n", b"put 1\n1 has 5\n", (256 + 32) * KIB),
-            ([ACCOUNTS], ["5"], b"", b"the accounts hold 100000\n", None)]
+            ([ACCOUNTS], ["5"], b"", b"the accounts hold 100000\n", (1024 + 100) * KIB)]
 wrong = 0
 
 
@@ -197,7 +197,7 @@ def examples(kib):
         if found[0] != 0:
             is_named = found[0] == 1 and found[1] == b"" and found[2].endswith(NO_SPACE + b"\n")
             expect("%s on a disk of %d KiB" % (before, kib), is_named and not os.listdir(".") and free() == room, found, os.listdir("."))
-            expect("it does not fit", length is None or kib * KIB < length)
+            expect("%s does not fit in %d KiB" % (before, kib), kib * KIB < length)
             continue
         expect("%s on a disk of %d KiB" % (before, kib), found == (0, prints, b"") and has_room("a"), found)
         fill("filler")
