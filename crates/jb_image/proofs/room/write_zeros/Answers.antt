@@ -1,4 +1,4 @@
-use Rattle.std.proofs.Common.{◌≡◌, ◌+◌, ◌≤◌, ℕ, List, Option, arith, replicate, subst, take}
+use Rattle.std.proofs.Common.{◌+◌, ◌≤◌, ℕ, List, Option, arith, replicate, subst, take}
 use Rattle.std.proofs.KnownBytes.{Appends-nil, Appends-trans}
 use Rattle.std.proofs.lemmas.List.{replicate-append-replicate, take-replicate}
 use Rattle.std.specs.Io.KnownBytes.{Appends}
@@ -9,7 +9,7 @@ more : (a b c : Option (List ℕ)) (done part all : ℕ) → part ≤ all → Ap
     → Appends b c (take part (replicate all 0)) → Appends a c (replicate (done + part) 0)
 more a b c done part all within first next =
     subst (Appends a c) (replicate-append-replicate done part 0)
-        (Appends-trans a b c (replicate done 0) (replicate part 0) first (rw (take-replicate part all 0 within) at next))
+    (Appends-trans a b c (replicate done 0) (replicate part 0) first (rw (take-replicate {X = ℕ} part all 0 within) at next))
 
 pub loop-done-init : goal.loop-done-init
 loop-done-init g c = (Appends-nil (g.W.Write.contents c.args.writer.now), omega arith)
