@@ -6,8 +6,8 @@
 A new image of `jb format`, of example_store and of example_accounts has no hole, whatever its length; with --sparse it has one, and the same bytes. With
 strace each write of zeros is interrupted in turn, which changes nothing, and refused: the image is not made, the reason is told, and nothing
 is left. As root the same is tried on disks of 900 KiB to 3 MiB (tmpfs): each image is made where it fits, and otherwise not, and the disk is as
-empty as before. A disk is filled up once it has an image: programs work on it, and put what they are told. Where the image is sparse, a load says
-that the device failed, and goes on once there is room. Prints a line for each part; ends with 1 where it was otherwise."""
+empty as before. A disk is filled up once it has an image: programs work on it, and put what they are told. Where the image is sparse, a load
+and a recovery fail, and are done once there is room. Prints a line for each part; ends with 1 where it was otherwise."""
 import contextlib
 import os
 import pty
@@ -24,8 +24,8 @@ LENGTH = (512 + 1024) * KIB
 MADE = (0, b"formatted limit 127\n", b"")
 UNMADE = (2, b"", b"jb: cannot make a\n")
 NO_SPACE = b"No space left on device (os error 28)"
-# handles that touch each home block, in many transactions
-QUEUE = "bs 1024\nlimit 127\n" + "".join("h %s\n" % " ".join("w%d=%02x" % (home, 1 + home % 250) for home in range(at, at + 32)) for at in range(0, 1024, 32))
+# handles that touch each home block, more of them than the log has room for
+HANDLES = ["h %s\n" % " ".join("w%d=%02x" % (home, 1 + home % 250) for home in range(at, at + 32)) for at in range(0, 1024, 32)]
 # the examples: their words before the image and after it, what each is given, what it prints, and the bytes of its image
 PROGRAMS = [([STORE], [], b"put 1 5\nget 1\n", b"put 1\n1 has 5\n", (256 + 32) * KIB),
             ([ACCOUNTS], ["5"], b"", b"the accounts hold 100000\n", (1024 + 100) * KIB)]
@@ -68,6 +68,12 @@ def has_room(name):
 def content(name):
     with open(name, "rb") as file:
         return file.read()
+
+
+def queue(name, handles):
+    """A file with these handles as a queue text."""
+    with open(name, "w", encoding="ascii") as file:
+        file.write("bs 1024\nlimit 127\n" + "".join(handles))
 
 
 def fill(name):
@@ -178,15 +184,15 @@ def formatted(folder, kib):
         enlarge(folder, 4096)
         found = run(words)
     expect("where it fits, with %d KiB" % kib, found == MADE and has_room("a"), found)
-    queue = os.path.join(os.path.dirname(folder), os.path.basename(folder) + ".queue")
-    with open(queue, "w", encoding="ascii") as file:
-        file.write(QUEUE)
+    # on another disk
+    text = folder + ".queue"
+    queue(text, HANDLES)
     fill("filler")
-    found = run([JB, "load", "a", queue, "--threads", "2", "--checkpoint"])
+    found = run([JB, "load", "a", text, "--threads", "2", "--checkpoint"])
     expect("a load on a full disk of %d KiB" % kib, found[0] == 0 and found[1].startswith(b"handles 32 changes 1024 settled 32 "), found)
     found = run([JB, "cat", "a", "1023"])
     expect("what it has written", found[0] == 0 and found[1][:1] == bytes([1 + 1023 % 250]), found[0])
-    os.remove(queue)
+    os.remove(text)
 
 
 def examples(kib):
@@ -208,21 +214,28 @@ def examples(kib):
 
 
 def sparse(folder):
-    """A sparse image is made on a disk that has no room for it: a load says that the device failed, and goes on once there is room."""
+    """A sparse image is made on a disk that has no room for it: a load and a recovery fail there, and are done once there is room."""
     found = run([JB, "format", "a", *SIZES, "--sparse"])
     expect("a sparse image", found == MADE and os.path.getsize("a") == LENGTH, found)
-    with open("queue", "w", encoding="ascii") as file:
-        file.write(QUEUE)
+    queue("all", HANDLES)
+    queue("few", HANDLES[:8])
     fill("filler")
-    found = run([JB, "load", "a", "queue", "--checkpoint"])
-    expect("a load on a full disk", found[0] == 1 and b"DeviceFault" in found[2], found)
+    found = run([JB, "load", "a", "all"])
+    expect("a load on a full disk", found[0] == 1 and b" settled 0 " in found[1] and b"jb: commit Aborted\n" in found[2], found)
+    os.remove("filler")
+    run([JB, "recover", "a"])
+    found = run([JB, "load", "a", "few"])
+    expect("a load where the log has room", found[0] == 0 and b" settled 8 " in found[1], found)
+    fill("filler")
+    found = run([JB, "recover", "a"])
+    expect("a recovery on a full disk", found == (1, b"", b"jb: DeviceFault\n"), found)
     os.remove("filler")
     enlarge(folder, 4096)
     found = run([JB, "recover", "a"])
-    expect("its recovery", found[0] == 0, found)
-    found = run([JB, "load", "a", "queue", "--checkpoint"])
+    expect("a recovery where there is room", found[0] == 0 and b" copies 256 " in found[1], found)
+    found = run([JB, "load", "a", "all", "--checkpoint"])
     expect("a load where there is room", found[0] == 0 and b" settled 32 " in found[1], found)
-    print("a sparse image: a load failed, and then was done")
+    print("a sparse image: 7 runs")
 
 
 def full():

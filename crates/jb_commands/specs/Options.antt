@@ -48,4 +48,4 @@ pub record IsAskedBy (o : GivenOptions) (g : ImageGeometry) : Type 0 where
   pub max : g.max_transaction ≡ o.max
   pub uuid : decode_of o.uuid ≡ Ok g.uuid
   pub width : is_wide g.width ≡ o.wide
-  pub room : is_sparse g.room ≡ o.sparse
+  pub allocation : is_sparse g.allocation ≡ o.sparse

@@ -10,7 +10,7 @@ ghost use Rattle.jb_commands.specs.Options.{AreGood, IsAskedBy, IsFirstBad};
 use hex::FromHex;
 use jb_args::{FormatOptions, OptionName};
 use jb_block::{BlockSize, Width};
-use jb_image::{ImageGeometry, Room};
+use jb_image::{Allocation, ImageGeometry};
 
 /// The image that the options ask for.
 ///
@@ -48,7 +48,7 @@ pub(crate) fn new_file(options: FormatOptions<'_>) -> Result<ImageGeometry, Opti
         max_transaction: max,
         uuid,
         width: width_of(options.wide),
-        room: room_of(options.sparse),
+        allocation: allocation_of(options.sparse),
     })
 }
 
@@ -89,13 +89,13 @@ fn width_of(wide: bool) -> Width
 }
 
 /// When the blocks of a new file get room, as `--sparse` asks for it.
-fn room_of(sparse: bool) -> Room
+fn allocation_of(sparse: bool) -> Allocation
     ensures { is_sparse result ≡ sparse }
 {
     if sparse {
-        Room::Sparse
+        Allocation::Sparse
     } else {
-        Room::Allocated
+        Allocation::Whole
     }
 }
 

@@ -13,9 +13,9 @@ use Rattle.jb_image.specs.Files.{as_file}
 use Rattle.jb_format.specs.Format.{FormatFaults, new_block}
 use Rattle.jb_format.specs.declared.fault.FormatFault.{FormatFault}
 use Rattle.jb_format.specs.declared.fault.FormatFault.TheVariants.{DeviceFault}
+use Rattle.jb_image.specs.declared.allocation.Allocation.{Allocation}
+use Rattle.jb_image.specs.declared.allocation.Allocation.TheVariants.{Sparse, Whole}
 use Rattle.jb_image.specs.declared.image_geometry.ImageGeometry.{ImageGeometry}
-use Rattle.jb_image.specs.declared.room.Room.{Room}
-use Rattle.jb_image.specs.declared.room.Room.TheVariants.{Allocated, Sparse}
 
 -- the journal has as many blocks as one may have, the image a length that a file may have, and each home block a number
 -- of the journal's width
@@ -26,9 +26,9 @@ pub record MakesImage (g : ImageGeometry) : Type 0 where
   pub numbers : is_wide g.width ≡ false → g.homes ≤ 2 ^ 32
 
 -- its blocks get no room before they are first written
-abbrev pub is_sparse : Room → Bool
+abbrev pub is_sparse : Allocation → Bool
 is_sparse Sparse = true
-is_sparse Allocated = false
+is_sparse Whole = false
 
 -- block 0 of the journal that is asked for, in blocks of this size
 abbrev pub block_made : ℕ → ImageGeometry → List ℕ

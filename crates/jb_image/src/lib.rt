@@ -3,6 +3,7 @@
 //! lists.
 #![tactic(auto)]
 
+mod allocation;
 mod draft;
 mod extents;
 mod extents_disk;
@@ -22,11 +23,11 @@ mod pair;
 mod parting;
 mod past;
 mod refusals;
-mod room;
 mod shared;
 mod stretch;
 mod unfinished;
 
+pub use allocation::Allocation;
 pub use extents::Extents;
 pub use extents_disk::ExtentsDisk;
 pub use extents_fault::{ExtentsFault, ListFault};
@@ -39,4 +40,3 @@ pub use judging::{FileSystemFault, JournalUse, judge};
 pub use making::{create_holding, create_image};
 pub use opening::{Opening, open_file, open_holding, open_image};
 pub use pair::PairDisk;
-pub use room::Room;

@@ -6,10 +6,10 @@ ghost use Rattle.jb_disk.specs.contracts.start.UnknownStart.TheImpl.{ghosts as u
 ghost use Rattle.jb_image.specs.Create.{MakingFailed, MakesImage, WasMade};
 ghost use Rattle.jb_image.specs.declared.fault.MakeFault.TheVariants.{DeviceFault, Geometry as NoGeometry};
 
+use crate::allocation::{Allocation, write_zeros};
 use crate::draft::Draft;
 use crate::fault::{ImageFault, MakeFault, SystemFault};
 use crate::image_geometry::ImageGeometry;
-use crate::room::{Room, write_zeros};
 use jb_block::BlockSize;
 use jb_disk::{Disk, FileDisk, Start};
 use jb_format::{FormatFault, format};
@@ -149,9 +149,9 @@ fn disk_of<S: Start>(
 {
     // a length that the file system or a limit does not take is refused before anything is written
     file.set_len(len)?;
-    match geometry.room {
-        Room::Allocated => write_zeros(&mut file, len)?,
-        Room::Sparse => {}
+    match geometry.allocation {
+        Allocation::Whole => write_zeros(&mut file, len)?,
+        Allocation::Sparse => {}
     }
     file.sync_all()?;
     let Ok(disk) = FileDisk::<S>::holding(file, geometry.block_size) else {

@@ -2,7 +2,7 @@ use Rattle.std.proofs.Common.{◌+◌, ◌≤◌, ℕ, List, Option, arith, repl
 use Rattle.std.proofs.KnownBytes.{Appends-nil, Appends-trans}
 use Rattle.std.proofs.lemmas.List.{replicate-append-replicate, take-replicate}
 use Rattle.std.specs.Io.KnownBytes.{Appends}
-use Rattle.jb_image.proofs.room.write_zeros.Goals as goal
+use Rattle.jb_image.proofs.allocation.write_zeros.Goals as goal
 
 -- the first of some zeros after others
 more : (a b c : Option (List ℕ)) (done part all : ℕ) → part ≤ all → Appends a b (replicate done 0)

@@ -1,6 +1,6 @@
 use Rattle.std.proofs.Common.{◌-◌, ◌≤◌, replicate}
 use Rattle.std.specs.Io.KnownBytes.{Appends}
-use Rattle.jb_image.proofs.room.write_zeros.Given as goal
+use Rattle.jb_image.proofs.allocation.write_zeros.Given as goal
 
 -- so many zeros are after what the writer held
 abbrev pub invariant-loop-done : goal.invariant-loop-done

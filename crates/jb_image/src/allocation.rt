@@ -10,10 +10,10 @@ const RUN: usize = 65536;
 
 /// When the blocks of a new image get room in its file system.
 #[derive(Clone, Copy, Debug, PartialEq, Eq)]
-pub enum Room {
+pub enum Allocation {
     /// When it is made: zeros are written over the whole of it. A disk with too little room refuses the image then, and
     /// one that fills up later fails no commit, checkpoint or recovery, where its file system writes blocks in place.
-    Allocated,
+    Whole,
     /// When they are first written. A disk that is full by then fails commits, checkpoints and recovery.
     Sparse,
 }
