@@ -1,5 +1,5 @@
 -- A call of a file that is noted: what it means for a block or a run, and for what a crash may leave.
-use Rattle.std.proofs.Common.{◌≡◌, ◌≢◌, ◌<◌, ℕ, zero, suc, ◌*◌, Bool, true, false, List, [], ◌∷◌, length, take, drop, set, refl, sym, ◌∙◌, subst, inl, inr, ⊎_elim, ap, add-zero, arith, take_all, Result, Ok, Err, is_ok, OnOk}
+use Rattle.std.proofs.Common.{◌≡◌, ◌≢◌, ◌<◌, ℕ, zero, suc, ◌*◌, Bool, true, false, List, [], ◌∷◌, length, take, drop, set, refl, sym, ◌∙◌, subst, inl, inr, ⊎_elim, ap, add-zero, arith, take_all, Result, Ok, Err, is_ok, OnOk, Option, Some}
 use Rattle.std.proofs.lemmas.Result.{on_ok_weaker}
 use Rattle.jb_disk.specs.Image.{Image, block, Torn, HasShape}
 use Rattle.jb_disk.specs.Runs.{IsOutside, ReadsRun, WroteRun, TornRun, part}
@@ -8,6 +8,10 @@ use Rattle.jb_disk.specs.Events.{SystemCall, Asked, Gave, Flushed, Measured, InB
 use Rattle.jb_disk.specs.Faults.{CountsFault, CountsOne, most_faults}
 use Rattle.jb_disk.specs.Kept.{IsDiskKept, OnlyReads}
 use Rattle.jb_disk.specs.RecordLaws.{torn_of_wrote, newest_left}
+use Rattle.jb_disk.specs.Failures.{TellsCall, call_of, told_by}
+use Rattle.jb_disk.specs.OneCall.{Called}
+use Rattle.jb_disk.specs.declared.failure.Failure.{Failure}
+use Rattle.jb_disk.specs.declared.failure.Reason.{Reason}
 use Rattle.jb_disk.specs.declared.fault.Fault.{Fault}
 use Rattle.jb_disk.proofs.RunWrites.{wrote_run-more, wrote_run-none, wrote_run-one}
 
@@ -149,3 +153,23 @@ module _ (size count : ℕ) (content : ℕ → Image) (older events : List Syste
       → LeftBy size (Flushed ok) old (Leaves size content older) c → (d : Image) × Leaves size content older d × (c ≡ d)
   synced_from ok c are honest left =
       comes_synced ok (Leaves size content older) c (newest_left count size content honest.0 older (agreed (Flushed ok) are honest)) left
+
+-- ---- what is told of a call
+
+module _ (answer : Result Unit Reason) (ok : Bool) (old new : Option Failure) (same : ok ≡ is_ok answer) where
+  -- of calls of which the first was made with this answer
+  pub tells_run : (call : ℕ → Called) (k : ℕ) → new ≡ told_by (call_of (call 0)) answer old → (ok ≡ false → k ≡ 0)
+      → TellsCall (call k) ok old new
+  tells_run call k is first = tells-by answer ok same is first
+    where
+      tells-by : (answer : Result Unit Reason) (ok : Bool) → ok ≡ is_ok answer → new ≡ told_by (call_of (call 0)) answer old
+          → (ok ≡ false → k ≡ 0) → TellsCall (call k) ok old new
+      tells-by (Ok tt) true same is first = is
+      tells-by (Ok tt) false same is first = absurd (let h : ⊥ = cc in h)
+      tells-by (Err reason) true same is first = absurd (let h : ⊥ = cc in h)
+      tells-by (Err reason) false same is first =
+          (reason, subst (λ j. new ≡ Some (record { call = call_of (call j); reason = reason })) (sym (first refl)) is)
+
+  -- of a call that was made with this answer
+  pub tells : (call : Called) → new ≡ told_by (call_of call) answer old → TellsCall call ok old new
+  tells call is = tells_run (λ _. call) 0 is (λ _. refl)

@@ -64,14 +64,14 @@ module _ {D : Type 0} (own : Called → D → D → Bool → Type 0) (call : ℕ
   made-more n old mid new so_far one = subst (λ m. AllMade own call m old new) (let h : suc n ≡ n + 1 = omega arith in h) (mid, so_far, one)
 
   -- a disk of which no call that succeeds says anything may make them as one
-  pub made-once : (n : ℕ) (old new : D) (ok : Bool) → 0 < n → ((k : ℕ) → own (call k) old old true) → ((k : ℕ) → own (call k) old new ok) → AreMade own call n old new ok
+  pub made-once : (n : ℕ) (old new : D) (ok : Bool) → 0 < n → ((k : ℕ) → own (call k) old old true) → ((k : ℕ) → (ok ≡ false → k ≡ 0) → own (call k) old new ok) → AreMade own call n old new ok
   made-once zero old new ok some idle last = absurd (let h : ⊥ = omega (arith, some) in h)
-  made-once (suc n) old new true some idle last = (old, stays n, last n)
+  made-once (suc n) old new true some idle last = (old, stays n, last n (λ is. absurd (let h : ⊥ = cc in h)))
     where
       stays : (k : ℕ) → AllMade own call k old old
       stays zero = refl
       stays (suc k) = (old, stays k, idle k)
-  made-once (suc n) old new false some idle last = (0, omega arith, old, refl, last 0)
+  made-once (suc n) old new false some idle last = (0, omega arith, old, refl, last 0 (λ _. refl))
 
 -- ---- the loop
 

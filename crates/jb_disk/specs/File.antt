@@ -1,13 +1,15 @@
 -- What a file as a disk shows of its fields, and what its record says of what it holds.
-use Rattle.std.specs.Prelude.{◌≡◌, ◌/◌, ℕ, Bool, List, [], ◌∷◌, length}
+use Rattle.std.specs.Prelude.{◌≡◌, ◌/◌, ℕ, Bool, List, [], ◌∷◌, length, Option}
 use Rattle.jb_block.specs.Size.{bytes_of}
 use Rattle.jb_block.specs.declared.size.BlockSize.{BlockSize}
 use Rattle.jb_disk.specs.Events.{SystemCall, Asked, Gave, Flushed, Measured, IsHonestFile, NotesAtMost, Leaves}
 use Rattle.jb_disk.specs.Events.{LeftFrom, NoneAfter, NoneFailed}
+use Rattle.jb_disk.specs.Failures.{TellsCall}
 use Rattle.jb_disk.specs.Faults.{CountsOne}
 use Rattle.jb_disk.specs.Image.{Image}
 use Rattle.jb_disk.specs.OneCall.{Called, Reads, Writes, Syncs}
 use Rattle.jb_disk.specs.contracts.start.UnknownStart.TheImpl.{ghosts as unknown}
+use Rattle.jb_disk.specs.declared.failure.Failure.{Failure}
 use Rattle.jb_disk.specs.declared.file.FileDisk.{FileDisk}
 use Rattle.jb_disk.specs.declared.start.Start.{Ghosts}
 use Rattle.jb_disk.specs.declared.start.Unknown.{Unknown}
@@ -34,6 +36,10 @@ module _ {S : Type 0} {start : Ghosts S} where
   -- how many calls have failed
   abbrev pub faults_of : FileDisk S start → ℕ
   faults_of f = f.faults
+
+  -- the last call that failed, and why, as it tells it
+  abbrev pub failure_of : FileDisk S start → Option Failure
+  failure_of f = f.failed
 
   -- the calls so far, the newest first
   abbrev pub events_of : FileDisk S start → List SystemCall
@@ -67,7 +73,9 @@ module _ {S : Type 0} {start : Ghosts S} where
   abbrev pub IsWellAsked : FileDisk S start → Type 0
   IsWellAsked f = NoneAfter (events_of f)
 
-  -- a call is one of the system at most, with the answer that it gives, and one that fails counts one fault
+  -- a call is one of the system at most, with the answer that it gives; one that fails counts one fault, and is what
+  -- is told from then on, with its reason
   pub record IsOneCall (call : Called) (old new : FileDisk S start) (ok : Bool) : Type 0 where
     pub counted : CountsOne ok (faults_of old) (faults_of new)
     pub noted : NotesCall call ok (events_of old) (events_of new)
+    pub told : TellsCall call ok (failure_of old) (failure_of new)

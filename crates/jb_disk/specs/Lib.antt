@@ -1,6 +1,7 @@
 pub mod Calls
 pub mod CrashWrites
 pub mod Events
+pub mod Failures
 pub mod Faults
 pub mod File
 pub mod Fuse

@@ -1,5 +1,6 @@
 //! What is assumed of a disk: whole blocks of 512-byte sectors, and what a crash may leave of them.
 ghost use Rattle.std.specs.Prelude.{Bool, true, false, is_ok, IsTrue, IsErr, ◌≡◌, ◌<◌, ◌≤◌, ◌+◌, ℕ, length, OnOk, set};
+ghost use Rattle.std.specs.Prelude.{Option, None};
 ghost use Rattle.jb_block.specs.Size.{bytes_of, IsBlockSize};
 ghost use Rattle.jb_disk.specs.Image.{Image, block, Torn, ChangesNothing, Only, HasShape};
 ghost use Rattle.jb_disk.specs.Time.{Goes};
@@ -8,8 +9,9 @@ ghost use Rattle.jb_disk.specs.Faults.{CountsFault};
 ghost use Rattle.jb_disk.specs.Kept.{IsDiskKept, OwnReads, Untouched};
 ghost use Rattle.jb_disk.specs.Runs.{part, IsRunOn, ReadsRun, TornRun, WroteRun};
 ghost use Rattle.jb_disk.specs.Steps.{Steps};
+ghost use Rattle.jb_disk.specs.declared.failure.Failure.{Failure};
 
-use crate::Fault;
+use crate::{Failure, Fault};
 use jb_block::BlockSize;
 
 /// A disk of equal blocks, read and written one whole block at a time.
@@ -58,6 +60,9 @@ pub trait Disk {
     /// the first that fails.
     ghost runs_as_calls: { Bool } = { true };
 
+    /// Why the last call that failed did so; nothing is told unless a disk tells it.
+    ghost told: { Self → Option Failure } = { λ _. None };
+
     /// The size of the disk's blocks.
     fn block_size(&self) -> BlockSize
         ensures { bytes_of result ≡ size self.now };
@@ -65,6 +70,14 @@ pub trait Disk {
     /// How many blocks the disk has. Their places are 0 and on, up to but without this number.
     fn blocks(&self) -> u64
         ensures { result ≡ count self.now };
+
+    /// Why the last call that failed did so, as the system says it; `None` where none has failed, or the disk gives no
+    /// reason.
+    fn failure(&self) -> Option<Failure>
+        ensures { result ≡ told self.now }
+    {
+        None
+    }
 
     /// Reads the block at `place` into `buf`, which has the length of one block. After a fault `buf`
     /// may hold anything.

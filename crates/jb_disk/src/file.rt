@@ -1,11 +1,12 @@
 //! A file of the operating system as a disk.
-ghost use Rattle.std.specs.Prelude.{◌≡◌, ◌<◌, ◌*◌, ◌/◌, ◌^◌, [], ◌∷◌, length, is_ok, IfOk};
+ghost use Rattle.std.specs.Prelude.{◌≡◌, ◌<◌, ◌*◌, ◌/◌, ◌^◌, [], ◌∷◌, length, is_ok, IfOk, None};
 ghost use Rattle.jb_block.specs.Size.{bytes_of};
+ghost use Rattle.jb_disk.specs.Failures.{told_by};
 ghost use Rattle.jb_disk.specs.Faults.{CountsFault, CountsOne};
 ghost use Rattle.jb_disk.specs.Lives.{bytes_are_block_size};
 
 use crate::host::Host;
-use crate::{Disk, Fault, Start, Unknown};
+use crate::{Disk, FailedCall, Failure, Fault, Reason, Start, Unknown};
 use jb_block::BlockSize;
 use std::fs::File;
 use std::marker::PhantomData;
@@ -25,12 +26,14 @@ pub struct FileDisk<S: Start = Unknown> {
     size: BlockSize,
     blocks: u64,
     faults: u64,
+    /// The last call that failed.
+    failed: Option<Failure>,
     start: PhantomData<S>,
     ghost addressed: { blocks * bytes_of size < 2 ^ 64 },
 }
 
 impl FileDisk {
-    ghost use Rattle.jb_disk.specs.File.{size_of_blocks, faults_of, IsMeasured};
+    ghost use Rattle.jb_disk.specs.File.{size_of_blocks, failure_of, faults_of, IsMeasured};
 
     /// The disk that `file` is, in blocks of this size; a part of a block at its end is left out.
     /// Its length is the place of its end: of a block device the metadata say 0.
@@ -40,7 +43,7 @@ impl FileDisk {
     /// A fault where the system does not give the file's end.
     pub fn of(file: File, size: BlockSize) -> Result<FileDisk, Fault>
         ensures size { IfOk result (λ disk. size_of_blocks disk ≡ size) }
-        ensures fresh { IfOk result (λ disk. faults_of disk ≡ 0) }
+        ensures fresh { IfOk result (λ disk. (faults_of disk ≡ 0) × (failure_of disk ≡ None)) }
         ensures opened { IfOk result IsMeasured }
     {
         FileDisk::holding(file, size)
@@ -48,7 +51,7 @@ impl FileDisk {
 }
 
 impl<S: Start> FileDisk<S> {
-    ghost use Rattle.jb_disk.specs.File.{size_of_blocks, faults_of, IsMeasured};
+    ghost use Rattle.jb_disk.specs.File.{size_of_blocks, failure_of, faults_of, IsMeasured};
 
     /// The same, of a file that is supposed to hold what `S` says.
     ///
@@ -57,7 +60,7 @@ impl<S: Start> FileDisk<S> {
     /// A fault where the system does not give the file's end.
     pub fn holding(file: File, size: BlockSize) -> Result<FileDisk<S>, Fault>
         ensures size { IfOk result (λ disk. size_of_blocks disk ≡ size) }
-        ensures fresh { IfOk result (λ disk. faults_of disk ≡ 0) }
+        ensures fresh { IfOk result (λ disk. (faults_of disk ≡ 0) × (failure_of disk ≡ None)) }
         /// A file that is made a disk was asked its length and nothing else, and the disk has its whole blocks. From
         /// then on it is an honest disk where the record of its calls is that of an honest file
         /// ([`IsHonest`](crates/jb_disk/specs/File.antt)).
@@ -71,6 +74,7 @@ impl<S: Start> FileDisk<S> {
             size,
             blocks: whole_blocks(len, size),
             faults: 0,
+            failed: None,
             start: PhantomData,
         })
     }
@@ -104,6 +108,8 @@ impl<S: Start> Disk for FileDisk<S> {
 
     ghost own = { IsOneCall };
 
+    ghost told = { λ f. f.failed };
+
     ghost has_size = { λ f. bytes_are_block_size f.size };
 
     ghost newest_may_stay = { λ f honest.
@@ -128,33 +134,57 @@ impl<S: Start> Disk for FileDisk<S> {
         self.blocks
     }
 
+    fn failure(&self) -> Option<Failure> {
+        self.failed
+    }
+
     fn read(&mut self, place: u64, buf: &mut [u8]) -> Result<(), Fault> {
         let at = offset_of(place, self.size);
-        let succeeded = self.host.read_at(at, buf);
-        settle(succeeded, &mut self.faults)
+        let answer = self.host.read_at(at, buf);
+        settle(
+            answer,
+            FailedCall::Read(place),
+            &mut self.faults,
+            &mut self.failed,
+        )
     }
 
     fn read_run(&mut self, place: u64, _blocks: usize, buf: &mut [u8]) -> Result<(), Fault> {
         let at = offset_of(place, self.size);
-        let succeeded = self.host.read_at(at, buf);
-        settle(succeeded, &mut self.faults)
+        let answer = self.host.read_at(at, buf);
+        settle(
+            answer,
+            FailedCall::Read(place),
+            &mut self.faults,
+            &mut self.failed,
+        )
     }
 
     fn write(&mut self, place: u64, bytes: &[u8]) -> Result<(), Fault> {
         let at = offset_of(place, self.size);
-        let succeeded = self.host.write_at(at, bytes);
-        settle(succeeded, &mut self.faults)
+        let answer = self.host.write_at(at, bytes);
+        settle(
+            answer,
+            FailedCall::Write(place),
+            &mut self.faults,
+            &mut self.failed,
+        )
     }
 
     fn write_run(&mut self, place: u64, _blocks: usize, bytes: &[u8]) -> Result<(), Fault> {
         let at = offset_of(place, self.size);
-        let succeeded = self.host.write_at(at, bytes);
-        settle(succeeded, &mut self.faults)
+        let answer = self.host.write_at(at, bytes);
+        settle(
+            answer,
+            FailedCall::Write(place),
+            &mut self.faults,
+            &mut self.failed,
+        )
     }
 
     fn sync(&mut self) -> Result<(), Fault> {
-        let succeeded = self.host.sync();
-        settle(succeeded, &mut self.faults)
+        let answer = self.host.sync();
+        settle(answer, FailedCall::Sync, &mut self.faults, &mut self.failed)
     }
 }
 
@@ -174,15 +204,22 @@ fn whole_blocks(len: u64, size: BlockSize) -> u64
     len / u64::from(size.bytes())
 }
 
-/// Counts a fault where the call did not succeed.
-fn settle(succeeded: bool, faults: &mut u64) -> Result<(), Fault>
-    ensures variant { is_ok result ≡ succeeded }
+/// Counts a fault where the call did not succeed, and keeps why.
+fn settle(
+    answer: Result<(), Reason>,
+    call: FailedCall,
+    faults: &mut u64,
+    failed: &mut Option<Failure>,
+) -> Result<(), Fault>
+    ensures variant { is_ok result ≡ is_ok answer }
     ensures faults { CountsFault result faults.old faults.new }
-    ensures one { CountsOne succeeded faults.old faults.new }
+    ensures one { CountsOne (is_ok answer) faults.old faults.new }
+    ensures told { failed.new ≡ told_by call answer failed.old }
 {
-    if succeeded {
+    let Err(reason) = answer else {
         return Ok(());
-    }
+    };
     *faults = faults.saturating_add(1);
+    *failed = Some(Failure { call, reason });
     Err(Fault)
 }

@@ -2,7 +2,7 @@
 ghost use Rattle.std.specs.Prelude.{◌≡◌, ◌-◌, ◌==◌, ◌↔◌, is_ok, IsErr};
 ghost use Rattle.jb_disk.specs.Faults.{CountsFault, CountsOne, counted};
 
-use crate::{Disk, Fault};
+use crate::{Disk, Failure, Fault};
 use jb_block::BlockSize;
 
 /// A disk that passes this many calls on to another, and fails every later one without passing it on.
@@ -61,6 +61,8 @@ impl<D: Disk> Disk for FuseDisk<D> {
 
     ghost own = { λ call old new ok. Burns D.faults D.own call old new ok };
 
+    ghost told = { λ f. D.told f.disk };
+
     ghost has_size = { λ f. D.has_size f.disk };
 
     ghost newest_may_stay = { λ f. D.newest_may_stay f.disk };
@@ -79,6 +81,10 @@ impl<D: Disk> Disk for FuseDisk<D> {
 
     fn blocks(&self) -> u64 {
         self.disk.blocks()
+    }
+
+    fn failure(&self) -> Option<Failure> {
+        self.disk.failure()
     }
 
     fn read(&mut self, place: u64, buf: &mut [u8]) -> Result<(), Fault> {

@@ -1,8 +1,10 @@
 //! Each method makes one call of the system, and then notes it with its answer.
-ghost use Rattle.std.specs.Prelude.{◌≡◌, ◌↔◌, ◌==◌, [], ◌∷◌, IsTrue, Ok, IfOk};
+ghost use Rattle.std.specs.Prelude.{◌≡◌, ◌==◌, [], ◌∷◌, is_ok, IfErr, IfOk};
 ghost use Rattle.jb_disk.specs.Events.{Asked, Gave, Flushed, Measured};
+ghost use Rattle.jb_disk.specs.Failures.{moved, system_reason};
 
 use crate::record::Record;
+use crate::{Reason, SystemFault};
 use std::fs::File;
 use std::io;
 use std::io::{Seek, SeekFrom};
@@ -34,48 +36,70 @@ impl Host {
         Ok((Host { file, log }, len))
     }
 
-    /// Fills the buffer from offset `at` on; tells whether there were as many bytes.
-    pub(crate) fn read_at(&mut self, at: u64, buf: &mut [u8]) -> bool
-        ensures { self.new.log.events ≡ Asked at result buf.new ∷ self.old.log.events }
+    /// Fills the buffer from offset `at` on.
+    ///
+    /// # Errors
+    /// Why it was not filled: the system's reason, or there were fewer bytes.
+    pub(crate) fn read_at(&mut self, at: u64, buf: &mut [u8]) -> Result<(), Reason>
+        ensures { self.new.log.events ≡ Asked at (is_ok result) buf.new ∷ self.old.log.events }
     {
         let len = buf.len();
-        let answer = self.file.read_at(buf, at);
-        let whole = is_whole(&answer, len);
-        self.log.note(&[ASKED, at, as_number(whole)], buf);
-        whole
+        let answer = whole(self.file.read_at(buf, at), len);
+        self.log.note(&[ASKED, at, as_number(&answer)], buf);
+        answer
     }
 
-    /// Writes the bytes from offset `at` on; tells whether all of them were written.
-    pub(crate) fn write_at(&mut self, at: u64, bytes: &[u8]) -> bool
-        ensures { self.new.log.events ≡ Gave at result bytes.now ∷ self.old.log.events }
+    /// Writes the bytes from offset `at` on.
+    ///
+    /// # Errors
+    /// Why not all of them were written: the system's reason, or it took a part.
+    pub(crate) fn write_at(&mut self, at: u64, bytes: &[u8]) -> Result<(), Reason>
+        ensures { self.new.log.events ≡ Gave at (is_ok result) bytes.now ∷ self.old.log.events }
     {
-        let answer = self.file.write_at(bytes, at);
-        let whole = is_whole(&answer, bytes.len());
-        self.log.note(&[GAVE, at, as_number(whole)], bytes);
-        whole
+        let answer = whole(self.file.write_at(bytes, at), bytes.len());
+        self.log.note(&[GAVE, at, as_number(&answer)], bytes);
+        answer
     }
 
-    /// Syncs the file; tells whether that succeeded.
-    pub(crate) fn sync(&mut self) -> bool
-        ensures { self.new.log.events ≡ Flushed result ∷ self.old.log.events }
+    /// Syncs the file.
+    ///
+    /// # Errors
+    /// The system's reason.
+    pub(crate) fn sync(&mut self) -> Result<(), Reason>
+        ensures { self.new.log.events ≡ Flushed (is_ok result) ∷ self.old.log.events }
     {
-        let answer = self.file.sync_data();
-        let succeeded = answer.is_ok();
-        self.log.note(&[FLUSHED, 0, as_number(succeeded)], &[]);
-        succeeded
+        let answer = match self.file.sync_data() {
+            Ok(()) => Ok(()),
+            Err(error) => Err(reason_of(error)),
+        };
+        self.log.note(&[FLUSHED, 0, as_number(&answer)], &[]);
+        answer
     }
 }
 
-/// Whether this many bytes were moved, and no fewer.
-fn is_whole(answer: &io::Result<usize>, len: usize) -> bool
-    ensures { IsTrue result ↔ (answer.now ≡ Ok len) }
+/// Whether a call moved this many bytes, and no fewer, and if it did not why.
+fn whole(answer: io::Result<usize>, len: usize) -> Result<(), Reason>
+    ensures { result ≡ moved answer len }
 {
-    matches!(answer, Ok(moved) if *moved == len)
+    match answer {
+        Ok(moved) if moved == len => Ok(()),
+        Ok(_) => Err(Reason::Short),
+        Err(error) => Err(reason_of(error)),
+    }
+}
+
+/// The reason of a call that the system refused.
+fn reason_of(error: io::Error) -> Reason
+    ensures { result ≡ system_reason error }
+{
+    Reason::System(SystemFault {
+        code: error.raw_os_error(),
+    })
 }
 
 /// 1 for success.
-fn as_number(succeeded: bool) -> u64
-    ensures { (result == 1) ≡ succeeded }
+fn as_number(answer: &Result<(), Reason>) -> u64
+    ensures { (result == 1) ≡ is_ok answer.now }
 {
-    if succeeded { 1 } else { 0 }
+    if answer.is_ok() { 1 } else { 0 }
 }

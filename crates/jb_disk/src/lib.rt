@@ -3,6 +3,7 @@
 
 mod clock;
 mod disk;
+mod failure;
 mod fault;
 mod file;
 mod fuse;
@@ -19,6 +20,7 @@ mod write_behind;
 
 pub use clock::{Clock, FixedClock};
 pub use disk::Disk;
+pub use failure::{Cause, FailedCall, Failure, Reason, SystemFault};
 pub use fault::Fault;
 pub use file::FileDisk;
 pub use fuse::FuseDisk;

@@ -3,7 +3,7 @@ ghost use Rattle.std.specs.Prelude.{◌≡◌, ◌-◌, ◌↔◌, Option, Some,
 ghost use Rattle.jb_disk.specs.Faults.{counted};
 ghost use Rattle.jb_disk.specs.Once.{is_next, failures, next_of};
 
-use crate::{Disk, Fault};
+use crate::{Disk, Failure, Fault};
 use jb_block::BlockSize;
 
 /// A disk that passes calls on to another, all but one, which fails and is not passed on.
@@ -60,6 +60,8 @@ impl<D: Disk> Disk for OneFaultDisk<D> {
 
     ghost own = { λ call old new ok. Spends D.faults D.own call old new ok };
 
+    ghost told = { λ f. D.told f.disk };
+
     ghost has_size = { λ f. D.has_size f.disk };
 
     ghost newest_may_stay = { λ f. D.newest_may_stay f.disk };
@@ -78,6 +80,10 @@ impl<D: Disk> Disk for OneFaultDisk<D> {
 
     fn blocks(&self) -> u64 {
         self.disk.blocks()
+    }
+
+    fn failure(&self) -> Option<Failure> {
+        self.disk.failure()
     }
 
     fn read(&mut self, place: u64, buf: &mut [u8]) -> Result<(), Fault> {

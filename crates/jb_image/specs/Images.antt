@@ -5,12 +5,14 @@ use Rattle.jb_disk.specs.OneCall.{Called}
 use Rattle.jb_disk.specs.Faults.{counted}
 use Rattle.jb_disk.specs.Image.{Image, HasShape}
 use Rattle.jb_disk.specs.declared.disk.Disk.{Ghosts}
+use Rattle.jb_disk.specs.declared.failure.Failure.{Failure}
 use Rattle.jb_image.specs.Disks.{ExtentsCalled, extents_of, refused_calls, journal_blocks, own_among, own_in}
 use Rattle.jb_image.specs.Disks.{spread_count, whole_disk}
 use Rattle.jb_image.specs.ExtentImage.{IsHonestWithin, WithinLeaves, WithinLeft, within, within-shape}
 use Rattle.jb_image.specs.Laws.{counts_both, has_both_shapes, leaves_newest, only_both, since_has_both_shapes}
 use Rattle.jb_image.specs.Pair.{back_disk, front_disk, joined_count, past_states, AreWellAsked, IsHonestPair}
 use Rattle.jb_image.specs.Pair.{MayGoOnBoth, PairCalled, PairLeaves, PairLeftSince}
+use Rattle.jb_image.specs.Told.{first_told}
 use Rattle.jb_image.specs.declared.image.ImageDisk.{ImageDisk}
 use Rattle.jb_image.specs.declared.image.ImageDisk.TheVariants.{One, Two, Within}
 
@@ -52,6 +54,12 @@ module _ {D E : Type 0} (G : Ghosts D) (H : Ghosts E) where
   image_faults (One disk) = G.faults disk
   image_faults (Two pair) = counted (H.faults (front_disk pair)) (G.faults (back_disk pair))
   image_faults (Within disk) = counted (G.faults (whole_disk disk)) (refused_calls disk)
+
+  -- why the last call of it that failed did so, as one of its disks tells it
+  abbrev pub image_told : ImageDisk D E → Option Failure
+  image_told (One disk) = G.told disk
+  image_told (Two pair) = first_told (H.told (front_disk pair)) (G.told (back_disk pair))
+  image_told (Within disk) = G.told (whole_disk disk)
 
   -- the disks that it is are honest
   abbrev pub IsHonestImage : ImageDisk D E → Type 0

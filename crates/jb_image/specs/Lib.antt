@@ -14,4 +14,5 @@ pub mod Pair
 pub mod Past
 pub mod Refusals
 pub mod Stretches
+pub mod Told
 pub mod Words

@@ -3,7 +3,7 @@
 //! Whoever has the lock of the file that has the other name may remove it, give it the image's name, or leave it; so of
 //! several that make one image at a time one goes on. A file of the other name with more in it than a killed process
 //! may leave is another one's, and stays.
-use crate::fault::{ImageFault, MakeFault, SystemFault};
+use crate::fault::{ImageFault, MakeFault};
 use crate::left::is_left;
 use crate::opening::{Opening, lock};
 use crate::refusals::link_fault;

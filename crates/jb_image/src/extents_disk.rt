@@ -4,7 +4,7 @@ ghost use Rattle.jb_image.specs.Disks.{ExtentsCalled, at_block, spread_count};
 
 use crate::extents::Extents;
 use jb_block::BlockSize;
-use jb_disk::{Disk, Fault};
+use jb_disk::{Disk, Failure, Fault};
 use jb_map::Extent;
 
 /// A journal and the file system that it is in, as one disk: first the blocks of the journal, where the extents
@@ -107,6 +107,8 @@ impl<D: Disk> Disk for ExtentsDisk<D> {
 
     ghost well_asked = { λ d. D.well_asked d.disk };
 
+    ghost told = { λ d. D.told d.disk };
+
     ghost own = { λ call old new ok. ExtentsCalled D.count D.faults D.own call old new ok };
 
     ghost has_size = { λ d. D.has_size d.disk };
@@ -132,6 +134,10 @@ impl<D: Disk> Disk for ExtentsDisk<D> {
 
     fn blocks(&self) -> u64 {
         self.journal.saturating_add(self.disk.blocks())
+    }
+
+    fn failure(&self) -> Option<Failure> {
+        self.disk.failure()
     }
 
     fn read(&mut self, place: u64, buf: &mut [u8]) -> Result<(), Fault> {

@@ -1,34 +1,9 @@
 //! Why an image is not opened, or not made.
+use jb_disk::SystemFault;
 use std::alloc::AllocError;
+use std::io;
 use std::io::ErrorKind;
-use std::{fmt, io};
 use thiserror::Error;
-
-/// What the system said of a call that it refused.
-#[derive(Clone, Copy, Debug, PartialEq, Eq)]
-pub struct SystemFault {
-    /// The number of its error, where it has one.
-    pub code: Option<i32>,
-}
-
-impl SystemFault {
-    /// Whether there is no file of the name.
-    pub fn is_not_found(&self) -> bool {
-        match self.code {
-            Some(code) => io::Error::from_raw_os_error(code).kind() == ErrorKind::NotFound,
-            None => false,
-        }
-    }
-}
-
-impl fmt::Display for SystemFault {
-    fn fmt<W: fmt::Write>(&self, f: &mut fmt::Formatter<W>) -> fmt::Result {
-        match self.code {
-            Some(code) => write!(f, "{}", io::Error::from_raw_os_error(code)),
-            None => write!(f, "the system gives no reason"),
-        }
-    }
-}
 
 /// Why an image was not opened.
 #[derive(Clone, Copy, Debug, PartialEq, Eq, Error)]

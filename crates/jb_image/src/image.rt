@@ -3,7 +3,7 @@ ghost use Rattle.std.specs.Prelude.{◌≡◌, false};
 use crate::ExtentsDisk;
 use crate::pair::PairDisk;
 use jb_block::BlockSize;
-use jb_disk::{Disk, Fault, FileDisk};
+use jb_disk::{Disk, Failure, Fault, FileDisk};
 
 /// The disk that an image is: one disk with the journal and the home blocks, or one for each; or one whose home blocks
 /// are all of its blocks, some of which hold the journal. Of an image in files, each of them is a file.
@@ -55,6 +55,7 @@ impl<D: Disk, E: Disk> ImageDisk<D, E> {
 impl<D: Disk, E: Disk> Disk for ImageDisk<D, E> {
     ghost use Rattle.jb_image.specs.Bound.{members};
     ghost use Rattle.jb_image.specs.Images.{image_count, image_faults, image_moment, image_newest, image_size};
+    ghost use Rattle.jb_image.specs.Images.{image_told};
     ghost use Rattle.jb_image.specs.Images.{IsHonestImage, IsImageWellAsked, ImageCalled, ImageLeaves, ImageLeft};
     ghost use Rattle.jb_image.specs.Images.{MayImageGoOn};
     ghost use Rattle.jb_image.specs.Images as images;
@@ -82,6 +83,8 @@ impl<D: Disk, E: Disk> Disk for ImageDisk<D, E> {
     ghost own = { ImageCalled D.Disk E.Disk };
 
     ghost runs_as_calls = { false };
+
+    ghost told = { image_told D.Disk E.Disk };
 
     ghost has_size = { λ d. images.has_image_size (members D.Disk) (members E.Disk) D.has_size E.has_size d };
 
@@ -114,6 +117,14 @@ impl<D: Disk, E: Disk> Disk for ImageDisk<D, E> {
             ImageDisk::One(disk) => disk.blocks(),
             ImageDisk::Two(pair) => pair.blocks(),
             ImageDisk::Within(disk) => disk.blocks(),
+        }
+    }
+
+    fn failure(&self) -> Option<Failure> {
+        match self {
+            ImageDisk::One(disk) => disk.failure(),
+            ImageDisk::Two(pair) => pair.failure(),
+            ImageDisk::Within(disk) => disk.failure(),
         }
     }
 

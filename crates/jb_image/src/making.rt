@@ -7,10 +7,10 @@ ghost use Rattle.jb_image.specs.Create.{MakingFailed, MakesImage, WasMade};
 ghost use Rattle.jb_image.specs.declared.fault.MakeFault.TheVariants.{DeviceFault, Geometry as NoGeometry};
 
 use crate::draft::Draft;
-use crate::fault::{ImageFault, MakeFault, SystemFault};
+use crate::fault::{ImageFault, MakeFault};
 use crate::image_geometry::ImageGeometry;
 use jb_block::BlockSize;
-use jb_disk::{Disk, FileDisk, Start};
+use jb_disk::{Disk, FileDisk, Start, SystemFault};
 use jb_format::{FormatFault, format};
 use std::fs::File;
 use std::rt::Files;

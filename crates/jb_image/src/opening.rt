@@ -2,12 +2,12 @@
 ghost use Rattle.std.specs.Prelude.{◌≡◌, IfOk};
 ghost use Rattle.jb_disk.specs.File.{IsMeasured, faults_of, size_of_blocks};
 
-use crate::fault::{ImageFault, SystemFault};
+use crate::fault::ImageFault;
 use crate::mounted::is_mounted;
 use crate::refusals::{lock_answer, may_open};
 use crate::unfinished::forget;
 use jb_block::BlockSize;
-use jb_disk::{FileDisk, Start};
+use jb_disk::{FileDisk, Start, SystemFault};
 use std::fs::{File, Metadata, OpenOptions};
 use std::os::unix::fs::{FileTypeExt, MetadataExt};
 use std::rt::Files;

@@ -4,7 +4,7 @@ ghost use Rattle.jb_image.specs.Pair.{PairCalled, joined_count, past_states};
 
 use crate::past::Past;
 use jb_block::BlockSize;
-use jb_disk::{Disk, Fault};
+use jb_disk::{Disk, Failure, Fault};
 
 /// Two disks of one block size as one disk: the blocks of the first, and after them those of the second. Where the
 /// second has blocks of another size, it adds none.
@@ -56,6 +56,7 @@ impl<A: Disk, B: Disk> Disk for PairDisk<A, B> {
     ghost use Rattle.jb_image.specs.Laws.{counts_both, has_both_shapes, leaves_newest, only_both};
     ghost use Rattle.jb_image.specs.Laws.{since_has_both_shapes};
     ghost use Rattle.jb_image.specs.Pair.{AreWellAsked, IsHonestPair, MayGoOnBoth, PairLeaves, PairLeftSince};
+    ghost use Rattle.jb_image.specs.Told.{first_told};
 
     ghost size = { λ p. A.size p.front };
 
@@ -80,6 +81,8 @@ impl<A: Disk, B: Disk> Disk for PairDisk<A, B> {
     ghost own = { λ call old new ok. PairCalled A.count A.faults A.own B.faults B.own call old new ok };
 
     ghost runs_as_calls = { false };
+
+    ghost told = { λ p. first_told (A.told p.front) (B.told p.back) };
 
     ghost has_size = { λ p. A.has_size p.front };
 
@@ -109,6 +112,13 @@ impl<A: Disk, B: Disk> Disk for PairDisk<A, B> {
             front.saturating_add(self.back.blocks())
         } else {
             front
+        }
+    }
+
+    fn failure(&self) -> Option<Failure> {
+        match self.front.failure() {
+            Some(failure) => Some(failure),
+            None => self.back.failure(),
         }
     }
 
