@@ -1,6 +1,6 @@
 //! What is assumed of a disk: whole blocks of 512-byte sectors, and what a crash may leave of them.
 ghost use Rattle.std.specs.Prelude.{Bool, true, false, is_ok, IsTrue, IsErr, ◌≡◌, ◌<◌, ◌≤◌, ◌+◌, ℕ, length, OnOk, set};
-ghost use Rattle.std.specs.Prelude.{Option, None};
+ghost use Rattle.std.specs.Prelude.{IfSome};
 ghost use Rattle.jb_block.specs.Size.{bytes_of, IsBlockSize};
 ghost use Rattle.jb_disk.specs.Image.{Image, block, Torn, ChangesNothing, Only, HasShape};
 ghost use Rattle.jb_disk.specs.Time.{Goes};
@@ -60,8 +60,8 @@ pub trait Disk {
     /// the first that fails.
     ghost runs_as_calls: { Bool } = { true };
 
-    /// Why the last call that failed did so; nothing is told unless a disk tells it.
-    ghost told: { Self → Option Failure } = { λ _. None };
+    /// The last call that failed was this one, and for this reason; nothing is told unless a disk tells it.
+    ghost tells: { Self → Failure → Type 0 } = { λ _ _. ⊥ };
 
     /// The size of the disk's blocks.
     fn block_size(&self) -> BlockSize
@@ -74,7 +74,7 @@ pub trait Disk {
     /// Why the last call that failed did so, as the system says it; `None` where none has failed, or the disk gives no
     /// reason.
     fn failure(&self) -> Option<Failure>
-        ensures { result ≡ told self.now }
+        ensures { IfSome result (tells self.now) }
     {
         None
     }

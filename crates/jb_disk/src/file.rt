@@ -1,5 +1,5 @@
 //! A file of the operating system as a disk.
-ghost use Rattle.std.specs.Prelude.{◌≡◌, ◌<◌, ◌*◌, ◌/◌, ◌^◌, [], ◌∷◌, length, is_ok, IfOk, None};
+ghost use Rattle.std.specs.Prelude.{◌≡◌, ◌<◌, ◌*◌, ◌/◌, ◌^◌, [], ◌∷◌, length, is_ok, IfOk, None, Some};
 ghost use Rattle.jb_block.specs.Size.{bytes_of};
 ghost use Rattle.jb_disk.specs.Failures.{told_by};
 ghost use Rattle.jb_disk.specs.Faults.{CountsFault, CountsOne};
@@ -83,7 +83,8 @@ impl<S: Start> FileDisk<S> {
 /// It is an honest disk where its answers so far are those of an honest file that held what `S` says. The record of
 /// its calls has them, for clauses alone: no code can know it.
 impl<S: Start> Disk for FileDisk<S> {
-    ghost use Rattle.jb_disk.specs.File.{IsHonest, content_of, FileLeaves, FileLeft, IsOneCall, IsWellAsked, MayGoOn};
+    ghost use Rattle.jb_disk.specs.File.{IsHonest, content_of, failure_of, FileLeaves, FileLeft, IsOneCall, IsWellAsked};
+    ghost use Rattle.jb_disk.specs.File.{MayGoOn};
     ghost use Rattle.jb_disk.specs.RecordLaws.{newest_left, left_shape, from_shape, left_from_now, left_from_only};
 
     ghost size = { λ f. bytes_of f.size };
@@ -108,7 +109,7 @@ impl<S: Start> Disk for FileDisk<S> {
 
     ghost own = { IsOneCall };
 
-    ghost told = { λ f. f.failed };
+    ghost tells = { λ f failure. f.failed ≡ Some failure };
 
     ghost has_size = { λ f. bytes_are_block_size f.size };
 
@@ -134,7 +135,9 @@ impl<S: Start> Disk for FileDisk<S> {
         self.blocks
     }
 
-    fn failure(&self) -> Option<Failure> {
+    fn failure(&self) -> Option<Failure>
+        ensures { result ≡ failure_of self.now }
+    {
         self.failed
     }
 

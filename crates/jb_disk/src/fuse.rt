@@ -61,7 +61,7 @@ impl<D: Disk> Disk for FuseDisk<D> {
 
     ghost own = { λ call old new ok. Burns D.faults D.own call old new ok };
 
-    ghost told = { λ f. D.told f.disk };
+    ghost tells = { λ f. D.tells f.disk };
 
     ghost has_size = { λ f. D.has_size f.disk };
 

@@ -60,7 +60,7 @@ impl<D: Disk> Disk for OneFaultDisk<D> {
 
     ghost own = { λ call old new ok. Spends D.faults D.own call old new ok };
 
-    ghost told = { λ f. D.told f.disk };
+    ghost tells = { λ f. D.tells f.disk };
 
     ghost has_size = { λ f. D.has_size f.disk };
 

@@ -1,5 +1,5 @@
 -- An image as a disk: one disk, two, or one in extents of which the journal is.
-use Rattle.std.proofs.Common.{◌≤◌, ℕ, Bool, true, false, List, ◌++◌, length, Option, None, refl}
+use Rattle.std.proofs.Common.{◌≤◌, ◌⊎◌, ℕ, Bool, true, false, List, ◌++◌, length, Option, None, refl}
 use Rattle.jb_block.specs.Size.{IsBlockSize}
 use Rattle.jb_disk.specs.OneCall.{Called}
 use Rattle.jb_disk.specs.Faults.{counted}
@@ -12,7 +12,6 @@ use Rattle.jb_image.specs.ExtentImage.{IsHonestWithin, WithinLeaves, WithinLeft,
 use Rattle.jb_image.specs.Laws.{counts_both, has_both_shapes, leaves_newest, only_both, since_has_both_shapes}
 use Rattle.jb_image.specs.Pair.{back_disk, front_disk, joined_count, past_states, AreWellAsked, IsHonestPair}
 use Rattle.jb_image.specs.Pair.{MayGoOnBoth, PairCalled, PairLeaves, PairLeftSince}
-use Rattle.jb_image.specs.Told.{first_told}
 use Rattle.jb_image.specs.declared.image.ImageDisk.{ImageDisk}
 use Rattle.jb_image.specs.declared.image.ImageDisk.TheVariants.{One, Two, Within}
 
@@ -55,11 +54,11 @@ module _ {D E : Type 0} (G : Ghosts D) (H : Ghosts E) where
   image_faults (Two pair) = counted (H.faults (front_disk pair)) (G.faults (back_disk pair))
   image_faults (Within disk) = counted (G.faults (whole_disk disk)) (refused_calls disk)
 
-  -- why the last call of it that failed did so, as one of its disks tells it
-  abbrev pub image_told : ImageDisk D E → Option Failure
-  image_told (One disk) = G.told disk
-  image_told (Two pair) = first_told (H.told (front_disk pair)) (G.told (back_disk pair))
-  image_told (Within disk) = G.told (whole_disk disk)
+  -- the last call of one of its disks that failed was this one, and for this reason
+  abbrev pub ImageTells : ImageDisk D E → Failure → Type 0
+  ImageTells (One disk) = G.tells disk
+  ImageTells (Two pair) = λ failure. H.tells (front_disk pair) failure ⊎ G.tells (back_disk pair) failure
+  ImageTells (Within disk) = G.tells (whole_disk disk)
 
   -- the disks that it is are honest
   abbrev pub IsHonestImage : ImageDisk D E → Type 0

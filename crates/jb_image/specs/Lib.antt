@@ -14,5 +14,4 @@ pub mod Pair
 pub mod Past
 pub mod Refusals
 pub mod Stretches
-pub mod Told
 pub mod Words

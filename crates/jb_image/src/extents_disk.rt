@@ -107,7 +107,7 @@ impl<D: Disk> Disk for ExtentsDisk<D> {
 
     ghost well_asked = { λ d. D.well_asked d.disk };
 
-    ghost told = { λ d. D.told d.disk };
+    ghost tells = { λ d. D.tells d.disk };
 
     ghost own = { λ call old new ok. ExtentsCalled D.count D.faults D.own call old new ok };
 

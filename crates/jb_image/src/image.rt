@@ -55,7 +55,7 @@ impl<D: Disk, E: Disk> ImageDisk<D, E> {
 impl<D: Disk, E: Disk> Disk for ImageDisk<D, E> {
     ghost use Rattle.jb_image.specs.Bound.{members};
     ghost use Rattle.jb_image.specs.Images.{image_count, image_faults, image_moment, image_newest, image_size};
-    ghost use Rattle.jb_image.specs.Images.{image_told};
+    ghost use Rattle.jb_image.specs.Images.{ImageTells};
     ghost use Rattle.jb_image.specs.Images.{IsHonestImage, IsImageWellAsked, ImageCalled, ImageLeaves, ImageLeft};
     ghost use Rattle.jb_image.specs.Images.{MayImageGoOn};
     ghost use Rattle.jb_image.specs.Images as images;
@@ -84,7 +84,7 @@ impl<D: Disk, E: Disk> Disk for ImageDisk<D, E> {
 
     ghost runs_as_calls = { false };
 
-    ghost told = { image_told D.Disk E.Disk };
+    ghost tells = { ImageTells D.Disk E.Disk };
 
     ghost has_size = { λ d. images.has_image_size (members D.Disk) (members E.Disk) D.has_size E.has_size d };
 

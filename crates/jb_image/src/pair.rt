@@ -56,7 +56,6 @@ impl<A: Disk, B: Disk> Disk for PairDisk<A, B> {
     ghost use Rattle.jb_image.specs.Laws.{counts_both, has_both_shapes, leaves_newest, only_both};
     ghost use Rattle.jb_image.specs.Laws.{since_has_both_shapes};
     ghost use Rattle.jb_image.specs.Pair.{AreWellAsked, IsHonestPair, MayGoOnBoth, PairLeaves, PairLeftSince};
-    ghost use Rattle.jb_image.specs.Told.{first_told};
 
     ghost size = { λ p. A.size p.front };
 
@@ -82,7 +81,7 @@ impl<A: Disk, B: Disk> Disk for PairDisk<A, B> {
 
     ghost runs_as_calls = { false };
 
-    ghost told = { λ p. first_told (A.told p.front) (B.told p.back) };
+    ghost tells = { λ p failure. A.tells p.front failure ⊎ B.tells p.back failure };
 
     ghost has_size = { λ p. A.has_size p.front };
 
