@@ -3,7 +3,7 @@ import re
 
 from images import image, superblock
 from json_text import are_json, is_json
-from rows import BAD_QUEUES, BAD_SUPERS, BASIC, CLEAN, CLEARED, FOUR, FULL, HANDLE, MADE, OLD, OUT_OF_RANGE, PLANS, RECOVERED, ROWS, SMALL, THREE, TWO_COPIES
+from rows import BAD_QUEUES, BAD_SUPERS, BASIC, CLEAN, CLEARED, FOUR, FULL, HANDLE, MADE, OLD, OUT_OF_RANGE, PICTURE, PLANS, RECOVERED, ROWS, SMALL, THREE, TWO_COPIES
 from rows import WIDENED, queue, row
 from rows_load import LOADED
 from rows_words import begins  # (the rows over words come before)
@@ -83,7 +83,7 @@ row("load a q --hold --json", 1, loaded(1, 2, 0, 0, 0, commit="Aborted", hint="a
 row("load a q --json", 1, err=fault("BlockSize"), files={"a": image(SMALL), "q": queue(HANDLE, first="bs 2048")})
 row("load a q --json", 1, err=fault("WriteFault"), files={"a": image(SMALL), "q": queue(HANDLE)}, to="full", after={"a": LOADED})
 
-# ---- dumps: each line of the text as an object ----------------------------------------------------------------------------------
+# ---- dumps: each line of the text as an object, without a picture --------------------------------------------------------------
 
 BITS = ("compat", "incompat", "rocompat", "checksum")
 
@@ -108,7 +108,7 @@ def entry(line):
 
 for one in [one for one in ROWS if one["words"].startswith("dump ") and " -h" not in one["words"] and "--help" not in one["words"]
             and not one["status"] and one["to"] == "pipe" and isinstance(one["out"], str)]:
-    ROWS.append({**one, "words": "--json " + one["words"], "out": are_json("dump", [entry(line) for line in one["out"].splitlines()])})
+    ROWS.append({**one, "words": "--json " + one["words"], "out": are_json("dump", [entry(line) for line in one["out"].removesuffix(PICTURE).splitlines()])})
 
 # ---- faults ------------------------------------------------------------------------------------------------------------------
 

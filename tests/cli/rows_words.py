@@ -105,6 +105,8 @@ Options:
       --super              Every field of the superblock alone, also of one
                            that is refused
       --summary            The journal at a glance, in place of its lines
+      --draw               Draws the log, and the homes written most;
+                           for --summary alone
       --journal <JOURNAL>  The file with the journal; FILE has the home blocks
                            alone then
       --extents <LIST>     Where the journal stands within FILE, as debugfs

@@ -77,13 +77,15 @@ format_app =
     let parts = with_rule (with_rule sized (required_number (codes "journal"))) (required_number (codes "homes")) in
     with_rule (with_rule (with_rule parts (number_or (codes "max") (codes "0"))) uuid_option) (flag (codes "wide"))
 
--- `dump FILE [--home N] [--last N] [--super] [--summary] [--journal JOURNAL] [--extents LIST] [--checksums] [--ring]`
+-- `dump FILE [--home N] [--last N] [--super] [--summary] [--draw] [--journal JOURNAL] [--extents LIST] [--checksums]
+-- [--ring]`
 abbrev pub dump_app : App
 dump_app =
     let numbered =
     with_rule (with_rule (file_app (codes "dump")) (number_option (codes "home"))) (number_option (codes "last")) in
     let chosen = with_rule (with_rule numbered (flag (codes "super"))) (flag (codes "summary")) in
-    with_rule (with_rule (with_rule (with_rule chosen journal_option) extents_option) (flag (codes "checksums")))
+    let drawn = with_rule chosen (flag (codes "draw")) in
+    with_rule (with_rule (with_rule (with_rule drawn journal_option) extents_option) (flag (codes "checksums")))
     (flag (codes "ring"))
 
 -- `cat IMAGE HOME [-n N] [--hex] [--journal FILE] [--extents LIST] [--checksums]`

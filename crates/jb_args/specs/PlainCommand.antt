@@ -38,6 +38,7 @@ pub record DumpWords : Type 0 where
   pub last : Option ℕ
   pub superblock : Bool
   pub summary : Bool
+  pub drawn : Bool
   pub journal : Option Text
   pub extents : Option Text
   pub checksums : Bool
@@ -89,6 +90,7 @@ dump_said o =
       last = o.last;
       superblock = o.superblock;
       summary = o.summary;
+      drawn = o.drawn;
       journal = option_map (λ word. word.now) o.journal;
       extents = option_map (λ word. word.now) o.extents;
       checksums = o.checksums;
@@ -159,19 +161,20 @@ extents_asked rows = first_of (codes "extents") rows
 -- `dump FILE ..`
 abbrev pub dump_in : List Row → Option Asked
 dump_in rows =
-    option_and_then (λ file. option_and_then (λ alone. option_and_then (λ sum. option_and_then (λ checksums.
-    option_map (λ ring. AsksDump file (record {
+    option_and_then (λ file. option_and_then (λ alone. option_and_then (λ sum. option_and_then (λ drawn.
+    option_and_then (λ checksums. option_map (λ ring. AsksDump file (record {
       home = number_in (codes "home") rows;
       last = number_in (codes "last") rows;
       superblock = alone;
       summary = sum;
+      drawn = drawn;
       journal = journal_asked rows;
       extents = extents_asked rows;
       checksums = checksums;
       ring = ring;
     }))
-    (flag_in (codes "ring") rows)) (flag_in (codes "checksums") rows)) (flag_in (codes "summary") rows))
-    (flag_in (codes "super") rows)) (file_in rows)
+    (flag_in (codes "ring") rows)) (flag_in (codes "checksums") rows)) (flag_in (codes "draw") rows))
+    (flag_in (codes "summary") rows)) (flag_in (codes "super") rows)) (file_in rows)
 
 -- the options of `format`
 abbrev pub options_in : List Row → Option GivenOptions

@@ -151,6 +151,7 @@ fn dump_of<'a>(found: &ArgMatches<'a>) -> Option<Plain<'a>>
             last: number_of(found, "last"),
             superblock: flag_of(found, "super")?,
             summary: flag_of(found, "summary")?,
+            drawn: flag_of(found, "draw")?,
             journal: word_of(found, "journal"),
             extents: word_of(found, "extents"),
             checksums: flag_of(found, "checksums")?,

@@ -7,3 +7,4 @@ pub mod FoundSuper
 pub mod Judgement
 pub mod ListWords
 pub mod Verdicts
+pub mod WatchedCalls

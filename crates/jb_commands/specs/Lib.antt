@@ -35,3 +35,4 @@ pub mod Runs
 pub mod Searched
 pub mod TextFaults
 pub mod Texts
+pub mod Watched

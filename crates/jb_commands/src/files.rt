@@ -12,9 +12,11 @@ mod opening;
 mod own;
 mod placed;
 mod recovered;
+mod recovering;
 mod searching;
 mod shut;
 mod texts;
+mod watched;
 
 pub use changes::{renumber_file, widen_file};
 pub use homes::cat_file;

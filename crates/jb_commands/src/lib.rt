@@ -15,6 +15,7 @@ mod nested_faults;
 mod options;
 mod plan;
 mod program_end;
+mod progress;
 mod queue_fault;
 mod report;
 mod running;

@@ -26,45 +26,50 @@ use jb_queue::{QueueText, read_queue};
 use std::fs::File;
 use std::io::{Read, Write};
 use std::rt::Files;
+use std::time::Clock;
 
-/// Runs a command, which answers in this form: reads its files, or `input` for `-` and for nothing else, and works on
-/// its image. A command over texts, `dump` and `cat` write as they go; what the others have to say is in the answer,
-/// with the image, still open.
+/// Runs a command, which answers in the form that is set: reads its files, or `input` for `-` and for nothing else, and
+/// works on its image. A command over texts, `dump` and `cat` write as they go; what the others have to say is in the
+/// answer, with the image, still open.
 ///
 /// `S` and `T` are what is supposed of the image's files ([`CommandEnd`]).
 pub fn perform<
     'a,
     S: Start,
     T: Start,
-    R: Files<File = File> + AllocGlobal,
+    R: Files<File = File> + AllocGlobal + Clock,
     I: Read,
     O: Write,
     E: Write,
 >(
     rt: &R,
     plain: Plain<'a>,
-    form: AnswerForm,
+    settings: Settings,
     input: &mut I,
     out: &mut O,
     err: &mut E,
 ) -> CommandEnd<'a, S, T>
     /// The command that the words ask for: what it has written, the image as it has left it, and what it has to say.
-    ensures ends { EndsAsked form (asks plain.entry) (I.remaining input.old)
+    ensures ends { EndsAsked settings.form (asks plain.entry) (I.remaining input.old)
         (record { out = O.contents out.old; err = E.contents err.old })
         (record { out = O.contents out.new; err = E.contents err.new }) result.image result.end }
     /// Standard input stays as it is where it is not the text of the command.
     ensures unread { reads_input (asks plain.entry) ≡ false → input.new ≡ input.old }
 {
+    let form = settings.form;
     match plain {
         Plain::Cost { file } => CommandEnd::said(perform_cost(rt, file, form, input, out, err)),
         Plain::Plan { file } => CommandEnd::said(perform_plan(rt, file, form, input, out, err)),
         Plain::Check { file, cert } => CommandEnd::said(perform_check(rt, file, cert, form, out, err)),
         Plain::Dump { file, options } => {
-            CommandEnd::status(dump_in::<S, T, R, I, O>(rt, file, options, form, input, out))
+            let shown = settings.progress;
+            CommandEnd::status(dump_in::<S, T, R, I, O>(rt, file, options, form, shown, input, out))
         }
         Plain::Format { image, options } => format_file(rt, image, options),
         Plain::Cat { image, options } => cat_file(rt, image, options, input, out),
-        Plain::Recover { image, options } => recover_file(rt, image, options, input),
+        Plain::Recover { image, options } => {
+            recover_file(rt, image, options, settings.progress, input)
+        }
         Plain::Renumber { image, extents } => renumber_file(rt, image, extents, input),
         Plain::Widen { image, extents } => widen_file(rt, image, extents, input),
     }
@@ -171,7 +176,7 @@ fn check_file<'a, R: Files + AllocGlobal, O: Write, E: Write>(
 
 /// Runs a command and gives the end of the program; a command that ends without an answer has its line on `err`, or in
 /// JSON the same.
-pub fn run_plain<R: Files<File = File> + AllocGlobal, I: Read, O: Write, E: Write>(
+pub fn run_plain<R: Files<File = File> + AllocGlobal + Clock, I: Read, O: Write, E: Write>(
     rt: &R,
     plain: Plain<'_>,
     settings: Settings,
@@ -186,7 +191,7 @@ pub fn run_plain<R: Files<File = File> + AllocGlobal, I: Read, O: Write, E: Writ
         (record { out = O.contents out.new; err = E.contents err.new }) result }
     ensures unread { reads_input (asks plain.entry) ≡ false → input.new ≡ input.old }
 {
-    let done = perform::<Unknown, Unknown, R, I, O, E>(rt, plain, settings.form, input, out, err);
+    let done = perform::<Unknown, Unknown, R, I, O, E>(rt, plain, settings, input, out, err);
     close(settings.form, done.tell(settings.form, out), files_of(plain), err)
 }
 

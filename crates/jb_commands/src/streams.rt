@@ -18,6 +18,8 @@ mod recovering;
 mod refusal;
 mod showing;
 mod telling;
+mod watched_disk;
+mod watched_reader;
 
 pub use catting::{ShownHomes, cat_on};
 pub use changing::{renumber_on, widen_on};
@@ -38,3 +40,5 @@ pub use refusal::refuse_words;
 pub(crate) use showing::show_on;
 pub use telling::tell;
 pub(crate) use telling::{put_fields, told};
+pub(crate) use watched_disk::WatchedDisk;
+pub(crate) use watched_reader::WatchedReader;

@@ -3,7 +3,7 @@
 use crate::checks::{check_at, check_text};
 use crate::files::remove;
 use crate::runs::Host;
-use jb_args::{CatOptions, FormatOptions, Plain, RecoverOptions};
+use jb_args::{CatOptions, FormatOptions, Plain, ProgressLine, RecoverOptions, Settings};
 use jb_disk::{Disk, Unknown};
 use jb_tool::{
     AnswerForm, CommandEnd, cat_file, format_file, perform, recover_file, renumber_file,
@@ -67,7 +67,7 @@ fn check_made(rt: &impl Host) {
     check_done(rt, made, ALL, "formatted limit 8\n", 0);
     check_done(rt, format_file(rt, NAME, NEW), None, "", 1);
     let line = "transactions 0 copies 0 revoked 0 next 2\n";
-    let recovered = recover_file(rt, NAME, RECOVER, &mut b"".as_slice());
+    let recovered = recover_file(rt, NAME, RECOVER, ProgressLine::Never, &mut b"".as_slice());
     check_done(rt, recovered, ALL, line, 2)
 }
 
@@ -87,7 +87,8 @@ fn check_again(rt: &impl Host) {
         image: NAME,
         extents: None,
     };
-    let again = perform(rt, widen, AnswerForm::Text, &mut b"".as_slice(), &mut out, &mut err);
+    let settings = Settings::new(false, false);
+    let again = perform(rt, widen, settings, &mut b"".as_slice(), &mut out, &mut err);
     check_done(rt, again, ALL, "already wide limit 8\n", 5)
 }
 
@@ -107,7 +108,7 @@ fn check_commands(rt: &impl Host) {
     check_cat(rt, ALL, &[0; 1024], 6);
     remove(rt, NAME);
     check_cat(rt, None, &[], 7);
-    let recovered = recover_file(rt, NAME, RECOVER, &mut b"".as_slice());
+    let recovered = recover_file(rt, NAME, RECOVER, ProgressLine::Never, &mut b"".as_slice());
     check_done(rt, recovered, None, "", 8)
 }
 

@@ -50,7 +50,7 @@ fn put_dump(rt: &impl Host, text: &mut String, file: &str, of: DumpOptions) {
     put_words(rt, text, &["dump", file]);
     put_some(rt, text, of.home);
     put_some(rt, text, of.last);
-    put_flags(rt, text, &[of.superblock, of.summary]);
+    put_flags(rt, text, &[of.superblock, of.summary, of.drawn]);
     put(rt, text, of.journal.unwrap_or("-"));
     put(rt, text, of.extents.unwrap_or("-"));
     put_flags(rt, text, &[of.checksums, of.ring])
@@ -146,39 +146,55 @@ static ROWS: [(&str, &str); 37] = [
         "format a.img --bs +1024 --journal 033 --homes 16",
         "format a.img 1024 33 16 0 00000000000000000000000000000000 false",
     ),
-    ("dump a", "dump a - - false false - - false false"),
-    ("dump --home 5 a", "dump a 5 - false false - - false false"),
+    ("dump a", "dump a - - false false false - - false false"),
+    (
+        "dump --home 5 a",
+        "dump a 5 - false false false - - false false",
+    ),
     (
         "dump --journal j a",
-        "dump a - - false false j - false false",
+        "dump a - - false false false j - false false",
     ),
     (
         "dump a --extents=1-33",
-        "dump a - - false false - 1-33 false false",
+        "dump a - - false false false - 1-33 false false",
     ),
     (
         "dump a --last=18446744073709551615",
-        "dump a - 18446744073709551615 false false - - false false",
+        "dump a - 18446744073709551615 false false false - - false false",
     ),
-    ("dump --super a", "dump a - - true false - - false false"),
-    ("dump --summary a", "dump a - - false true - - false false"),
+    (
+        "dump --super a",
+        "dump a - - true false false - - false false",
+    ),
+    (
+        "dump --summary a",
+        "dump a - - false true false - - false false",
+    ),
+    (
+        "dump --draw a --summary",
+        "dump a - - false true true - - false false",
+    ),
     (
         "dump a --summary --last 2",
-        "dump a - 2 false true - - false false",
+        "dump a - 2 false true false - - false false",
     ),
     (
         "dump --last 0 --super a --home=+07",
-        "dump a 7 0 true false - - false false",
+        "dump a 7 0 true false false - - false false",
     ),
     (
         "dump a --checksums --super",
-        "dump a - - true false - - true false",
+        "dump a - - true false false - - true false",
     ),
     (
         "dump --ring a --checksums",
-        "dump a - - false false - - true true",
+        "dump a - - false false false - - true true",
     ),
-    ("dump a --ring", "dump a - - false false - - false true"),
+    (
+        "dump a --ring",
+        "dump a - - false false false - - false true",
+    ),
     ("cat a.img 5", "cat a.img 5 1 false - - false"),
     (
         "cat --hex a.img -n 3 18446744073709551615",

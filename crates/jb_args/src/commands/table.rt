@@ -76,6 +76,11 @@ pub(super) static DUMP: CommandRow = CommandRow {
             kind: WordKind::Flag,
             help: "The journal at a glance, in place of its lines",
         },
+        CommandWord {
+            name: "draw",
+            kind: WordKind::Flag,
+            help: "Draws the log, and the homes written most;\nfor --summary alone",
+        },
         DUMP_JOURNAL,
         DUMP_EXTENTS,
         CHECKSUMS,

@@ -43,7 +43,9 @@ is where jb recover has it.
 With --summary the journal at a glance is printed in place of the lines,
 whatever the other options say: how much of the log is used, the blocks of a
 transaction, the copies and the homes that are written most, the revokes, and
-when the first and the last transaction were committed.
+when the first and the last transaction were committed. With --summary --draw
+the log is drawn after them, a column for so many blocks, and the homes that
+are written most.
 
 With --checksums a journal with checksums (CSUM_V2 or CSUM_V3) is taken, too.
 It is refused where a descriptor, revoke or commit block of a committed
@@ -62,7 +64,7 @@ of its fault, or a read fails, 2 where a file cannot be opened, or is in use.
 Examples:
   jb dump journal.bin
   jb dump journal.bin --home 5 --last 2   # the last two transactions, home 5
-  jb dump journal.bin --summary
+  jb dump journal.bin --summary --draw
   jb dump fs.img --super
   jb dump fs.img --checksums --ring";
 
@@ -192,6 +194,9 @@ and then lose is still there.
 With --dry-run nothing is written, the image is opened for reading, and the
 line is that of the recovery; with --list the home block of each copy that
 would be written follows, as home N, in the log's order.
+
+Once it has run for a second, a line on a terminal shows how far it has come;
+not with -q or --no-progress.
 
 Status: 0 where the image is recovered, 1 where it is refused, by the name of
 its fault, and stays as it is, 2 where the file cannot be opened or read.

@@ -6,15 +6,16 @@ ghost use Rattle.jb_commands.specs.DumpForm.{EndsOfDumpIn, TellsEntries, in_memo
 
 use crate::fault::CommandFault;
 use crate::files::journals::dump_named;
-use jb_args::{AnswerForm, DumpOptions};
+use jb_args::{AnswerForm, DumpOptions, ProgressLine};
 use jb_disk::Start;
 use jb_json::put_entries;
 use std::fs::File;
 use std::io::{Read, Write};
 use std::rt::Files;
+use std::time::Clock;
 
-/// Dumps the journal of the file of this name, as [`dump_named`], or each line of that as a JSON object. These are
-/// written once all of the text is in memory.
+/// Dumps the journal of the file of this name, as [`dump_named`], or each line of that as a JSON object, and then
+/// nothing is drawn. The objects are written once all of the text is in memory.
 ///
 /// # Errors
 /// Those of `dump_named`.
@@ -22,7 +23,7 @@ pub(crate) fn dump_in<
     'a,
     S: Start,
     T: Start,
-    R: Files<File = File> + AllocGlobal,
+    R: Files<File = File> + AllocGlobal + Clock,
     I: Read,
     O: Write,
 >(
@@ -30,6 +31,7 @@ pub(crate) fn dump_in<
     name: &'a str,
     options: DumpOptions<'a>,
     form: AnswerForm,
+    shown: ProgressLine,
     input: &mut I,
     out: &mut O,
 ) -> Result<u8, CommandFault<'a>>
@@ -38,10 +40,14 @@ pub(crate) fn dump_in<
     ensures unread { reads_dump name.entry.now (dump_said options.entry) ≡ false → input.new ≡ input.old }
 {
     match form {
-        AnswerForm::Text => dump_named::<S, T, R, I, O>(rt, name, options, input, out),
+        AnswerForm::Text => dump_named::<S, T, R, I, O>(rt, name, options, shown, input, out),
         AnswerForm::Json => {
             let mut text = Vec::new(rt.alloc());
-            let done = dump_named::<S, T, R, I, Vec<u8>>(rt, name, options, input, &mut text);
+            let lines = DumpOptions {
+                drawn: false,
+                ..options
+            };
+            let done = dump_named::<S, T, R, I, Vec<u8>>(rt, name, lines, shown, input, &mut text);
             tell_entries(done, text.as_slice(), out)
         }
     }
