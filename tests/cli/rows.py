@@ -227,6 +227,7 @@ BASIC = "format a --bs 1024 --journal 33 --homes 16"
 row(BASIC, 0, "formatted limit 8\n", after={"a": MADE})
 row("format a --bs 1024 --journal 33 --homes 16 --uuid 000102030405060708090A0b0c0d0e0f", 0, "formatted limit 8\n", after={"a": image(SMALL)})
 row(BASIC + " --wide --max 5", 0, "formatted limit 5\n", after={"a": image(superblock(incompat=3, most=5, uuid=bytes(16)))})
+row(BASIC + " --sparse", 0, "formatted limit 8\n", after={"a": MADE})
 row("format a --bs 1024 --journal 33 --homes 4294967297", 2, err="jb: bad option\n", beside="--homes")
 row("format a --bs 4096 --journal 9 --homes 0", 0, "formatted limit 3\n",
     after={"a": image(superblock(maxlen=9, said=4096, size=4096, uuid=bytes(16)), homes=0, maxlen=9, size=4096)})

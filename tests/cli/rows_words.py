@@ -152,6 +152,7 @@ Options:
                      of the log [default: 0]
       --uuid <HEX>   The UUID in hex [default: 00000000000000000000000000000000]
       --wide         Block numbers of 64 bits
+      --sparse       Takes no room for a block before it is first written
   -h, --help         Print help (see more with '--help')
 """,
     "load -h": """Commits the handles of a queue text to an image, run by threads

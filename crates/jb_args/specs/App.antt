@@ -69,13 +69,14 @@ flag name = record (new_rule name) { long = Some name; action = Some SetTrue }
 abbrev pub image_app : Text → App
 image_app name = with_rule (new_app name) (required_word (codes "IMAGE"))
 
--- `format IMAGE --bs N --journal N --homes N [--max N] [--uuid HEX] [--wide]`
+-- `format IMAGE --bs N --journal N --homes N [--max N] [--uuid HEX] [--wide] [--sparse]`
 abbrev pub format_app : App
 format_app =
     let image = image_app (codes "format") in
     let sized = with_rule image (required_number (codes "bs")) in
     let parts = with_rule (with_rule sized (required_number (codes "journal"))) (required_number (codes "homes")) in
-    with_rule (with_rule (with_rule parts (number_or (codes "max") (codes "0"))) uuid_option) (flag (codes "wide"))
+    let journal = with_rule (with_rule parts (number_or (codes "max") (codes "0"))) uuid_option in
+    with_rule (with_rule journal (flag (codes "wide"))) (flag (codes "sparse"))
 
 -- `dump FILE [--home N] [--last N] [--super] [--summary] [--draw] [--journal JOURNAL] [--extents LIST] [--checksums]
 -- [--ring]`

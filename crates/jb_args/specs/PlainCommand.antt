@@ -22,6 +22,7 @@ pub record GivenOptions : Type 0 where
   pub max : ℕ
   pub uuid : Text
   pub wide : Bool
+  pub sparse : Bool
 
 -- the words of `cat` after its image as they were given
 pub record CatWords : Type 0 where
@@ -68,7 +69,15 @@ pub data Asked : Type 0 where
 -- what a value of the program's own options says
 abbrev pub options_said : FormatOptions → GivenOptions
 options_said o =
-    record { bs = o.bs; journal = o.journal; homes = o.homes; max = o.max; uuid = o.uuid.now; wide = o.wide }
+    record {
+      bs = o.bs;
+      journal = o.journal;
+      homes = o.homes;
+      max = o.max;
+      uuid = o.uuid.now;
+      wide = o.wide;
+      sparse = o.sparse;
+    }
 
 -- the same of `cat`
 abbrev pub cat_said : CatOptions → CatWords
@@ -180,9 +189,17 @@ dump_in rows =
 abbrev pub options_in : List Row → Option GivenOptions
 options_in rows =
     option_and_then (λ bs. option_and_then (λ journal. option_and_then (λ homes. option_and_then (λ max.
-    option_and_then (λ uuid.
-    option_map (λ wide. record { bs = bs; journal = journal; homes = homes; max = max; uuid = uuid; wide = wide })
-    (flag_in (codes "wide") rows)) (first_of (codes "uuid") rows))
+    option_and_then (λ uuid. option_and_then (λ wide.
+    option_map (λ sparse. record {
+      bs = bs;
+      journal = journal;
+      homes = homes;
+      max = max;
+      uuid = uuid;
+      wide = wide;
+      sparse = sparse;
+    })
+    (flag_in (codes "sparse") rows)) (flag_in (codes "wide") rows)) (first_of (codes "uuid") rows))
     (number_in (codes "max") rows)) (number_in (codes "homes") rows)) (number_in (codes "journal") rows))
     (number_in (codes "bs") rows)
 

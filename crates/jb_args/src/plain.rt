@@ -135,4 +135,6 @@ pub struct FormatOptions<'a> {
     pub uuid: &'a str,
     /// `--wide`: whether the journal has block numbers of 64 bits.
     pub wide: bool,
+    /// `--sparse`: whether a block gets room only when it is first written.
+    pub sparse: bool,
 }

@@ -215,6 +215,7 @@ fn options_of<'a>(found: &ArgMatches<'a>) -> Option<FormatOptions<'a>>
         max: number_of(found, "max")?,
         uuid: word_of(found, "uuid")?,
         wide: flag_of(found, "wide")?,
+        sparse: flag_of(found, "sparse")?,
     })
 }
 

@@ -22,6 +22,7 @@ const NEW: FormatOptions<'static> = FormatOptions {
     max: 0,
     uuid: "000102030405060708090a0b0c0d0e0f",
     wide: false,
+    sparse: false,
 };
 
 const RECOVER: RecoverOptions<'static> = RecoverOptions {

@@ -61,7 +61,7 @@ fn put_format(rt: &impl Host, text: &mut String, image: &str, of: FormatOptions)
     put_words(rt, text, &["format", image]);
     put_numbers(rt, text, &[of.bs, of.journal, of.homes, of.max]);
     put(rt, text, of.uuid);
-    put_flags(rt, text, &[of.wide])
+    put_flags(rt, text, &[of.wide, of.sparse])
 }
 
 /// Adds the words and options of `jb cat`, in the order of `CatOptions`.
@@ -140,11 +140,11 @@ static ROWS: [(&str, &str); 37] = [
     ("widen a.img --extents @list", "widen a.img @list"),
     (
         "format --uuid 000102030405060708090A0b0c0d0e0f --max=6 --wide a.img --homes 16 --journal 33 --bs 1024",
-        "format a.img 1024 33 16 6 000102030405060708090A0b0c0d0e0f true",
+        "format a.img 1024 33 16 6 000102030405060708090A0b0c0d0e0f true false",
     ),
     (
-        "format a.img --bs +1024 --journal 033 --homes 16",
-        "format a.img 1024 33 16 0 00000000000000000000000000000000 false",
+        "format --sparse a.img --bs +1024 --journal 033 --homes 16",
+        "format a.img 1024 33 16 0 00000000000000000000000000000000 false true",
     ),
     ("dump a", "dump a - - false false false - - false false"),
     (

@@ -163,6 +163,11 @@ pub(super) static FORMAT: CommandRow = CommandRow {
             kind: WordKind::Flag,
             help: "Block numbers of 64 bits",
         },
+        CommandWord {
+            name: "sparse",
+            kind: WordKind::Flag,
+            help: "Takes no room for a block before it is first written",
+        },
     ],
 };
 

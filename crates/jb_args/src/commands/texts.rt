@@ -100,6 +100,13 @@ bytes at most where the file system takes 255. It gets its own by a link,
 which replaces no file: on a file system without links, as FAT, nothing is
 made (jb: no links NAME).
 
+Zeros are written over the whole image, so that it has its room: where the
+disk has too little, nothing is made, and nothing is left (jb: cannot make
+NAME). How much is free is not known before: an image that is much too large
+fills the disk first, for as long as that takes, and then gives the room back.
+With --sparse a block takes room when it is first written. A disk that is full
+by then fails load and recover.
+
 Status: 0 where the image is made, 1 where the numbers make no journal, 2
 where an option is bad or the file cannot be made.
 
