@@ -4,8 +4,8 @@
     tests/processes/kill_accounts.py PROGRAM [KILLS]
 
 The image stays from run to run. A run that ends before it is killed is counted, and must print the right line. After all kills
-(200, if no number is given) one more run moves nothing and must print it. Prints how many runs there were, and ends with 1 where
-one was wrong.
+(200, if no number is given) one more run moves nothing and must print it; the homes of the image, read here, must hold as much
+then, and money must have been moved. Prints how many runs there were, and ends with 1 where one was wrong.
 """
 import os
 import random
@@ -15,6 +15,9 @@ import sys
 import tempfile
 
 LINE = b"the accounts hold 100000\n"
+
+# the blocks of the journal, before the accounts; how many accounts there are; and the bytes of a block
+JOURNAL, ACCOUNTS, SIZE = 1024, 100, 1024
 
 
 def run(program, image, moves, patience):
@@ -27,6 +30,14 @@ def run(program, image, moves, patience):
         started.send_signal(signal.SIGKILL)
         started.communicate()
         return None
+
+
+def balances(image):
+    """What each account holds, by its home block in the image."""
+    with open(image, "rb") as file:
+        file.seek(JOURNAL * SIZE)
+        homes = file.read(ACCOUNTS * SIZE)
+    return [int.from_bytes(homes[at:at + 8], "big") for at in range(0, len(homes), SIZE)]
 
 
 def main():
@@ -50,6 +61,10 @@ def main():
         if last != LINE:
             wrong += 1
             sys.stdout.write(f"the last run: {last!r}\n")
+        held = balances(image)
+        if sum(held) != 100000 or held == [1000] * ACCOUNTS:
+            wrong += 1
+            sys.stdout.write(f"the homes: {held}\n")
     print(f"{ran} runs, {killed} killed, {wrong} wrong")
     return 1 if wrong or killed < wanted else 0
 

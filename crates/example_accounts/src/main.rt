@@ -9,90 +9,72 @@
 #![tactic(auto)]
 
 mod accounts;
+mod cashbook;
+mod finding;
+mod moves;
 mod moving;
-mod opening;
+mod posting;
+mod running;
 
-use crate::accounts::{ACCOUNTS, Balances, OPENING, SIZE, total};
-use crate::moving::Moving;
-use crate::opening::{Opening, read_all};
+use crate::accounts::{ACCOUNTS, Balances, Block, SIZE, balance, total};
+use crate::running::{Outcome, move_in_image, move_on_disk};
 use jb_journal::{
-    Disk, ImageGeometry, JournalFault, MemoryDisk, Options, SystemClock, Width, format,
-    open_or_create, run,
+    Disk, ImageGeometry, JournalFault, MemoryDisk, Ran, Unknown, Width, format, read_home,
 };
+use std::alloc::Global;
 use std::env;
 use std::fs::File;
 use std::io::Write;
 use std::process::ExitCode;
 use std::rt::Files;
-use std::sync::{Mutex, Wait};
+use std::sync::Wait;
 use std::thread::Threads;
 use std::time::Clock;
 
 /// How many blocks the journal has.
 const JOURNAL: u32 = 1024;
 
-/// Moves money, and gives what the accounts hold then.
-fn run_accounts<D: Disk + Drop + Send, R: AllocGlobal + Threads + Wait + Clock + Sync>(
-    rt: &R,
-    disk: D,
-    moves: u64,
-) -> Result<u64, JournalFault> {
-    let (balances, disk) = opened(rt, disk)?;
-    let moving = Moving {
-        moves,
-        balances: Mutex::new(balances),
-    };
-    let ran = run(rt, disk, SystemClock::new(rt), Options::new(4), &moving)?;
+/// What the accounts hold, once all that was moved is committed.
+fn held_after<D: Disk + Drop>(ran: Ran<Outcome, D>) -> Result<Balances, JournalFault> {
     let (mut disk, answers) = ran.durable()?;
     for answer in answers {
         answer?;
     }
-    Ok(total(&read_all(&mut disk)?))
+    read_all(&mut disk)
 }
 
-/// Reads what the accounts hold; in a new journal opens them first.
-fn opened<D: Disk + Drop + Send, R: AllocGlobal + Threads + Wait + Clock + Sync>(
-    rt: &R,
-    disk: D,
-) -> Result<(Balances, D), JournalFault> {
-    let mut disk = disk;
-    let balances = read_all(&mut disk)?;
-    if total(&balances) != 0 {
-        return Ok((balances, disk));
+/// What the accounts hold, as it is committed, while no journal runs.
+fn read_all<D: Disk>(disk: &mut D) -> Result<Balances, JournalFault> {
+    let mut balances: Balances = [0; ACCOUNTS];
+    let mut block: Block = [0; 1024];
+    for account in 0..ACCOUNTS {
+        read_home(disk, account as u64, &mut block)?;
+        balances[account] = balance(&block);
     }
-    let ran = run(rt, disk, SystemClock::new(rt), Options::new(1), &Opening)?;
-    let (disk, answers) = ran.durable()?;
-    for answer in answers {
-        answer?;
-    }
-    Ok(([OPENING; ACCOUNTS], disk))
+    Ok(balances)
 }
 
-/// Runs in memory, or in the file that is named, with as many moves by each thread as the second word says.
+/// Runs in memory, or in the image that is named, with as many moves by each thread as the second word says.
 fn run_words<R: Files<File = File> + AllocGlobal + Threads + Wait + Clock + Sync>(
     rt: &R,
     image: Option<String>,
     moves: Option<String>,
-) -> Result<u64, JournalFault> {
+) -> Result<Balances, JournalFault> {
     match (image, moves) {
         (Some(image), Some(moves)) => {
             let geometry = ImageGeometry::new(SIZE, JOURNAL, ACCOUNTS as u64);
-            let disk = open_or_create(rt, &image, geometry)?;
-            run_accounts(rt, disk, moves.parse().unwrap_or(0))
+            let moves = moves.parse().unwrap_or(0);
+            held_after(move_in_image::<Unknown, R>(rt, &image, geometry, moves)?)
         }
-        _ => run_in_memory(rt, 250),
+        _ => held_after(move_on_disk(rt, in_memory(rt.alloc())?, 250)?),
     }
 }
 
-/// Runs in memory.
-fn run_in_memory<R: AllocGlobal + Threads + Wait + Clock + Sync>(
-    rt: &R,
-    moves: u64,
-) -> Result<u64, JournalFault> {
-    let blocks = u64::from(JOURNAL) + ACCOUNTS as u64;
-    let mut disk = MemoryDisk::new(rt.alloc(), SIZE, blocks)?;
+/// A disk in memory with a new journal.
+fn in_memory(alloc: Global) -> Result<MemoryDisk, JournalFault> {
+    let mut disk = MemoryDisk::new(alloc, SIZE, u64::from(JOURNAL) + ACCOUNTS as u64)?;
     format(&mut disk, JOURNAL, 0, [0; 16], Width::Narrow)?;
-    run_accounts(rt, disk, moves)
+    Ok(disk)
 }
 
 fn main(rt: HostRuntime) -> ExitCode {
@@ -101,7 +83,10 @@ fn main(rt: HostRuntime) -> ExitCode {
     };
     let (image, moves) = (words.nth(1), words.next());
     let told = match run_words(&rt, image, moves) {
-        Ok(sum) => writeln!(rt.stdout(), "the accounts hold {sum}"),
+        Ok(balances) => match total(&balances) {
+            Some(sum) => writeln!(rt.stdout(), "the accounts hold {sum}"),
+            None => writeln!(rt.stdout(), "the accounts hold more than 64 bits count"),
+        },
         Err(fault) => {
             let _told = writeln!(rt.stderr(), "{fault}");
             return ExitCode::from(1);

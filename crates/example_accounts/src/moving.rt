@@ -1,22 +1,51 @@
-//! Money is moved between accounts.
-ghost use Rattle.std.specs.Prelude.{◌≡◌, ◌<◌};
+//! The accounts are opened, and money is moved between them, by many threads.
+ghost use Rattle.std.specs.Prelude.{◌≡◌, ◌<◌, All, None, OnOk, length};
+ghost use Rattle.jb_handle.specs.Handle.{changes_of};
+ghost use Rattle.jb_journal.specs.Client.{ClientGoesOn, MayWait, client_honest, client_known, client_stops};
 ghost use Rattle.jb_journal.specs.declared.options.Commits.TheVariants.{Meanwhile};
+ghost use Rattle.jb_journal.specs.Names.{IsFirstPart, StandsIn};
+ghost use Rattle.example_accounts.specs.Accounts.{IsMove, PutsTwo, moved_by, opening_balances};
+ghost use Rattle.example_accounts.specs.Postings.{ComesAfter, IsPosted, IsPosting, StopsOrNot, last_posting};
 
-use crate::accounts::{Balances, put};
+use crate::accounts::{ACCOUNTS, are_empty, open_all, opening, put};
+use crate::cashbook::Cashbook;
+use crate::finding::found;
+use crate::moves::{Move, Wish};
+use crate::posting::Posting;
+use jb_board::{History, Place, Prefix};
 use jb_journal::{Client, Clock, Disk, Handle, JournalFault, Origin, TouchFault, Worker};
 use std::sync::ledger::Ledger;
 use std::sync::{Mutex, Wait};
 use std::time;
 
-/// Workers that move money: how many moves each of them makes, and what the accounts hold by now.
+/// Workers that move money.
 #[derive(Drop)]
-pub struct Moving {
+pub struct Moving<L: Place> {
+    /// How many moves each of them tries.
     pub moves: u64,
-    pub balances: Mutex<Balances>,
+    /// What is posted; it has no bytes.
+    pub history: History<Posting, L>,
+    /// What the accounts hold by now.
+    pub book: Mutex<Cashbook<L>>,
 }
 
-impl Worker<Result<(), JournalFault>> for Moving {
-    ghost use Rattle.jb_journal.specs.Client.{IsClient, when_committed};
+/// What a worker answers.
+#[derive(Drop)]
+pub struct Moved<L: Place> {
+    /// What it has seen of the postings, its own among them; it has no bytes.
+    pub seen: Prefix<Posting, L>,
+    /// How it ended.
+    pub ended: Result<(), JournalFault>,
+}
+
+impl<L: Place> Worker<Moved<L>> for Moving<L> {
+    ghost use Rattle.std.specs.Prelude.{◌≡◌, [], All};
+    ghost use Rattle.jb_journal.specs.Client.{IsClient, client_honest, client_stops, when_committed};
+    ghost use Rattle.jb_journal.specs.declared.options.Commits.TheVariants.{Meanwhile};
+    ghost use Rattle.example_accounts.specs.Postings.{IsPosted};
+
+    ghost answers = { λ moving begun shape sure workers at stops known moved. All (IsPosted begun sure moved.seen)
+        stops };
 
     ghost needs = { λ _ commits. commits ≡ Meanwhile };
 
@@ -25,15 +54,35 @@ impl Worker<Result<(), JournalFault>> for Moving {
         client: &mut Client<'a, D, C, R, H, N>,
         _workers: usize,
         at: usize,
-    ) -> Result<(), JournalFault>
+    ) -> Moved<L>
         requires client { IsClient H.begun client.old }
+        requires fresh { client_stops client.old ≡ [] }
         requires commits { when_committed client.old ≡ Meanwhile }
+        ensures answers { All (IsPosted H.begun (client_honest client.new) result.seen) (client_stops client.new) }
     {
-        let mut draw = at as u64;
-        let mut last = None;
+        let mut seen = self.book.lock(client.runtime()).show(&self.history);
+        let ended = self.work_on(client, &mut seen, at as u64);
+        Moved { seen, ended }
+    }
+}
+
+impl<L: Place> Moving<L> {
+    /// Opens the accounts, where they hold nothing, and moves money.
+    fn work_on<'a, D: Disk, C: Clock, R: Wait + time::Clock, H: Origin, N: Ledger>(
+        &self,
+        client: &mut Client<'a, D, C, R, H, N>,
+        seen: &mut Prefix<Posting, L>,
+        at: u64,
+    ) -> Result<(), JournalFault>
+        requires client { MayWait H.begun client.old }
+        requires posted { All (IsPosted H.begun (client_honest client.old) seen.old) (client_stops client.old) }
+        ensures { All (IsPosted H.begun (client_honest client.new) seen.new) (client_stops client.new) }
+    {
+        let mut last = self.open(client, seen)?;
+        let mut draw = at;
         for _ in 0..self.moves {
             draw = drawn(draw);
-            if let Some(ticket) = self.one_move(client, draw)? {
+            if let Some(ticket) = self.one_move(client, seen, Wish::drawn(draw))? {
                 last = Some(ticket);
             }
         }
@@ -43,50 +92,128 @@ impl Worker<Result<(), JournalFault>> for Moving {
         }
         Ok(())
     }
-}
 
-impl Moving {
-    ghost use Rattle.jb_journal.specs.Client.{MayWait};
+    /// Opens all accounts by one handle, where they hold nothing: after a crash there are all of them or none. Gives
+    /// the ticket of the handle; nothing where they are open.
+    fn open<'a, D: Disk, C: Clock, R: Wait + time::Clock, H: Origin, N: Ledger>(
+        &self,
+        client: &mut Client<'a, D, C, R, H, N>,
+        seen: &mut Prefix<Posting, L>,
+    ) -> Result<Option<u64>, JournalFault>
+        requires client { MayWait H.begun client.old }
+        requires posted { All (IsPosted H.begun (client_honest client.old) seen.old) (client_stops client.old) }
+        ensures client { MayWait H.begun client.new }
+        ensures posted { All (IsPosted H.begun (client_honest client.new) seen.new) (client_stops client.new) }
+    {
+        let mut book = self.book.lock(client.runtime());
+        let before = found(client, book.last())?;
+        if !are_empty(&before) {
+            return Ok(None);
+        }
+        let ticket = stop_opening(client)?;
+        let after = opening();
+        self.post(
+            &mut book,
+            seen,
+            Posting {
+                ticket,
+                before,
+                after,
+            },
+        );
+        Ok(Some(ticket))
+    }
 
-    /// Moves money from one account to another: both change, or none. Gives the ticket of the handle; nothing where the
-    /// first account does not hold as much.
+    /// Moves money from one account to another by one handle: both change, or none. Gives the ticket of the handle;
+    /// nothing where the wish is not granted.
     fn one_move<'a, D: Disk, C: Clock, R: Wait + time::Clock, H: Origin, N: Ledger>(
         &self,
         client: &mut Client<'a, D, C, R, H, N>,
-        draw: u64,
+        seen: &mut Prefix<Posting, L>,
+        wish: Wish,
     ) -> Result<Option<u64>, JournalFault>
-        requires { MayWait H.begun client.old }
-        ensures { MayWait H.begun client.new }
+        requires client { MayWait H.begun client.old }
+        requires wish { (wish.from < 100) × (wish.to < 100) × (0 < wish.amount) }
+        requires posted { All (IsPosted H.begun (client_honest client.old) seen.old) (client_stops client.old) }
+        ensures client { MayWait H.begun client.new }
+        ensures posted { All (IsPosted H.begun (client_honest client.new) seen.new) (client_stops client.new) }
     {
-        let (from, to) = (place(draw >> 8), place(draw >> 24));
-        let amount = (draw >> 40) % 50;
         // handles stop in the order in which the balances change
-        let mut balances = self.balances.lock(client.runtime());
-        let (less, more) = (
-            balances[from].checked_sub(amount),
-            balances[to].checked_add(amount),
-        );
-        let (Some(less), Some(more)) = (less, more) else {
+        let mut book = self.book.lock(client.runtime());
+        let before = found(client, book.last())?;
+        let Some(granted) = wish.granted(&before) else {
             return Ok(None);
         };
-        if from == to {
-            return Ok(None);
-        }
-        let (_, ticket) = client.change(2, |handle: &mut Handle<()>| -> Result<(), TouchFault> {
-            put(handle, from, less)?;
-            put(handle, to, more)
-        })?;
-        balances[from] = less;
-        balances[to] = more;
+        let ticket = stop_move(client, granted)?;
+        let after = granted.after(&before);
+        self.post(
+            &mut book,
+            seen,
+            Posting {
+                ticket,
+                before,
+                after,
+            },
+        );
         Ok(Some(ticket))
+    }
+
+    /// Posts what a handle has made of the accounts, and sees all postings.
+    fn post(&self, book: &mut Cashbook<L>, seen: &mut Prefix<Posting, L>, posting: Posting)
+        requires posting { IsPosting posting }
+        requires comes { ComesAfter (last_posting None book.old) posting }
+        ensures begins { IsFirstPart seen.old seen.new }
+        ensures stands { (number : _) × StandsIn seen.new (number, posting) }
+    {
+        let mut shown = book.post(&self.history, posting);
+        self.history.learn(seen, &mut shown);
     }
 }
 
-/// An account, of any number.
-fn place(draw: u64) -> usize
-    ensures { result < 100 }
+/// Stops a handle that opens all accounts.
+fn stop_opening<'a, D: Disk, C: Clock, R: Wait + time::Clock, H: Origin, N: Ledger>(
+    client: &mut Client<'a, D, C, R, H, N>,
+) -> Result<u64, JournalFault>
+    requires { MayWait H.begun client.old }
+    ensures client { MayWait H.begun client.new }
+    ensures goes_on { ClientGoesOn client.old client.new }
+    ensures stops { (before : _) → StopsOrNot (client_known client.old) before opening_balances
+        (client_stops client.old) (client_stops client.new) result }
 {
-    (draw % 100) as usize
+    let (_, ticket) = client.change(ACCOUNTS as u32, open_all)?;
+    Ok(ticket)
+}
+
+/// Stops a handle that moves money.
+fn stop_move<'a, D: Disk, C: Clock, R: Wait + time::Clock, H: Origin, N: Ledger>(
+    client: &mut Client<'a, D, C, R, H, N>,
+    granted: Move,
+) -> Result<u64, JournalFault>
+    requires { MayWait H.begun client.old }
+    ensures client { MayWait H.begun client.new }
+    ensures goes_on { ClientGoesOn client.old client.new }
+    ensures stops { (before : _) → IsMove before granted → length before ≡ 100
+        → StopsOrNot (client_known client.old) before (moved_by granted before)
+        (client_stops client.old) (client_stops client.new) result }
+{
+    let Move {
+        from,
+        to,
+        less,
+        more,
+    } = granted;
+    let (_, ticket) = client.change(
+        2,
+        |handle: &mut Handle<()>| -> Result<(), TouchFault>
+            ensures { OnOk result (PutsTwo from less to more (changes_of handle.old).words
+                (changes_of handle.new).words) }
+        {
+            put(handle, from, less)?;
+            put(handle, to, more)?;
+            Ok(())
+        },
+    )?;
+    Ok(ticket)
 }
 
 /// The number after one in a sequence that looks like chance (Knuth's MMIX).

@@ -1,58 +1,102 @@
 -- What the store keeps, from what is said of its run.
-use Rattle.std.proofs.Common.{◌≡◌, ℕ, ◌+◌, List, [], ◌∷◌, ◌++◌, length, Result, Ok, Err, slice_get, get_or, inl, inr, refl, sym, ap, subst, ◌∙◌, arith, append-nil}
-use Rattle.std.proofs.lemmas.List.Elements.{All-push}
-use Rattle.jb_journal.specs.Client.{one_block}
-use Rattle.jb_journal.specs.Names.{Begun, Ghosts}
-use Rattle.jb_journal.specs.Notes.{Note, AreInNotes, IsInNotes, Known, KnowsMore, ReadsAs, Stop}
+use Rattle.std.proofs.Common.{◌≡◌, ◌≢◌, ◌⊎◌, inl, inr, ⊎_elim, ℕ, suc, ◌+◌, ◌%◌, ◌<◌, ◌≤◌, All, List, [], ◌∷◌, length, slice_get, get_or, take, drop, refl, sym, ap, subst, ◌∙◌, arith, append-nil, length-append, sum_by, eq-eqb, zero-add}
+use Rattle.std.proofs.Math.ListN.{length-map}
+use Rattle.std.proofs.lemmas.List.{get_or-take, length-take-le, take-append-drop, take-take}
+use Rattle.std.proofs.lemmas.List.Elements.{All-take}
+use Rattle.std.proofs.lemmas.List.Sums.{sum_by-cons}
+use Rattle.jb_disk.specs.Image.{Image, block}
+use Rattle.jb_format.specs.Ready.{revoking}
+use Rattle.jb_super.specs.Superblock.{Superblock}
+use Rattle.jb_recover.specs.Outcomes.{recovered}
+use Rattle.jb_recover.proofs.RecoveredImage.{own-clean}
+use Rattle.jb_handle.proofs.Tickets.{tickets-first}
+use Rattle.jb_deck.specs.Calls.{IsRecoveredTo}
+use Rattle.jb_deck.specs.Open.{FollowsEntry, home_by, recovered_home}
+use Rattle.jb_deck.proofs.Lives.{opening-recovered}
+use Rattle.jb_book.proofs.ShownTickets.{same-out}
+use Rattle.jb_book.specs.Since.{HasFirst, Since}
+use Rattle.jb_journal.specs.Client.{AreHonest, one_block}
+use Rattle.jb_journal.specs.Names.{AreAllStops, Begun, Ghosts, IsFirstPart, IsInHistory, StandsIn, Stopped, TicketsFrom, WordMap, joined, with_places}
+use Rattle.jb_journal.specs.Notes.{IsInNotes, Known, KnownLasts, Stop}
 use Rattle.jb_journal.specs.Run.{RanOn}
 use Rattle.jb_journal.specs.Start.{started_on}
 use Rattle.jb_journal.specs.declared.ran.Ran.{Ran}
-use Rattle.jb_journal.proofs.ClientNotes.{noted-on}
-use Rattle.jb_journal.proofs.KnownStays.{all-stay}
-use Rattle.example_store.specs.AcknowledgedPuts.{Acknowledges, AreInNotesButOne, IsLast, IsPut, Keeps, MayHaveStopped}
-use Rattle.example_store.specs.declared.failed.Failed.{Failed}
+use Rattle.jb_journal.proofs.ClientNotes.{noted-stays}
+use Rattle.jb_journal.proofs.KnownStays.{lasts-at}
+use Rattle.example_store.specs.Commands.{HasKey, after_commands, changes_among}
+use Rattle.example_store.specs.Handles.{AreAll, IsAlone, LeavesMap, RiseFrom, as_stopped}
+use Rattle.example_store.specs.Keeps.{Keeps, SaysFirst, begun_changes, replied_changes}
+use Rattle.example_store.specs.Maps.{Mapping, map_of, map_on}
+use Rattle.example_store.specs.Serves.{Serves}
+use Rattle.example_store.specs.Tables.{value_at}
+use Rattle.example_store.specs.declared.command.Command.{Command}
+use Rattle.example_store.specs.declared.served.Served.{Served}
+use Rattle.example_store.proofs.CommandLemmas.{take-changes}
+use Rattle.example_store.proofs.HandleLemmas.{few-given, in-history, rise-room, rise-tickets, stopped_as, ticket-is, within-log}
 
--- what is known stays known
-pub are_noted_on : (before after : Known) → KnowsMore before after → (stops : List Stop) → AreInNotes before.notes stops → AreInNotes after.notes stops
-are_noted_on before after more stops each k d lt = let one = each k d lt in (one.0, noted-on before.notes after.notes (get_or stops k d).0 one.0 more.1 one.1)
+-- ---- the history of a run is its one client's
 
--- of handles that are all known to be committed, all but one at most are
-pub but_none : (known : Known) (stops : List Stop) → AreInNotes known.notes stops → AreInNotesButOne known.notes stops
-but_none known stops each = record { acknowledged = stops; last = []; are = sym (append-nil stops); one = omega arith; noted = each }
+ones : (n : ℕ) (log : List WordMap) → sum_by (λ (s : Stop). 1) (with_places n log) ≡ length log
+ones n [] = refl
+ones n (w ∷ log) = omega (arith, sum_by-cons (λ (s : Stop). 1) (n, w) (with_places (suc n) log), ones (suc n) log)
 
--- after a fault
-pub but_one : (before after : Known) (old new : List Stop) → KnowsMore before after → AreInNotes before.notes old → MayHaveStopped old new → AreInNotesButOne after.notes new
-but_one before after old new more each (inl same) = record { acknowledged = old; last = []; are = same ∙ sym (append-nil old); one = omega arith; noted = are_noted_on before after more old each }
-but_one before after old new more each (inr stopped) = record { acknowledged = old; last = stopped.0 ∷ []; are = stopped.1; one = omega arith; noted = are_noted_on before after more old each }
+count : (stops : List Stop) → sum_by (λ (s : Stop). 1) stops ≡ length stops
+count [] = refl
+count (s ∷ stops) = omega (arith, sum_by-cons (λ (s : Stop). 1) s stops, count stops)
 
--- after a block was put
-pub put_noted : (home : ℕ) (bytes : List ℕ) (before after : Known) (old new : List Stop) → KnowsMore before after → AreInNotes before.notes old → IsPut home bytes old new after.notes → AreInNotes after.notes new
-put_noted home bytes before after old new more each put =
-    subst (AreInNotes after.notes) (sym put.stopped)
-    (All-push (λ s. (number : ℕ) × IsInNotes after.notes s.0 number) old (put.ticket, one_block home bytes) (are_noted_on before after more old each) (put.number, put.noted))
+module _ (log : List WordMap) (known : Known) (stops : List Stop) (begins : IsFirstPart known.log log) (stand : All (StandsIn known.log) stops) (rise : RiseFrom 0 stops) (are : AreAllStops log stops) where
+  as-many : length log ≡ length stops
+  as-many = sym (ones 0 log) ∙ sym (are.once (λ (s : Stop). 1)) ∙ count stops
 
--- after nothing was stopped
-pub same_noted : (before after : Known) (old new : List Stop) → KnowsMore before after → AreInNotes before.notes old → new ≡ old → AreInNotes after.notes new
-same_noted before after old new more each same = subst (AreInNotes after.notes) (sym same) (are_noted_on before after more old each)
+  -- its client knows all of it, and has stopped all
+  pub all-known : AreAll known stops
+  all-known =
+      let long : length known.log + length begins.0 ≡ length log = sym (length-append known.log begins.0) ∙ ap length begins.1 in
+      let inside = within-log known.log stops stand in
+      let room = rise-room 0 (length known.log) stops rise inside (omega arith) in
+      let number = as-many in
+      record {
+        tickets = rise-tickets 0 (length known.log) stops rise inside (omega (arith, long, number));
+        number = omega (arith, long, number, room);
+      }
 
--- a block was put, after nothing was stopped
-pub put_after : (home : ℕ) (bytes : List ℕ) (old mid new : List Stop) (notes : List Note) → mid ≡ old → IsPut home bytes mid new notes → IsPut home bytes old new notes
-put_after home bytes old mid new notes same put = subst (λ l. IsPut home bytes l new notes) same put
+-- ---- what an image says that was recovered to the first handles
 
--- a read says no less where more is sure
-pub read_sure : (b : Begun) (sure more : Type 0) (before after : Known) (home : ℕ) (found : List ℕ) → (more → sure) → ReadsAs b sure before after home found → ReadsAs b more before after home found
-read_sure b sure more before after home found so read = record {
-  given = read.given;
-  tickets = read.tickets;
-  are = read.are;
-  sees = read.sees;
-  stands = λ known held. read.stands known (so held);
-}
+module _ (own : Superblock) (next size count : ℕ) (first : ℕ → List ℕ) (handles : List Stopped) (c : Image) (is : IsRecoveredTo own next size count first handles c) (m : Mapping) (leaves : LeavesMap first m handles) where
+  pub recovered-says : (key : ℕ) → key ≢ 0 → map_on size count c key ≡ m key
+  recovered-says key some =
+      ap (λ r. value_at (home_by r (recovered size count c) (key % 32)) key) is.taken
+      ∙ leaves key some (block (recovered size count c) (is.sb.maxlen + key % 32)) (is.each (key % 32))
 
--- whatever is answered then
-pub ack : (known : Known) (stops : List Stop) (r : Result (Unit {0}) Failed) → AreInNotes known.notes stops → Acknowledges stops known.notes r
-ack known stops (Ok unit) each = each
-ack known stops (Err failed) each = but_none known stops each
+  -- once more
+  pub again-says : (key : ℕ) → key ≢ 0 → map_on size count (recovered size count c) key ≡ m key
+  again-says key some =
+      let r : Image = recovered size count c in
+      let still : recovered size count r ≡ r = own-clean size count is.after.sb r is.after.taken (eq-eqb is.after.sb.start 0 is.after.clean) in
+      let maxlen : is.after.sb.maxlen ≡ is.sb.maxlen = ap (λ (x : Superblock). x.maxlen) is.after.same ∙ sym (ap (λ (x : Superblock). x.maxlen) is.same) in
+      ap (λ f. value_at (home_by f (recovered size count r) (key % 32)) key) is.after.taken
+      ∙ ap (λ (x : Image × ℕ). value_at (block x.0 (x.1 + key % 32)) key) (λ i. (still i, maxlen i))
+      ∙ leaves key some (block r (is.sb.maxlen + key % 32)) (is.each (key % 32))
+
+-- homes say what they hold, where no handle came
+pub start-leaves : (homes : ℕ → List ℕ) → LeavesMap homes (map_of homes) []
+start-leaves homes key some found stands = ap (λ text. value_at text key) stands
+
+-- what a crash leaves while the journal is opened
+pub opening-says : (size count : ℕ) (base c : Image) (changes : List Command) → FollowsEntry size count base c → SaysFirst size count (map_on size count base) changes 0 c
+opening-says size count base c changes entry = ⊎_elim
+    (λ is. of entry.sb (entry.sb.sequence + 1) is)
+    (λ is. of (revoking entry.sb) (entry.sb.sequence + 1) is)
+    (opening-recovered size count base c entry)
+  where
+    of : (own : Superblock) (next : ℕ) → IsRecoveredTo own next size count (recovered_home size count base) [] c → SaysFirst size count (map_on size count base) changes 0 c
+    of own next is = record {
+      many = 0;
+      from = omega arith;
+      to = omega arith;
+      says = recovered-says own next size count (recovered_home size count base) [] c is (map_on size count base) (start-leaves (recovered_home size count base));
+      again = again-says own next size count (recovered_home size count base) [] c is (map_on size count base) (start-leaves (recovered_home size count base));
+    }
 
 -- ---- a run of one worker
 
@@ -61,46 +105,125 @@ only-one [] is = absurd (omega (arith, is))
 only-one (x ∷ []) is = (x, refl)
 only-one (x ∷ y ∷ xs) is = absurd (omega (arith, is))
 
-module _ {D : Type 0} (G : Ghosts D) (disk : D) (ran : Ran (Result (Unit {0}) Failed) D) where
-  abbrev On-of : Type 0
-  On-of = RanOn G disk (started_on G disk) (λ shape sure workers at stops known answer. Acknowledges stops known.notes answer) 1 ran
+module _ {D : Type 0} (G : Ghosts D) (disk : D) (commands : List Command) (ran : Ran Served D) where
+  abbrev b : Begun
+  b = started_on G disk
 
-  abbrev Kept : Type 0
-  Kept = Keeps G disk ran
+  abbrev May : Type 0 → ℕ → ℕ → List Stop → Known → Served → Type 0
+  May sure workers at stops known served = Serves commands b sure stops known served.replies.items served.ended
 
-  kept-as : (on : On-of) (answer : Result (Unit {0}) Failed) → ran.answers.items ≡ answer ∷ [] → (stops : List Stop) → on.all.stopped ≡ stops ∷ [] → (knew : Known) → on.all.known ≡ knew ∷ []
-      → (first last : List Stop) → stops ≡ first ++ last → IsLast answer last → AreInNotes knew.notes first → Kept
-  kept-as on answer answered stops stopped knew known first last are few noted = record {
-    on = on;
-    answer = answer;
-    answered = answered;
-    stops = stops;
-    stopped = stopped;
-    knew = knew;
-    known = known;
-    acknowledged = first;
-    last = last;
-    are = are;
-    few = few;
-    stay = all-stay G _ _ 1 on.shape ran on.all 0 0 stops knew (ap (λ l. slice_get l 0) stopped) (ap (λ l. slice_get l 0) known) first last are noted;
-  }
+  abbrev On-of : ℕ → Type 0
+  On-of workers = RanOn G disk b (λ shape. May) workers ran
 
-  kept-by : (on : On-of) (answer : Result (Unit {0}) Failed) → ran.answers.items ≡ answer ∷ [] → (stops : List Stop) → on.all.stopped ≡ stops ∷ [] → (knew : Known) → on.all.known ≡ knew ∷ []
-      → Acknowledges stops knew.notes answer → Kept
-  kept-by on (Ok unit) answered stops stopped knew known each = kept-as on (Ok unit) answered stops stopped knew known stops [] (sym (append-nil stops)) refl each
-  kept-by on (Err failed) answered stops stopped knew known each = kept-as on (Err failed) answered stops stopped knew known each.acknowledged each.last each.are each.one each.noted
+  module _ (on : On-of 1) where
+    abbrev Lasting : Known → Type 0
+    Lasting known = KnownLasts G b on.all.ends.log on.all.ends.since.given on.all.ends.since.bounds ran.disk ran.trail.items known
 
-  pub keeps : On-of → Kept
-  keeps on =
-      let all = on.all in
-      let answer = only-one ran.answers.items all.answers.number in
-      let stops = only-one all.stopped all.answers.same in
-      let knew = only-one all.known all.answers.knew in
-      let each : Acknowledges (get_or all.stopped 0 stops.0) (get_or all.known 0 knew.0).notes (get_or ran.answers.items 0 answer.0) = all.answers.each 0 stops.0 knew.0 [] answer.0 (omega arith) in
-      kept-by on answer.0 answer.1 stops.0 stops.1 knew.0 knew.1
-      (subst (λ (x : (List (List Stop) × List Known) × List (Result (Unit {0}) Failed)). Acknowledges (get_or x.0.0 0 stops.0) (get_or x.0.1 0 knew.0).notes (get_or x.1 0 answer.0)) (λ i. ((stops.1 i, knew.1 i), answer.1 i)) each)
+    module _ (sure : Type 0) (held : G.honest ran.disk → sure) (stops : List Stop) (known : Known) (lasting : Lasting known) (are : AreAllStops on.all.ends.log stops) (served : Served)
+        (s : Serves commands b sure stops known served.replies.items served.ended) where
+      whole : AreAll known stops
+      whole = all-known on.all.ends.log known stops lasting.begins s.stand s.rise are
+
+      alone : G.honest ran.disk → IsAlone b sure known stops
+      alone honest = (whole, tt, held honest)
+
+      -- the handles that the journal was given are the client's first
+      given-are : on.all.ends.since.given ≡ take (length on.all.ends.since.given) (as_stopped stops)
+      given-are =
+          let has = on.all.ends.since.has in
+          let given = on.all.ends.since.given in
+          let log = on.all.ends.log in
+          let stood : All (StandsIn log) stops = are.stand in
+          let in_log : All (IsInHistory log) given = λ k d lt. (has.stopped k d lt).1 in
+          let few = few-given log given has.tickets in_log in
+          let number = as-many log known stops lasting.begins s.stand s.rise are in
+          let long = length-map stops stopped_as in
+          let first : TicketsFrom 0 (take (length given) (as_stopped stops)) =
+          tickets-first 0 (take (length given) (as_stopped stops)) (drop (length given) (as_stopped stops)) (subst (TicketsFrom 0) (sym (take-append-drop (length given) (as_stopped stops))) whole.tickets) in
+          same-out log 0 given (take (length given) (as_stopped stops)) has.tickets first in_log (All-take (IsInHistory log) (length given) (as_stopped stops) (in-history log stops stood))
+          (sym (length-take-le (length given) (as_stopped stops) (omega (arith, few, number, long))))
+
+      given-few : length on.all.ends.since.given ≤ length stops
+      given-few =
+          let has = on.all.ends.since.has in
+          let few = few-given on.all.ends.log on.all.ends.since.given has.tickets (λ k d lt. (has.stopped k d lt).1) in
+          let number = as-many on.all.ends.log known stops lasting.begins s.stand s.rise are in
+          omega (arith, few, number)
+
+      -- what a crash leaves that has the first groups
+      says-first : G.honest ran.disk → All HasKey commands → (least : ℕ) (c : Image) → HasFirst b on.all.ends.since.given on.all.ends.since.bounds least c
+          → SaysFirst (G.size disk) (G.count disk) (map_on (G.size disk) (G.count disk) (G.newest disk)) (begun_changes commands served) least c
+      says-first honest keys least c has =
+          let given = on.all.ends.since.given in
+          let few = s.few in
+          let to = has.to in
+          let low = given-few in
+          let many : has.many ≤ length stops = omega (arith, to, low) in
+          let first : take has.many given ≡ take has.many (as_stopped stops) = ap (take has.many) given-are ∙ take-take has.many (length given) (as_stopped stops) to in
+          let made : take has.many (changes_among commands) ≡ take has.many (begun_changes commands served) = take-changes commands (length served.replies.items + 1) has.many (omega (arith, many, few)) in
+          let m : Mapping = after_commands (map_of b.homes) (take has.many (begun_changes commands served)) in
+          let leaves : LeavesMap b.homes m (take has.many given) =
+          subst (λ (x : List Command × List Stopped). LeavesMap b.homes (after_commands (map_of b.homes) x.0) x.1) (λ i. (made i, sym first i)) (s.leaves (alone honest) keys has.many many) in
+          record {
+            many = has.many;
+            from = has.from;
+            to = omega (arith, many, few);
+            says = recovered-says b.own (b.own.sequence + 1 + has.groups) b.size b.count b.homes (take has.many given) c has.recovered m leaves;
+            again = again-says b.own (b.own.sequence + 1 + has.groups) b.size b.count b.homes (take has.many given) c has.recovered m leaves;
+          }
+
+      ever-first : G.honest ran.disk → All HasKey commands → (c : Image) → G.left_since ran.disk (G.moment disk) c
+          → G.left_since disk (G.moment disk) c ⊎ SaysFirst (G.size disk) (G.count disk) (map_on (G.size disk) (G.count disk) (G.newest disk)) (begun_changes commands served) 0 c
+      ever-first honest keys c left =
+          let ends = on.all.ends in
+          let since : Since G b ends.since.given ends.since.bounds ends.deck = ends.since.since tt (subst G.honest (sym ends.same_disk) honest) in
+          ⊎_elim
+          (λ before. ⊎_elim inl (λ entry. inr (opening-says (G.size disk) (G.count disk) (G.newest disk) c (begun_changes commands served) entry)) before)
+          (λ has. inr (says-first honest keys 0 c has))
+          (since.ever c (subst (λ d. G.left_since d (G.moment disk) c) (sym ends.same_disk) left))
+
+      noted-as : (change : ℕ) → change < length (replied_changes commands served) → (number : ℕ) × IsInNotes known.notes change number
+      noted-as change lt =
+          let each = s.each in
+          let n = length (replied_changes commands served) in
+          let stop : Stop = (0, one_block 0 []) in
+          let one = s.noted change stop (let long = length-take-le n stops each in omega (arith, lt, long)) in
+          let at : (get_or (take n stops) change stop).0 ≡ change = ap (λ (t : Stop). t.0) (get_or-take n stops change stop lt) ∙ (ticket-is 0 stops whole.tickets change stop (omega (arith, lt, each)) ∙ zero-add change) in
+          (one.0, subst (λ ticket. IsInNotes known.notes ticket one.0) at one.1)
+
+      pub kept : ran.answers.items ≡ served ∷ [] → on.all.known ≡ known ∷ [] → Keeps G disk commands ran
+      kept answered knew = record {
+        on = on;
+        served = served;
+        answered = answered;
+        within = s.within;
+        whole = s.whole;
+        told = λ honest keys. s.told (alone honest) keys;
+        knew = known;
+        known = knew;
+        noted = noted-as;
+        stays = λ honest keys change number lt n c left. says-first honest keys (suc change) c
+            ((noted-stays G b on.all.ends.since.given on.all.ends.since.bounds ran.disk ran.trail.items known.notes change number n lasting.last tt honest).leaves c left);
+        ever = ever-first;
+      }
+
+    pub keeps : Keeps G disk commands ran
+    keeps =
+        let all = on.all in
+        let served = only-one ran.answers.items all.answers.number in
+        let stops = only-one all.stopped all.answers.same in
+        let knew = only-one all.known all.answers.knew in
+        let sure = AreHonest G (get_or all.seen 0 []) in
+        let s : Serves commands b sure (get_or all.stopped 0 stops.0) (get_or all.known 0 knew.0) (get_or ran.answers.items 0 served.0).replies.items (get_or ran.answers.items 0 served.0).ended
+        = all.answers.each 0 stops.0 knew.0 [] served.0 (omega arith) in
+        let joined_as : joined all.stopped ≡ stops.0 = ap joined stops.1 ∙ append-nil stops.0 in
+        kept sure (λ honest. all.honest honest 0 [] (let saw = all.answers.saw in omega (arith, saw))) stops.0 knew.0
+        (lasts-at G b May 1 on.shape ran all 0 knew.0 (ap (λ l. slice_get l 0) knew.1))
+        (subst (AreAllStops all.ends.log) joined_as all.ends.stopped) served.0
+        (subst (λ (x : (List (List Stop) × List Known) × List Served). Serves commands b sure (get_or x.0.0 0 stops.0) (get_or x.0.1 0 knew.0) (get_or x.1 0 served.0).replies.items (get_or x.1 0 served.0).ended)
+        (λ i. ((stops.1 i, knew.1 i), served.1 i)) s)
+        served.1 knew.1
 
   -- the same of a run with as many workers
-  pub keeps-by : (workers : ℕ) → workers ≡ 1 → RanOn G disk (started_on G disk) (λ shape sure workers at stops known answer. Acknowledges stops known.notes answer) workers ran → Kept
-  keeps-by workers one on =
-      keeps (subst (λ n. RanOn G disk (started_on G disk) (λ shape sure workers at stops known answer. Acknowledges stops known.notes answer) n ran) one on)
+  pub keeps-by : (workers : ℕ) → workers ≡ 1 → On-of workers → Keeps G disk commands ran
+  keeps-by workers one on = keeps (subst On-of one on)

@@ -8,17 +8,22 @@
 //! `IMAGE` is made where there is no such file. Without it the disk is in memory.
 #![tactic(auto)]
 
-ghost use Rattle.std.specs.Prelude.{IfOk};
-ghost use Rattle.example_store.specs.AcknowledgedPuts.{Keeps, KeepsInImage};
+ghost use Rattle.std.specs.Prelude.{◌≡◌, All, IfOk, IfSome, OnOk};
+ghost use Rattle.jb_journal.specs.Run.{AllSettled};
+ghost use Rattle.example_store.specs.Commands.{HasKey};
+ghost use Rattle.example_store.specs.Keeps.{IsServedIn, EndedWell, Keeps, KeepsInImage};
 
 mod command;
 mod failed;
+mod laws;
+mod served;
 mod serving;
 mod store;
 mod table;
 
 use crate::command::{Command, parse};
 use crate::failed::Failed;
+use crate::served::Served;
 use crate::serving::Serving;
 use jb_journal::{
     BlockSize, Disk, FileDisk, ImageGeometry, JournalFault, MemoryDisk, Options, Ran, Start,
@@ -40,49 +45,66 @@ const SIZE: BlockSize = BlockSize::OneKib;
 /// How many blocks the journal has.
 const JOURNAL: u32 = 256;
 
-/// Runs the worker on the journal of a disk. What it has acknowledged stays, whenever a crash comes, where the disk
-/// that is given back is honest.
+/// Runs the worker on the journal of a disk.
 fn serve_disk<D: Disk + Drop + Send, R: AllocGlobal + Threads + Wait + Clock + Sync>(
     rt: &R,
     disk: D,
     serving: &Serving,
-) -> Result<Ran<Result<(), Failed>, D>, JournalFault>
-    ensures { IfOk result (Keeps D.Disk disk) }
+) -> Result<Ran<Served, D>, JournalFault>
+    /// The store replies to its commands by the map that the homes of its disk say, 0 being no key, and what it has
+    /// replied to stays, whenever a crash comes, if the disk that is given back is honest.
+    ensures { IfOk result (Keeps D.Disk disk serving.now.commands.items) }
 {
     Ok(run(rt, disk, SystemClock::new(rt), Options::new(1), serving)?)
 }
 
-/// The same on the journal of the image of this name, which is made where there is none: in the very file that was
-/// opened or made.
+/// The same on the journal of the image of this name, which is made where there is none.
 fn serve<S: Start + Send, R: Files<File = File> + AllocGlobal + Threads + Wait + Clock + Sync>(
     rt: &R,
     image: &str,
     geometry: ImageGeometry,
     serving: &Serving,
-) -> Result<Ran<Result<(), Failed>, FileDisk<S>>, JournalFault>
-    ensures { IfOk result (KeepsInImage geometry) }
+) -> Result<Ran<Served, FileDisk<S>>, JournalFault>
+    /// Of an image that holds of the very file that was opened with its journal recovered, or made.
+    ensures { IfOk result (KeepsInImage geometry serving.now.commands.items) }
 {
     Ok(run_image(rt, image, geometry, Options::new(1), serving)?)
 }
 
 /// What the worker answered, once all that it changed is committed.
-fn answered<D: Drop>(ran: Ran<Result<(), Failed>, D>) -> Result<(), Failed> {
-    let (_disk, answers) = ran.durable().map_err(JournalFault::from)?;
-    for answer in answers {
-        answer?;
+fn durable_answers<D: Drop>(ran: Ran<Served, D>) -> Result<Vec<Served>, JournalFault>
+    ensures { IfOk result (λ answers. AllSettled ran × (answers ≡ ran.answers)) }
+{
+    let (_disk, answers) = ran.durable()?;
+    Ok(answers)
+}
+
+/// How the worker ended.
+fn answered<D: Drop>(ran: Ran<Served, D>) -> Result<(), Failed>
+    ensures { OnOk result (EndedWell ran) }
+{
+    let mut answers = durable_answers(ran)?;
+    match answers.pop() {
+        Some(Served { ended, .. }) => ended,
+        None => Ok(()),
     }
-    Ok(())
 }
 
 /// Obeys the commands in the image of this name, which is made where there is none, or in memory.
-fn serve_on<R: Files<File = File> + AllocGlobal + Threads + Wait + Clock + Sync>(
+///
+/// # Errors
+/// Those of the journal and of its worker. What was replied to before stays.
+fn serve_on<S: Start + Send, R: Files<File = File> + AllocGlobal + Threads + Wait + Clock + Sync>(
     rt: &R,
     image: Option<String>,
     serving: &Serving,
-) -> Result<(), Failed> {
+) -> Result<(), Failed>
+    /// Where the store is done with an image it has replied to all commands, and all that they changed is committed.
+    ensures { OnOk result (IfSome image (λ name. IsServedIn S.Start serving.now.commands.items)) }
+{
     let geometry = ImageGeometry::new(SIZE, JOURNAL, store::HOMES);
     match image {
-        Some(image) => answered(serve::<Unknown, R>(rt, &image, geometry, serving)?),
+        Some(image) => answered(serve::<S, R>(rt, &image, geometry, serving)?),
         None => answered(serve_disk(rt, in_memory(rt.alloc())?, serving)?),
     }
 }
@@ -95,7 +117,9 @@ fn in_memory(alloc: Global) -> Result<MemoryDisk, JournalFault> {
 }
 
 /// The commands of standard input.
-fn commands(rt: &HostRuntime) -> Result<Vec<Command>, Failed> {
+fn commands(rt: &HostRuntime) -> Result<Vec<Command>, Failed>
+    ensures { IfOk result (λ commands. All HasKey commands.items) }
+{
     let mut commands = Vec::new(rt.alloc());
     for line in rt.stdin().lines(rt.alloc()) {
         commands.push(parse(&line?)?)?;
@@ -103,6 +127,9 @@ fn commands(rt: &HostRuntime) -> Result<Vec<Command>, Failed> {
     Ok(commands)
 }
 
+/// Reads the commands, and obeys them. What [`serve_on`] promises holds for whatever the file holds (its `S`); nothing
+/// is known of that here, so `Unknown` is named. That the commands have keys, for which [`serve`] promises its replies,
+/// is the clause of [`commands`].
 fn main(rt: HostRuntime) -> ExitCode {
     let Ok(mut words) = env::args(&rt) else {
         return ExitCode::from(1);
@@ -115,7 +142,7 @@ fn main(rt: HostRuntime) -> ExitCode {
                 out: Mutex::new(out),
                 alloc: rt.alloc(),
             };
-            serve_on(&rt, words.nth(1), &serving)
+            serve_on::<Unknown, HostRuntime>(&rt, words.nth(1), &serving)
         }
         Err(failed) => Err(failed),
     };

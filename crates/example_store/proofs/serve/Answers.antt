@@ -8,6 +8,6 @@ returns g c =
     record {
       opened = done.opened;
       ready = done.ready;
-      keeps = keeps-by as_file done.opened c.in_ok-run_image.field-0 c.new.result.workers c.new.ensures.threads.0
+      keeps = keeps-by as_file done.opened c.args.serving.now.commands.items c.in_ok-run_image.field-0 c.new.result.workers c.new.ensures.threads.0
           done.ran;
     }

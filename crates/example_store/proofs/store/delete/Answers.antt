@@ -1,31 +1,29 @@
-use Rattle.std.proofs.Common.{rules, ap, subst, ◌∙◌}
-use Rattle.jb_journal.specs.Client.{client_known, client_stops}
-use Rattle.example_store.specs.AcknowledgedPuts.{MayHaveStopped}
-use Rattle.example_store.proofs.StoreKeeps.{put_after, read_sure}
-use Rattle.example_store.specs.Tables.{value_in}
+use Rattle.std.proofs.Common.{rules, ◌≡◌, ◌⊎◌, inl, inr, ⊎_elim, None, ◌∙◌}
+use Rattle.jb_journal.specs.Client.{client_honest, client_known, client_stops}
+use Rattle.example_store.specs.Handles.{ChangesKey}
+use Rattle.example_store.proofs.StoreCalls.{changed-key, goes-then}
 use Rattle.example_store.proofs.store.delete.Goals as goal
+
+pub returns-in_err-write-clause-goes_on : goal.returns-in_err-write-clause-goes_on
+returns-in_err-write-clause-goes_on g c = goes-then _ _ _ c.table_of.ensures.goes_on c.write.ensures.goes_on
 
 pub returns-in_err-write-clause-puts : goal.returns-in_err-write-clause-puts
 returns-in_err-write-clause-puts g c =
-    let more : MayHaveStopped (client_stops c.args.client.now) (client_stops c.write.new.client) = subst (λ l. MayHaveStopped l (client_stops c.write.new.client)) c.table_of.ensures.kept c.in_err-write.ensures.puts in
+    let more : (client_stops c.write.new.client ≡ client_stops c.args.client.now)
+    ⊎ ChangesKey g.H.Origin.begun (client_honest c.write.new.client) c.args.key None (client_known c.args.client.now) (client_known c.write.new.client) (client_stops c.args.client.now) (client_stops c.write.new.client) =
+    ⊎_elim (λ same. inl (same ∙ c.table_of.ensures.kept))
+    (λ put. inr (changed-key _ _ _ c.args.key None _ _ _ _ _ _ _ _ c.block.result c.in_ok-table.ensures.reads c.table_of.ensures.goes_on.knows c.write.ensures.goes_on.knows c.write.ensures.goes_on.honest c.table_of.ensures.kept
+    c.delete.ensures c.block.ensures put))
+    c.in_err-write.ensures.puts in
     search (rules, more)
 
-pub returns-clause-value : goal.returns-clause-value
-returns-clause-value g c = record {
-  bytes = c.block.result;
-  put = put_after _ c.block.result _ _ _ _ c.table_of.ensures.kept c.in_ok-write.ensures.puts;
-  said = λ some. ap (λ slots. value_in slots c.args.key) c.block.ensures ∙ c.delete.ensures.own some;
-}
+pub returns-clause-goes_on : goal.returns-clause-goes_on
+returns-clause-goes_on g c = goes-then _ _ _ c.table_of.ensures.goes_on c.write.ensures.goes_on
 
-pub returns-clause-others : goal.returns-clause-others
-returns-clause-others g c =
-    let was = c.in_ok-table.ensures.reads in
-    record {
-      seen = client_known c.table_of.new.client;
-      grows = c.write.ensures.begins;
-      was = was.bytes;
-      read = read_sure _ _ _ _ _ _ _ c.in_ok-write.ensures.honest was.read;
-      bytes = c.block.result;
-      put = put_after _ c.block.result _ _ _ _ c.table_of.ensures.kept c.in_ok-write.ensures.puts;
-      stay = λ other some differ. ap (λ slots. value_in slots other) c.block.ensures ∙ c.delete.ensures.others other some differ ∙ ap (λ slots. value_in slots other) was.said;
-    }
+pub returns-clause-puts : goal.returns-clause-puts
+returns-clause-puts g c =
+    let put = c.in_ok-write.ensures.puts in (
+      changed-key _ _ _ c.args.key None _ _ _ _ _ _ _ _ c.block.result c.in_ok-table.ensures.reads c.table_of.ensures.goes_on.knows c.write.ensures.goes_on.knows c.write.ensures.goes_on.honest c.table_of.ensures.kept
+          c.delete.ensures c.block.ensures put.0,
+      put.1,
+    )

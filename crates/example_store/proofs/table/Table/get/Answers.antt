@@ -1,4 +1,4 @@
-use Rattle.std.proofs.Common.{rules, sym, ap, ◌∙◌, option_map}
+use Rattle.std.proofs.Common.{sym, ap, ◌∙◌, option_map}
 use Rattle.std.proofs.lemmas.List.Quantifiers.{position-Some}
 use Rattle.example_store.proofs.TableLemmas.{at-first, found, free, is, missed, nowhere}
 use Rattle.example_store.proofs.table.Table.get.Goals as goal

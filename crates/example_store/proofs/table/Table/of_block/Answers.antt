@@ -1,5 +1,4 @@
 use Rattle.std.proofs.Common.{rules, refl, arith}
-use Rattle.std.proofs.lemmas.List.{length-replicate}
 use Rattle.example_store.proofs.TableLemmas.{read-all, read-more}
 use Rattle.example_store.proofs.table.Table.of_block.Goals as goal
 

@@ -1,4 +1,4 @@
-use Rattle.std.proofs.Common.{◌+◌, ◌≡◌, ◌≤◌, ◌++◌, length, take, drop, ℕ, ◌-◌, ◌*◌, ◌<◌}
+use Rattle.std.proofs.Common.{◌≡◌, ◌++◌, length, take, drop, ◌-◌, ◌*◌}
 use Rattle.example_store.specs.Tables.{slots_in}
 use Rattle.example_store.proofs.table.Table.of_block.Given as goal
 

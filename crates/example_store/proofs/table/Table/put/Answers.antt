@@ -1,4 +1,4 @@
-use Rattle.std.proofs.Common.{rules, sym, ◌∙◌, ap, Some}
+use Rattle.std.proofs.Common.{sym, ◌∙◌, ap, Some}
 use Rattle.example_store.proofs.TableLemmas.{put-free, put-own}
 use Rattle.example_store.proofs.table.Table.put.Goals as goal
 use Rattle.example_store.proofs.table.Table.put.Goals.{in-Some, in-None+in-Some-place}

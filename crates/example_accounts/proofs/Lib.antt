@@ -1,0 +1,7 @@
+mod AccountBalances
+mod AccountExamples
+mod ClientSteps
+mod HandlesPosted
+mod MoneyHeld
+mod PostingPlaces
+mod RunPosted

@@ -1,6 +1,0 @@
-use Rattle.jb_journal.specs.Client.{MayWait}
-use Rattle.example_accounts.proofs.moving.MovingWorkerResultUnitJournalFault.work.Given as goal
-
--- the client can change and wait
-abbrev pub invariant-loop : goal.invariant-loop
-invariant-loop g l = MayWait g.H.Origin.begun l.client
