@@ -48,4 +48,5 @@ EndsOfDumpIn start other Text words name before out_old out_new end =
     EndsOfDump start other words name before out_old out_new end
 EndsOfDumpIn start other Json words name before out_old out_new end =
     (text : List ℕ) × (done : Result ℕ CommandFault)
-    × EndsOfDump start other (undrawn words) name before (Some []) (Some text) done × TellsEntries text done out_old out_new end
+    × EndsOfDump start other (undrawn words) name before (Some []) (Some text) done
+    × TellsEntries text done out_old out_new end

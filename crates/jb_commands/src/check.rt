@@ -54,11 +54,7 @@ fn verdict_on(alloc: Global, queue: &QueueText, cert: &Cert) -> Result<Verdict, 
 }
 
 /// What is said of a verdict.
-fn verdict_told(
-    alloc: Global,
-    form: AnswerForm,
-    verdict: Verdict,
-) -> Result<CommandOutput, Memory>
+fn verdict_told(alloc: Global, form: AnswerForm, verdict: Verdict) -> Result<CommandOutput, Memory>
     ensures said { IfOk result (λ answer. said answer ≡ verdict_text form verdict) }
 {
     match verdict {

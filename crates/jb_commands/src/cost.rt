@@ -17,11 +17,7 @@ use std::alloc::Global;
 ///
 /// # Errors
 /// `Memory` where memory ran out.
-pub fn cost_answer(
-    alloc: Global,
-    form: AnswerForm,
-    text: &[u8],
-) -> Result<CommandOutput, Memory>
+pub fn cost_answer(alloc: Global, form: AnswerForm, text: &[u8]) -> Result<CommandOutput, Memory>
     requires { length text.now < 2 ^ 63 }
     /// What `cost` prints is a function of the text's bytes, and in JSON the same.
     ensures said { IfOk result (λ answer. cost_said form text.now ≡ Some (said answer)) }

@@ -19,8 +19,8 @@ mod texts;
 mod watched;
 
 pub use changes::{renumber_file, widen_file};
-pub use homes::cat_file;
 pub(crate) use dump_form::dump_in;
+pub use homes::cat_file;
 pub use making::format_file;
 pub use opened::OpenedImage;
 pub use opening::{Opening, open_counted};

@@ -23,11 +23,7 @@ use std::alloc::Global;
 ///
 /// # Errors
 /// `Memory` where memory ran out.
-pub fn plan_answer(
-    alloc: Global,
-    form: AnswerForm,
-    text: &[u8],
-) -> Result<CommandOutput, Memory>
+pub fn plan_answer(alloc: Global, form: AnswerForm, text: &[u8]) -> Result<CommandOutput, Memory>
     requires { length text.now < 2 ^ 63 }
     /// What `plan` prints is the certificate of a least cut, or that there is none, or the first fault of the text; and
     /// in JSON the same.
@@ -40,11 +36,7 @@ pub fn plan_answer(
 }
 
 /// What is said of a queue's best certificate.
-fn plan_told(
-    alloc: Global,
-    form: AnswerForm,
-    queue: &QueueText,
-) -> Result<CommandOutput, Memory>
+fn plan_told(alloc: Global, form: AnswerForm, queue: &QueueText) -> Result<CommandOutput, Memory>
     requires { IsWithinSize queue.now.handles.items }
     ensures said { IfOk result (λ answer. SaysPlan form (Ok (value_of queue.now)) (said answer)) }
 {

@@ -60,7 +60,9 @@ pub fn perform<
     match plain {
         Plain::Cost { file } => CommandEnd::said(perform_cost(rt, file, form, input, out, err)),
         Plain::Plan { file } => CommandEnd::said(perform_plan(rt, file, form, input, out, err)),
-        Plain::Check { file, cert } => CommandEnd::said(perform_check(rt, file, cert, form, out, err)),
+        Plain::Check { file, cert } => CommandEnd::said(perform_check(
+            rt, file, cert, form, out, err,
+        )),
         Plain::Dump { file, options } => {
             let shown = settings.progress;
             CommandEnd::status(dump_in::<S, T, R, I, O>(rt, file, options, form, shown, input, out))
@@ -169,7 +171,11 @@ fn check_file<'a, R: Files + AllocGlobal, O: Write, E: Write>(
         (record { out = O.contents out.new; err = E.contents err.new }) result }
 {
     match read_file_within(rt, cert, CERT_LIMIT) {
-        Ok(claim) => told(check_answer(rt.alloc(), form, queue, claim.as_slice()), out, err),
+        Ok(claim) => told(
+            check_answer(rt.alloc(), form, queue, claim.as_slice()),
+            out,
+            err,
+        ),
         Err(fault) => Err(fault),
     }
 }
@@ -192,7 +198,12 @@ pub fn run_plain<R: Files<File = File> + AllocGlobal + Clock, I: Read, O: Write,
     ensures unread { reads_input (asks plain.entry) ≡ false → input.new ≡ input.old }
 {
     let done = perform::<Unknown, Unknown, R, I, O, E>(rt, plain, settings, input, out, err);
-    close(settings.form, done.tell(settings.form, out), files_of(plain), err)
+    close(
+        settings.form,
+        done.tell(settings.form, out),
+        files_of(plain),
+        err,
+    )
 }
 
 /// The program's end at the end of a command, over these files where they are two; of one that ended without an answer

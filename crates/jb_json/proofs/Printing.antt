@@ -13,9 +13,9 @@ use Rattle.jb_json.specs.Pieces.{member_after, members_text, number_with, number
 -- a part with nothing after it, and then two more, before the rest
 three-parts : (part more last rest : List ℕ) → part ++ ((more ++ last) ++ rest) ≡ (((part ++ []) ++ more) ++ last) ++ rest
 three-parts part more last rest = sym (
-  ap (λ text. ((text ++ more) ++ last) ++ rest) (append-nil part)
-  ∙ ap (λ text. text ++ rest) (append_assoc part more last)
-  ∙ append_assoc part (more ++ last) rest)
+    ap (λ text. ((text ++ more) ++ last) ++ rest) (append-nil part)
+    ∙ ap (λ text. text ++ rest) (append_assoc part more last)
+    ∙ append_assoc part (more ++ last) rest)
 
 -- the same of one more
 two-parts : (part more rest : List ℕ) → part ++ (more ++ rest) ≡ ((part ++ []) ++ more) ++ rest

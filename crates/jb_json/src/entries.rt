@@ -58,11 +58,7 @@ fn put_entry<W: Write>(writer: &mut W, line: &[u8]) -> Result<(), WriteFault>
 }
 
 /// Writes the number of a block, and the words after it.
-fn put_numbered<W: Write>(
-    writer: &mut W,
-    block: u64,
-    rest: Option<&[u8]>,
-) -> Result<(), WriteFault>
+fn put_numbered<W: Write>(writer: &mut W, block: u64, rest: Option<&[u8]>) -> Result<(), WriteFault>
     ensures { Puts (W.contents writer.old) (W.contents writer.new)
         (numbered_text block (words_in (option_copied rest.entry))) result }
 {
@@ -94,11 +90,7 @@ fn put_kind<W: Write>(
 }
 
 /// Writes the words of a line of this kind.
-fn put_words<W: Write>(
-    writer: &mut W,
-    kind: &[u8],
-    rest: Option<&[u8]>,
-) -> Result<(), WriteFault>
+fn put_words<W: Write>(writer: &mut W, kind: &[u8], rest: Option<&[u8]>) -> Result<(), WriteFault>
     ensures { Puts (W.contents writer.old) (W.contents writer.new)
         (spelled (map (entry_word kind.now) (words_in (option_copied rest.entry)))) result }
 {

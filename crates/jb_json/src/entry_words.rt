@@ -16,11 +16,7 @@ use std::io::Write;
 ///
 /// # Errors
 /// `WriteFault` where the writer took only the beginning of the text, as of each function below.
-pub(crate) fn put_word<W: Write>(
-    writer: &mut W,
-    kind: &[u8],
-    word: &[u8],
-) -> Result<(), WriteFault>
+pub(crate) fn put_word<W: Write>(writer: &mut W, kind: &[u8], word: &[u8]) -> Result<(), WriteFault>
     ensures { Puts (W.contents writer.old) (W.contents writer.new) (entry_word kind.now word.now) result }
 {
     let (name, value) = part(word, b'=');

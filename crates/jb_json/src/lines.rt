@@ -14,10 +14,7 @@ use std::io::Write;
 ///
 /// # Errors
 /// `WriteFault` where the writer took only the beginning of the text, as of each function below.
-pub(crate) fn put_line<W: Write>(
-    writer: &mut W,
-    fields: &[Field<'_>],
-) -> Result<(), WriteFault>
+pub(crate) fn put_line<W: Write>(writer: &mut W, fields: &[Field<'_>]) -> Result<(), WriteFault>
     ensures { Puts (W.contents writer.old) (W.contents writer.new) (facts_line (facts_of fields.now)) result }
 {
     let Some((first, rest)) = fields.split_first() else {
@@ -43,11 +40,7 @@ fn put_rest<W: Write>(writer: &mut W, fields: &[Field<'_>]) -> Result<(), WriteF
 }
 
 /// Writes a field, with these bytes before it where the line has anything of it.
-fn put_field<W: Write>(
-    writer: &mut W,
-    before: &str,
-    field: Field<'_>,
-) -> Result<(), WriteFault>
+fn put_field<W: Write>(writer: &mut W, before: &str, field: Field<'_>) -> Result<(), WriteFault>
     ensures { Puts (W.contents writer.old) (W.contents writer.new)
         (fact_after before.now (fact_of field.entry)) result }
 {
@@ -81,10 +74,7 @@ fn put_word<W: Write>(writer: &mut W, before: &str, parts: &[&str]) -> Result<()
 }
 
 /// Writes the lines of those fields that are numbers.
-pub(crate) fn put_lists<W: Write>(
-    writer: &mut W,
-    fields: &[Field<'_>],
-) -> Result<(), WriteFault>
+pub(crate) fn put_lists<W: Write>(writer: &mut W, fields: &[Field<'_>]) -> Result<(), WriteFault>
     ensures { Puts (W.contents writer.old) (W.contents writer.new)
         (spelled (map (λ field. fact_lines (fact_of field)) fields.now)) result }
 {
@@ -114,11 +104,7 @@ fn put_list<W: Write>(writer: &mut W, field: Field<'_>) -> Result<(), WriteFault
 }
 
 /// Writes the lines of numbers, each after this word.
-fn put_number_lines<W: Write>(
-    writer: &mut W,
-    each: &str,
-    numbers: &[u64],
-) -> Result<(), WriteFault>
+fn put_number_lines<W: Write>(writer: &mut W, each: &str, numbers: &[u64]) -> Result<(), WriteFault>
     ensures { Puts (W.contents writer.old) (W.contents writer.new)
         (spelled (map (number_line each.now) numbers.now)) result }
 {

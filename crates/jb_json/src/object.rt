@@ -17,10 +17,7 @@ use std::io::Write;
 ///
 /// # Errors
 /// `WriteFault` where the writer took only the beginning of the text, as of each function below.
-pub(crate) fn put_object<W: Write>(
-    writer: &mut W,
-    fields: &[Field<'_>],
-) -> Result<(), WriteFault>
+pub(crate) fn put_object<W: Write>(writer: &mut W, fields: &[Field<'_>]) -> Result<(), WriteFault>
     ensures { Puts (W.contents writer.old) (W.contents writer.new) (json_line (facts_of fields.now)) result }
 {
     match put_members(writer, fields) {
@@ -57,11 +54,7 @@ fn put_more<W: Write>(writer: &mut W, fields: &[Field<'_>]) -> Result<(), WriteF
 }
 
 /// Writes a member with these bytes before it.
-fn put_member<W: Write>(
-    writer: &mut W,
-    before: &str,
-    field: Field<'_>,
-) -> Result<(), WriteFault>
+fn put_member<W: Write>(writer: &mut W, before: &str, field: Field<'_>) -> Result<(), WriteFault>
     ensures { Puts (W.contents writer.old) (W.contents writer.new)
         (member_after before.now (fact_of field.entry)) result }
 {

@@ -41,11 +41,7 @@ fn put_more<W: Write>(writer: &mut W, numbers: &[Option<u64>]) -> Result<(), Wri
 }
 
 /// Writes a number, or `null`, with these bytes before it.
-fn put_number<W: Write>(
-    writer: &mut W,
-    before: &str,
-    number: Option<u64>,
-) -> Result<(), WriteFault>
+fn put_number<W: Write>(writer: &mut W, before: &str, number: Option<u64>) -> Result<(), WriteFault>
     ensures { Puts (W.contents writer.old) (W.contents writer.new) (sparse_with before.now number) result }
 {
     let mut digits = Buffer::new();

@@ -62,7 +62,13 @@ pub fn run<
     match parse(rt.alloc(), words) {
         Ok(CommandLine::Plain(plain)) => run_plain(rt, plain, settings, input, out, err),
         Ok(CommandLine::Load(load)) => run_load(rt, load, settings, input, out, err),
-        Ok(CommandLine::Completions { shell }) => run_completions(rt.alloc(), shell, settings.form, out, err),
+        Ok(CommandLine::Completions { shell }) => run_completions(
+            rt.alloc(),
+            shell,
+            settings.form,
+            out,
+            err,
+        ),
         Err(error) => tell_refusal(&error, out, err),
     }
 }

@@ -69,12 +69,7 @@ pub fn load_files<
     T: Start + Send,
     R: Files<File = File> + AllocGlobal + Threads + Wait + Clock + Sync,
     I: Read,
->(
-    rt: &R,
-    load: LoadWords<'a>,
-    form: AnswerForm,
-    input: &mut I,
-) -> LoadDone<'a, S, T>
+>(rt: &R, load: LoadWords<'a>, form: AnswerForm, input: &mut I) -> LoadDone<'a, S, T>
     /// `load` over files, wherever the image has its journal: it was not opened; or nothing may be loaded to that file
     /// system's journal, the text is not there or is refused, or a handle touches a block of a journal within the
     /// image, and the image is as it was judged; or the queue was loaded and, if the files are honest, the groups that

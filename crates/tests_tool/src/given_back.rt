@@ -6,8 +6,7 @@ use crate::runs::Host;
 use jb_args::{CatOptions, FormatOptions, Plain, ProgressLine, RecoverOptions, Settings};
 use jb_disk::{Disk, Unknown};
 use jb_tool::{
-    AnswerForm, CommandEnd, cat_file, format_file, perform, recover_file, renumber_file,
-    widen_file,
+    AnswerForm, CommandEnd, cat_file, format_file, perform, recover_file, renumber_file, widen_file,
 };
 
 const NAME: &str = "given.img";

@@ -57,22 +57,10 @@ fn words_of_node(place: u64, fault: NodeFault) -> (&'static str, Numbers)
     ensures { (result.0.now, result.1) ≡ map_node_words place fault }
 {
     match fault {
-        NodeFault::Magic(number) => (
-            "Own Map Node Magic",
-            Numbers::Two(place, u64::from(number)),
-        ),
-        NodeFault::Depth(number) => (
-            "Own Map Node Depth",
-            Numbers::Two(place, u64::from(number)),
-        ),
-        NodeFault::Room(number) => (
-            "Own Map Node Room",
-            Numbers::Two(place, u64::from(number)),
-        ),
-        NodeFault::Count(number) => (
-            "Own Map Node Count",
-            Numbers::Two(place, u64::from(number)),
-        ),
+        NodeFault::Magic(number) => ("Own Map Node Magic", Numbers::Two(place, u64::from(number))),
+        NodeFault::Depth(number) => ("Own Map Node Depth", Numbers::Two(place, u64::from(number))),
+        NodeFault::Room(number) => ("Own Map Node Room", Numbers::Two(place, u64::from(number))),
+        NodeFault::Count(number) => ("Own Map Node Count", Numbers::Two(place, u64::from(number))),
         NodeFault::Empty => ("Own Map Node Empty", Numbers::One(place)),
     }
 }

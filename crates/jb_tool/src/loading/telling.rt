@@ -139,11 +139,7 @@ fn refused_numbers(refused: Option<Refused>) -> ArrayVec<u64, 2>
 }
 
 /// Writes the lines of what did not end well; in JSON nothing.
-fn put_faults<E: Write>(
-    form: AnswerForm,
-    loaded: &Loaded,
-    err: &mut E,
-) -> Result<(), WriteFault>
+fn put_faults<E: Write>(form: AnswerForm, loaded: &Loaded, err: &mut E) -> Result<(), WriteFault>
     ensures { Puts (E.contents err.old) (E.contents err.new) (load_err form loaded.now) result }
 {
     match form {

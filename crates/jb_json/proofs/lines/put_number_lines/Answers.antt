@@ -25,7 +25,7 @@ loop-number-preserved g c =
     let rest = spelled (map text (drop (c.loop-number.number-index + 1) xs)) in
     let next = spelled_next text xs c.loop-number.number-index _ _ c.loop-number-test.true refl in
     λ end r more. c.loop-number.invariant end r (subst (λ t. Puts now end t r) next
-        (puts_after now (g.W.Write.contents c.put_number_line.new.writer) end _ rest r c.in-Ok.ensures more))
+    (puts_after now (g.W.Write.contents c.put_number_line.new.writer) end _ rest r c.in-Ok.ensures more))
 
 pub returns : goal.returns
 returns g c =

@@ -28,7 +28,7 @@ loop-field-preserved g c =
     let rest = spelled (map text (drop (c.loop-field.field-index + 1) xs)) in
     let next = spelled_next text xs c.loop-field.field-index _ _ c.loop-field-test.true refl in
     λ end r more. c.loop-field.invariant end r (subst (λ t. Puts now end t r) next
-        (puts_after now (g.W.Write.contents c.put_member.new.writer) end _ rest r c.in-Ok.ensures more))
+    (puts_after now (g.W.Write.contents c.put_member.new.writer) end _ rest r c.in-Ok.ensures more))
 
 pub returns : goal.returns
 returns g c =

@@ -25,7 +25,7 @@ loop-byte-preserved g c =
     let rest = spelled (map text (drop (c.loop-byte.byte-index + 1) xs)) in
     let next = spelled_next text xs c.loop-byte.byte-index _ _ c.loop-byte-test.true refl in
     λ end r more. c.loop-byte.invariant end r (subst (λ t. Puts now end t r) next
-        (puts_after now (g.W.Write.contents c.put_byte.new.writer) end _ rest r c.in-Ok.ensures more))
+    (puts_after now (g.W.Write.contents c.put_byte.new.writer) end _ rest r c.in-Ok.ensures more))
 
 pub returns : goal.returns
 returns g c =

@@ -25,7 +25,7 @@ loop-part-preserved g c =
     let rest = spelled (map text (drop (c.loop-part.part-index + 1) xs)) in
     let next = spelled_next text xs c.loop-part.part-index _ _ c.loop-part-test.true refl in
     λ end r more. c.loop-part.invariant end r (subst (λ t. Puts now end t r) next
-        (puts_after now (g.W.Write.contents c.put_escaped.new.writer) end _ rest r c.in-Ok.ensures more))
+    (puts_after now (g.W.Write.contents c.put_escaped.new.writer) end _ rest r c.in-Ok.ensures more))
 
 pub returns : goal.returns
 returns g c =
