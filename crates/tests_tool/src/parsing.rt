@@ -127,7 +127,7 @@ fn asked(rt: &impl Host, words: &[&str]) -> String {
 }
 
 /// Command lines, and what they ask for.
-static ROWS: [(&str, &str); 37] = [
+static ROWS: [(&str, &str); 38] = [
     ("cost queue.txt", "cost queue.txt"),
     ("cost -", "cost -"),
     ("cost -- -x", "cost -x"),
