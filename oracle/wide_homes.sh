@@ -1,5 +1,5 @@
 #!/bin/sh
-# wide_homes.sh JB [DIR]: home blocks past 2^32. In DIR (default: a new folder) `JB format --wide` makes a sparse image with
+# wide_homes.sh JB [DIR]: home blocks past 2^32. In DIR (default: a new folder) `JB format --wide --sparse` makes an image with
 # 2^32 + 16 home blocks of 1,024 bytes, 4 TiB that take no room, jbref.py writes a log into it, and `JB dump` and `JB recover`
 # are compared with jbref.py's. Then the same copy in an image of 16 home blocks, which is to be refused and left as it was.
 # Wants a file system that takes files of 4 TiB.
@@ -17,7 +17,7 @@ is() {
 }
 cd "$dir"
 rm -f wide.img small.img
-is format "$("$jb" format wide.img --bs 1024 --journal 33 --homes 4294967312 --wide)" 'formatted limit 8'
+is format "$("$jb" format wide.img --bs 1024 --journal 33 --homes 4294967312 --wide --sparse)" 'formatted limit 8'
 # home: its first byte
 home() { dd if=wide.img bs=1024 skip=$((33 + $1)) count=1 status=none | head -c 1 | od -An -tx1 | tr -d ' '; }
 $ref lay wide.img 'w4294967301=65 w4294967302=66' 'w6=06 r4294967302 w4294967311=6f'

@@ -171,6 +171,18 @@ commits first=1970-01-01T00:00:00Z last=1970-01-01T00:00:00Z
 """
 for words in ["", " --home 7", " --last 0", " --super"]:
     row("dump a --summary" + words, 0, GLANCE, files={"a": image(superblock(2, 1), TWO_AND_REVOKED)})
+# with its picture: a transaction in each of the columns 0 and 3, and the head in column 5
+PICTURE = f"""blocks in a column: 1; . free, - used, 1-9 transactions begin, + more
+|1--1-{"." * 27}|
+|T    H{" " * 26}|
+T is the tail, H the head, B both
+|{"#" * 30}| home 5: 1
+"""
+for words in [" --summary --draw", " --draw --super --summary"]:
+    row("dump a" + words, 0, GLANCE + PICTURE, files={"a": image(superblock(2, 1), TWO_AND_REVOKED)})
+row("dump a --draw", 0, TOLD, files={"a": image(superblock(2, 1), TWO_AND_REVOKED)})
+row("dump - --summary --draw", 0, "log transactions=0 used=0 usable=32 free=32\nclean next=2\n", stdin=image(SMALL, homes=0))
+row("dump a --summary --draw", 1, err="jb: WriteFault\n", files={"a": FULL}, to="full")
 row("dump - --summary", 0, "log transactions=0 used=0 usable=32 free=32\nclean next=2\n", stdin=image(SMALL, homes=0))
 row("dump a --summary", 0, "log transactions=0 used=0 usable=32 free=32\nends tail=1 head=1\n", files={"a": image(superblock(2, 1), ONE[:3])})
 row("dump a --summary", 1, err="jb: BadRevoke 1\n", files={"a": image(superblock(2, 1), [revoke(2, [], 1025), commit(2)])})
@@ -215,6 +227,7 @@ BASIC = "format a --bs 1024 --journal 33 --homes 16"
 row(BASIC, 0, "formatted limit 8\n", after={"a": MADE})
 row("format a --bs 1024 --journal 33 --homes 16 --uuid 000102030405060708090A0b0c0d0e0f", 0, "formatted limit 8\n", after={"a": image(SMALL)})
 row(BASIC + " --wide --max 5", 0, "formatted limit 5\n", after={"a": image(superblock(incompat=3, most=5, uuid=bytes(16)))})
+row(BASIC + " --sparse", 0, "formatted limit 8\n", after={"a": MADE})
 row("format a --bs 1024 --journal 33 --homes 4294967297", 2, err="jb: bad option\n", beside="--homes")
 row("format a --bs 4096 --journal 9 --homes 0", 0, "formatted limit 3\n",
     after={"a": image(superblock(maxlen=9, said=4096, size=4096, uuid=bytes(16)), homes=0, maxlen=9, size=4096)})

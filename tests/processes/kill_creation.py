@@ -96,7 +96,7 @@ def calls_of(program, image):
     return calls[:last + 2]
 
 
-ORDER = ["open", "flock", "ftruncate", "fsync", "pwrite64", "fdatasync", "link", "fsync", "unlink"]
+ORDER = ["open", "flock", "ftruncate", "write", "fsync", "pwrite64", "fdatasync", "link", "fsync", "unlink"]
 
 
 def in_order(program, image):
@@ -108,11 +108,12 @@ def in_order(program, image):
     calls = []
     for line in open("trace"):
         found = re.match(r"\d+\s+(\w+)\((.*)", line)
-        if not found or found[1] not in ["openat", "open", "flock", "ftruncate", "fsync", "pwrite64", "fdatasync", "link", "linkat", "unlink", "unlinkat", "rename"]:
+        if not found or found[1] not in ["openat", "open", "flock", "ftruncate", "write", "fsync", "pwrite64", "fdatasync", "link", "linkat", "unlink", "unlinkat", "rename"]:
             continue
         name = found[1].removesuffix("at")
         folder = name == "fsync" and "<%s>" % os.path.dirname(image) in found[2]
-        if (UNFINISHED in line and not (name == "open" and "O_CREAT" not in line)) or folder:
+        # the zeros of a long image are several writes
+        if ((UNFINISHED in line and not (name == "open" and "O_CREAT" not in line)) or folder) and calls[-1:] + [name] != ["write", "write"]:
             calls.append(name)
     os.remove("trace")
     os.remove(image)

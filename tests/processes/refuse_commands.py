@@ -36,6 +36,8 @@ UNMADE = [("REFUSE_WRITES", (1, b"", b"jb: DeviceFault\n")), ("REFUSE_LENGTH", (
 ROWS = [
     ("cost", "cost q", {"q": QUEUE}, b""),
     ("cost, of standard input", "", {}, QUEUE),
+    ("cost, with settings", "-q cost q --status", {"q": QUEUE}, b""),
+    ("completions", "completions bash", {}, b""),
     ("plan", "plan q", {"q": QUEUE}, b""),
     ("check", "check q c", {"q": QUEUE, "c": CERT}, b""),
     ("format", FORMAT, {}, b""),

@@ -6,8 +6,9 @@ mod streams;
 
 use crate::pipes::{Heard, Heeding};
 use crate::streams::fill_closed;
-use jb_tool::{CommandFault, Terminals, run_program};
+use jb_tool::{CommandFault, Settings, Terminals, run_program};
 use std::cell::Cell;
+use std::env::Env;
 use std::io::{IsTerminal, Write};
 use std::process::ExitCode;
 use std::{env, io};
@@ -15,6 +16,12 @@ use std::{env, io};
 /// The words after the program's name.
 fn words(rt: &HostRuntime) -> io::Result<Vec<String>> {
     Ok(env::args(rt)?.skip(1).collect(rt.alloc())?)
+}
+
+/// Whether this variable of the environment is 1.
+fn is_set(rt: &HostRuntime, name: &str) -> bool {
+    let mut value = [0; 2];
+    matches!(rt.var(name, &mut value), Ok(1)) && value[0] == b'1'
 }
 
 /// Says that a closed stream could not be filled, and gives the exit status.
@@ -40,6 +47,9 @@ fn main(rt: HostRuntime) -> ExitCode {
         input: input.is_terminal(),
         err: on_terminal,
     };
-    let status = run_program(&rt, given, terminals, &mut input, &mut out, &mut err);
+    let settings = Settings::new(is_set(&rt, "JB_HINTS"), is_set(&rt, "JB_STATUS"));
+    let status = run_program(
+        &rt, given, settings, terminals, &mut input, &mut out, &mut err,
+    );
     ExitCode::from(status)
 }

@@ -1,3 +1,5 @@
+pub mod CompletedRows
 pub mod Faults
 pub mod Numerals
 pub mod Rows
+pub mod SettingWords

@@ -1,5 +1,5 @@
 -- Words and commands that are added one after the other.
-use Rattle.std.proofs.Common.{◌≡◌, ℕ, ◌+◌, ◌<◌, List, ◌∷◌, length, get_or, drop, add-one, ap, sym}
+use Rattle.std.proofs.Common.{◌≡◌, ℕ, ◌+◌, ◌<◌, List, length, get_or, drop, add-one, ap, sym}
 use Rattle.std.proofs.Math.Seq.{drop-cons}
 use Rattle.clap.specs.Words.{App, with_rule, with_subcommand}
 use Rattle.jb_args.specs.Rows.{app_named, rule_of_word, with_commands, with_row_words}

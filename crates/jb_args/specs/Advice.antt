@@ -1,6 +1,7 @@
 -- What is advised on a line of standard error: what the table says in the row of its hint.
 use denote.Enum.Declared.{tag_of}
-use Rattle.std.specs.Prelude.{ℕ, ℤ, List, [], ◌∷◌, codes, decimal, map, slice_index_or, Option, None, Some}
+use Rattle.std.specs.Prelude.{ℕ, ℤ, List, [], ◌∷◌, ◌++◌, codes, decimal, map, slice_index, slice_index_or}
+use Rattle.std.specs.Prelude.{Option, None, Some}
 use Rattle.jb_text.specs.TextParts.{spelled}
 use Rattle.jb_args.specs.contracts.hint.Hint as hints
 use Rattle.jb_args.specs.contracts.option_name.OptionName as options
@@ -9,11 +10,15 @@ use Rattle.jb_args.specs.declared.hint.HintArg.TheVariants.{Nothing, BadOption, 
 use Rattle.jb_args.specs.declared.hint.Hint.{Hint}
 use Rattle.jb_args.specs.declared.hint.Hint.TheVariants as hint
 use Rattle.jb_args.specs.declared.option_name.OptionName.{OptionName}
-use Rattle.jb_args.specs.declared.table.TheConstants.{ADVICE, OPTIONS}
+use Rattle.jb_args.specs.declared.columns.TheConstants.{ADVICE, OPTIONS, STATUSES}
 
 -- what is advised on a hint: the words of its row, which has the place in the table that the hint has in its enum
 unfoldable pub advice_of : Hint → List ℕ
 advice_of hint = slice_index_or (map (λ words. words.now) ADVICE.now) (tag_of hints.the_type hint) []
+
+-- the finer status at a hint, in the same row
+unfoldable pub finer_of : Hint → ℕ
+finer_of hint = slice_index STATUSES.now (tag_of hints.the_type hint)
 
 -- the name of an option, in its row, which has the place in the table that the option has in its enum
 unfoldable pub option_text : OptionName → List ℕ
@@ -43,15 +48,22 @@ beside_of (hint.NoHome homes) = of_homes homes
 beside_of (hint.HandleOutOfRange homes) = Homes homes
 beside_of _ = Nothing
 
--- the second line of these words, with what it says beside them: a bad option and what that may be, the system's text,
--- a number
+-- what is said of a hint of these words, with what it says beside them: a bad option and what that may be, the system's
+-- text, a number
+abbrev pub said_with : List ℕ → List ℕ → HintArg → List (List ℕ)
+said_with system words Nothing = words ∷ []
+said_with system words (BadOption option) =
+    words ∷ codes ": " ∷ option_text option ∷ codes " is " ∷ option_range option ∷ []
+said_with system words (System code) = words ∷ codes ": " ∷ system ∷ []
+said_with system words (Homes homes) = words ∷ codes ": " ∷ decimal homes ∷ []
+
+-- the second line of these words: that, after the mark of such a line
 abbrev pub line_with : List ℕ → List ℕ → HintArg → List ℕ
-line_with system words Nothing = spelled (codes "jb:  " ∷ words ∷ codes "\n" ∷ [])
-line_with system words (BadOption option) =
-    spelled (codes "jb:  " ∷ words ∷ codes ": " ∷ option_text option ∷ codes " is " ∷ option_range option ∷ codes "\n"
-    ∷ [])
-line_with system words (System code) = spelled (codes "jb:  " ∷ words ∷ codes ": " ∷ system ∷ codes "\n" ∷ [])
-line_with system words (Homes homes) = spelled (codes "jb:  " ∷ words ∷ codes ": " ∷ decimal homes ∷ codes "\n" ∷ [])
+line_with system words beside = spelled (codes "jb:  " ∷ (said_with system words beside ++ codes "\n" ∷ []))
+
+-- what is said of a hint, with this text of the system's
+abbrev pub hint_text : List ℕ → Hint → List ℕ
+hint_text system hint = spelled (said_with system (advice_of hint) (beside_of hint))
 
 -- the second line of a hint, with this text of the system's
 abbrev pub hint_line : List ℕ → Hint → List ℕ

@@ -69,21 +69,24 @@ flag name = record (new_rule name) { long = Some name; action = Some SetTrue }
 abbrev pub image_app : Text → App
 image_app name = with_rule (new_app name) (required_word (codes "IMAGE"))
 
--- `format IMAGE --bs N --journal N --homes N [--max N] [--uuid HEX] [--wide]`
+-- `format IMAGE --bs N --journal N --homes N [--max N] [--uuid HEX] [--wide] [--sparse]`
 abbrev pub format_app : App
 format_app =
     let image = image_app (codes "format") in
     let sized = with_rule image (required_number (codes "bs")) in
     let parts = with_rule (with_rule sized (required_number (codes "journal"))) (required_number (codes "homes")) in
-    with_rule (with_rule (with_rule parts (number_or (codes "max") (codes "0"))) uuid_option) (flag (codes "wide"))
+    let journal = with_rule (with_rule parts (number_or (codes "max") (codes "0"))) uuid_option in
+    with_rule (with_rule journal (flag (codes "wide"))) (flag (codes "sparse"))
 
--- `dump FILE [--home N] [--last N] [--super] [--summary] [--journal JOURNAL] [--extents LIST] [--checksums] [--ring]`
+-- `dump FILE [--home N] [--last N] [--super] [--summary] [--draw] [--journal JOURNAL] [--extents LIST] [--checksums]
+-- [--ring]`
 abbrev pub dump_app : App
 dump_app =
     let numbered =
     with_rule (with_rule (file_app (codes "dump")) (number_option (codes "home"))) (number_option (codes "last")) in
     let chosen = with_rule (with_rule numbered (flag (codes "super"))) (flag (codes "summary")) in
-    with_rule (with_rule (with_rule (with_rule chosen journal_option) extents_option) (flag (codes "checksums")))
+    let drawn = with_rule chosen (flag (codes "draw")) in
+    with_rule (with_rule (with_rule (with_rule drawn journal_option) extents_option) (flag (codes "checksums")))
     (flag (codes "ring"))
 
 -- `cat IMAGE HOME [-n N] [--hex] [--journal FILE] [--extents LIST] [--checksums]`
@@ -112,17 +115,32 @@ load_app =
 abbrev pub change_app : Text → App
 change_app name = with_rule (image_app name) extents_option
 
+-- `completions SHELL`
+abbrev pub completions_app : App
+completions_app = with_rule (new_app (codes "completions")) (required_word (codes "SHELL"))
+
+-- a topic of the help, which takes no words and is answered by its help
+abbrev pub topic_app : Text → App
+topic_app name =
+    let bare = new_app name in
+    record bare { top = record bare.top { arg_required_else_help = true } }
+
 -- `jb`: its words begin with a command, and it has a version
 abbrev pub jb_top : App
 jb_top =
     let bare = new_app (codes "jb") in
     record bare {
-      top = record bare.top { no_binary_name = true; has_version = true; subcommand_required = true };
+      top = record bare.top {
+        no_binary_name = true;
+        has_version = true;
+        has_long_version = true;
+        subcommand_required = true;
+      };
     }
 
 -- `jb` with its commands
-abbrev pub jb_app : App
-jb_app =
+abbrev pub commands_app : App
+commands_app =
     let cost = (file_app (codes "cost")).top in
     let plan = (file_app (codes "plan")).top in
     let over_queues = with_subcommand (with_subcommand (with_subcommand jb_top cost) plan) check_app.top in
@@ -130,4 +148,14 @@ jb_app =
     let over_files = with_subcommand read format_app.top in
     let loaded = with_subcommand over_files load_app.top in
     let recovered = with_subcommand loaded recover_app.top in
-    with_subcommand (with_subcommand recovered (change_app (codes "renumber")).top) (change_app (codes "widen")).top
+    let changed =
+    with_subcommand (with_subcommand recovered (change_app (codes "renumber")).top) (change_app (codes "widen")).top in
+    with_subcommand changed completions_app.top
+
+-- `jb` with its commands and the topics of its help
+abbrev pub jb_app : App
+jb_app =
+    let over_files = with_subcommand commands_app (topic_app (codes "files")).top in
+    let over_locks = with_subcommand over_files (topic_app (codes "locks")).top in
+    let told = with_subcommand over_locks (topic_app (codes "settings")).top in
+    with_subcommand (with_subcommand told (topic_app (codes "statuses")).top) (topic_app (codes "diagnostics")).top

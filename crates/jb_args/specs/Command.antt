@@ -1,13 +1,13 @@
 -- Which of all commands a list of words asks for, by what clap finds in it.
 use Rattle.std.specs.Prelude.{ℕ, Bool, List, Option, codes, if◌then◌else◌, option_and_then, option_map}
 use Rattle.std.specs.Str.{bytes_eq}
-use Rattle.clap.specs.Words.{Row, Text, subcommand_of}
+use Rattle.clap.specs.Words.{Row, Text, first_of, subcommand_of}
 use Rattle.jb_args.specs.App.{jb_app}
 use Rattle.jb_args.specs.PlainCommand.{Asked, asked, asks, extents_asked, file_in, flag_in, image_in, journal_asked}
 use Rattle.jb_args.specs.PlainCommand.{number_in}
 use Rattle.jb_args.specs.declared.command.LoadWords.{LoadWords}
 use Rattle.jb_args.specs.declared.command.CommandLine.{CommandLine}
-use Rattle.jb_args.specs.declared.command.CommandLine.TheVariants.{Load, Plain}
+use Rattle.jb_args.specs.declared.command.CommandLine.TheVariants.{Completions, Load, Plain}
 
 -- the words and options of `load` as they were given
 pub record Loading : Type 0 where
@@ -20,10 +20,11 @@ pub record Loading : Type 0 where
   pub stamp : ℕ
   pub checkpoint : Bool
 
--- a command of the program with its words: one without threads, or a load
+-- a command of the program with its words: one without threads, a load, or the completions of a shell
 pub data Wanted : Type 0 where
   WantsPlain : Asked → Wanted
   WantsLoad : Loading → Wanted
+  WantsCompletions : Text → Wanted
 
 -- what a value of the program's own words of a load says
 abbrev pub load_said : LoadWords → Loading
@@ -43,6 +44,7 @@ load_said l =
 abbrev pub wants : CommandLine → Wanted
 wants (Plain plain) = WantsPlain (asks plain)
 wants (Load load) = WantsLoad (load_said load)
+wants (Completions shell) = WantsCompletions shell.now
 
 -- `load IMAGE FILE ..`
 abbrev pub load_in : List Row → Option Loading
@@ -67,6 +69,8 @@ load_in rows =
 abbrev pub wanted : Text → List Row → Option Wanted
 wanted name rows =
     if bytes_eq name (codes "load") then option_map (λ load. WantsLoad load) (load_in rows)
+    else if bytes_eq name (codes "completions")
+    then option_map (λ shell. WantsCompletions shell) (first_of (codes "SHELL") rows)
     else option_map (λ asked. WantsPlain asked) (asked name rows)
 
 -- the command that a parse found

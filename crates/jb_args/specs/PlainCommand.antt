@@ -22,6 +22,7 @@ pub record GivenOptions : Type 0 where
   pub max : ℕ
   pub uuid : Text
   pub wide : Bool
+  pub sparse : Bool
 
 -- the words of `cat` after its image as they were given
 pub record CatWords : Type 0 where
@@ -38,6 +39,7 @@ pub record DumpWords : Type 0 where
   pub last : Option ℕ
   pub superblock : Bool
   pub summary : Bool
+  pub drawn : Bool
   pub journal : Option Text
   pub extents : Option Text
   pub checksums : Bool
@@ -67,7 +69,15 @@ pub data Asked : Type 0 where
 -- what a value of the program's own options says
 abbrev pub options_said : FormatOptions → GivenOptions
 options_said o =
-    record { bs = o.bs; journal = o.journal; homes = o.homes; max = o.max; uuid = o.uuid.now; wide = o.wide }
+    record {
+      bs = o.bs;
+      journal = o.journal;
+      homes = o.homes;
+      max = o.max;
+      uuid = o.uuid.now;
+      wide = o.wide;
+      sparse = o.sparse;
+    }
 
 -- the same of `cat`
 abbrev pub cat_said : CatOptions → CatWords
@@ -89,6 +99,7 @@ dump_said o =
       last = o.last;
       superblock = o.superblock;
       summary = o.summary;
+      drawn = o.drawn;
       journal = option_map (λ word. word.now) o.journal;
       extents = option_map (λ word. word.now) o.extents;
       checksums = o.checksums;
@@ -159,27 +170,36 @@ extents_asked rows = first_of (codes "extents") rows
 -- `dump FILE ..`
 abbrev pub dump_in : List Row → Option Asked
 dump_in rows =
-    option_and_then (λ file. option_and_then (λ alone. option_and_then (λ sum. option_and_then (λ checksums.
-    option_map (λ ring. AsksDump file (record {
+    option_and_then (λ file. option_and_then (λ alone. option_and_then (λ sum. option_and_then (λ drawn.
+    option_and_then (λ checksums. option_map (λ ring. AsksDump file (record {
       home = number_in (codes "home") rows;
       last = number_in (codes "last") rows;
       superblock = alone;
       summary = sum;
+      drawn = drawn;
       journal = journal_asked rows;
       extents = extents_asked rows;
       checksums = checksums;
       ring = ring;
     }))
-    (flag_in (codes "ring") rows)) (flag_in (codes "checksums") rows)) (flag_in (codes "summary") rows))
-    (flag_in (codes "super") rows)) (file_in rows)
+    (flag_in (codes "ring") rows)) (flag_in (codes "checksums") rows)) (flag_in (codes "draw") rows))
+    (flag_in (codes "summary") rows)) (flag_in (codes "super") rows)) (file_in rows)
 
 -- the options of `format`
 abbrev pub options_in : List Row → Option GivenOptions
 options_in rows =
     option_and_then (λ bs. option_and_then (λ journal. option_and_then (λ homes. option_and_then (λ max.
-    option_and_then (λ uuid.
-    option_map (λ wide. record { bs = bs; journal = journal; homes = homes; max = max; uuid = uuid; wide = wide })
-    (flag_in (codes "wide") rows)) (first_of (codes "uuid") rows))
+    option_and_then (λ uuid. option_and_then (λ wide.
+    option_map (λ sparse. record {
+      bs = bs;
+      journal = journal;
+      homes = homes;
+      max = max;
+      uuid = uuid;
+      wide = wide;
+      sparse = sparse;
+    })
+    (flag_in (codes "sparse") rows)) (flag_in (codes "wide") rows)) (first_of (codes "uuid") rows))
     (number_in (codes "max") rows)) (number_in (codes "homes") rows)) (number_in (codes "journal") rows))
     (number_in (codes "bs") rows)
 

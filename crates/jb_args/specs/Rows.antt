@@ -1,5 +1,5 @@
 -- The table of the commands, in the words of the command line of `jb`.
-use Rattle.std.specs.Prelude.{List, [], ◌∷◌, Option, Some, codes}
+use Rattle.std.specs.Prelude.{true, List, [], ◌∷◌, Option, Some, codes}
 use Rattle.clap.specs.Words.{App, Rule, Text, new_app, new_rule, with_rule, with_subcommand}
 use Rattle.clap.specs.declared.builder.value_parser.ValueParser.{ValueParser}
 use Rattle.clap.specs.declared.builder.value_parser.ValueParser.TheVariants.{Unsigned}
@@ -10,6 +10,8 @@ use Rattle.jb_args.specs.declared.commands.word.WordKind.{WordKind}
 use Rattle.jb_args.specs.declared.commands.word.WordKind.TheVariants as kind
 use Rattle.jb_args.specs.declared.commands.word.CommandWord.{CommandWord}
 use Rattle.jb_args.specs.declared.commands.CommandRow.{CommandRow}
+use Rattle.jb_args.specs.declared.commands.RowKind.{RowKind}
+use Rattle.jb_args.specs.declared.commands.RowKind.TheVariants as row
 
 -- a value that is a number of 64 bits
 abbrev pub number_parser : Option ValueParser
@@ -37,9 +39,14 @@ abbrev pub with_row_words : App → List CommandWord → App
 with_row_words command [] = command
 with_row_words command (word ∷ words) = with_row_words (with_rule command (rule_of_word word)) words
 
+-- a command as one of this kind: a topic of the help is answered by its help, as it takes no words
+abbrev pub with_kind : RowKind → App → App
+with_kind row.Command command = command
+with_kind row.Topic command = record command { top = record command.top { arg_required_else_help = true } }
+
 -- a row as a command
 abbrev pub app_of_row : CommandRow → App
-app_of_row row = with_row_words (new_app row.name.now) row.words.now
+app_of_row command = with_row_words (with_kind command.kind (new_app command.name.now)) command.words.now
 
 -- the command of this name
 abbrev pub app_named : CommandName → App
@@ -53,6 +60,12 @@ app_named name.Load = app.load_app
 app_named name.Recover = app.recover_app
 app_named name.Renumber = app.change_app (codes "renumber")
 app_named name.Widen = app.change_app (codes "widen")
+app_named name.Completions = app.completions_app
+app_named name.Files = app.topic_app (codes "files")
+app_named name.Locks = app.topic_app (codes "locks")
+app_named name.Settings = app.topic_app (codes "settings")
+app_named name.Statuses = app.topic_app (codes "statuses")
+app_named name.Diagnostics = app.topic_app (codes "diagnostics")
 
 -- a command line with these commands, one after the other
 abbrev pub with_commands : App → List CommandName → App

@@ -7,6 +7,11 @@ pub enum CommandLine<'a> {
     Plain(Plain<'a>),
     /// `jb load IMAGE FILE ..`: the handles of a queue text, run by threads and committed to an image.
     Load(LoadWords<'a>),
+    /// `jb completions SHELL`: the script by which a shell completes the words of `jb`.
+    Completions {
+        /// The name of the shell, not checked yet.
+        shell: &'a str,
+    },
 }
 
 /// The words and options of `jb load` as they were given, not checked yet.

@@ -1,5 +1,5 @@
 ghost use Rattle.std.specs.Prelude.{◌≡◌};
-ghost use Rattle.jb_args.specs.Advice.{advice_of, beside_of};
+ghost use Rattle.jb_args.specs.Advice.{advice_of, beside_of, finer_of};
 
 use crate::diagnostics;
 use crate::option_name::OptionName;
@@ -168,6 +168,20 @@ pub enum Hint {
     WriteFault,
 }
 
+/// A `match` of a hint with its finer status in each arm.
+macro_rules! status_in {
+    (
+        $of:ident
+        lines {
+            $($hint:ident, $status:literal, $begins:literal, $rest:literal,
+              $advice:literal $($more:literal)* $(: $beside:literal)?;)*
+        }
+        options { $($option:ident, $name:literal, $values:literal $($rest_values:literal)*;)* }
+    ) => {
+        match $of { $(Hint::$hint { .. } => $status),* }
+    };
+}
+
 /// What a second line says beside the words of the table.
 #[derive(Clone, Copy)]
 pub(crate) enum HintArg {
@@ -185,10 +199,13 @@ pub(crate) enum HintArg {
 macro_rules! advice_in {
     (
         $of:ident
-        lines { $($hint:ident, $begins:literal, $rest:literal, $advice:literal $(: $beside:literal)?;)* }
-        options { $($option:ident, $name:literal, $values:literal;)* }
+        lines {
+            $($hint:ident, $status:literal, $begins:literal, $rest:literal,
+              $advice:literal $($more:literal)* $(: $beside:literal)?;)*
+        }
+        options { $($option:ident, $name:literal, $values:literal $($rest_values:literal)*;)* }
     ) => {
-        match $of { $(Hint::$hint { .. } => $advice),* }
+        match $of { $(Hint::$hint { .. } => concat!($advice $(, $more)*)),* }
     };
 }
 
@@ -201,6 +218,16 @@ impl Hint {
     {
         let hint = self;
         diagnostics!(advice_in, hint)
+    }
+
+    /// The finer status of a run that ends with this line: 2 for words, files and texts that cannot be taken, 3 for
+    /// what is refused, 4 for a failed read or write, and 5 for want of memory.
+    #[tactic(auto, unfolding(crate::specs::Advice::finer_of))]
+    pub fn finer_status(self) -> u8
+        ensures { result ≡ finer_of self }
+    {
+        let hint = self;
+        diagnostics!(status_in, hint)
     }
 
     /// What is said beside the words of the table.

@@ -2,20 +2,27 @@
 //! when a command ends with a line on standard error.
 #![tactic(auto)]
 
+mod columns;
 mod command;
 mod commands;
+mod completing;
 mod hint;
 mod option_name;
 mod plain;
 mod second;
+mod settings;
 mod table;
 mod words;
 
 pub use clap::Error;
 pub use clap::error::ErrorKind;
 pub use command::{CommandLine, LoadWords};
+pub use completing::{Shell, completions};
 pub use hint::Hint;
 pub use option_name::OptionName;
 pub use plain::{CatOptions, DumpOptions, FormatOptions, Plain, RecoverOptions};
-pub use second::put_hint;
+pub use second::{SYSTEM_TEXT, hint_parts, put_hint};
+pub use settings::{
+    AnswerForm, ProgressLine, SecondLine, Settings, Statuses, settings_in, words_left,
+};
 pub use words::{parse, show_help};

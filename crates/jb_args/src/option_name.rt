@@ -3,7 +3,7 @@ ghost use Rattle.jb_args.specs.Advice.{option_range, option_text};
 
 use crate::diagnostics;
 
-/// An option that may be bad.
+/// An option, or a word, that may be bad.
 #[derive(Clone, Copy, Debug)]
 pub enum OptionName {
     /// `--bs` of `format`.
@@ -24,14 +24,19 @@ pub enum OptionName {
     Ring,
     /// `--threads` of `load`.
     Threads,
+    /// The word of `completions`.
+    Shell,
 }
 
 /// A `match` of an option with its name in each arm.
 macro_rules! name_in {
     (
         $of:ident
-        lines { $($hint:ident, $begins:literal, $rest:literal, $advice:literal $(: $beside:literal)?;)* }
-        options { $($option:ident, $name:literal, $values:literal;)* }
+        lines {
+            $($hint:ident, $status:literal, $begins:literal, $rest:literal,
+              $advice:literal $($more:literal)* $(: $beside:literal)?;)*
+        }
+        options { $($option:ident, $name:literal, $values:literal $($rest_values:literal)*;)* }
     ) => {
         match $of { $(OptionName::$option => $name),* }
     };
@@ -41,15 +46,18 @@ macro_rules! name_in {
 macro_rules! values_in {
     (
         $of:ident
-        lines { $($hint:ident, $begins:literal, $rest:literal, $advice:literal $(: $beside:literal)?;)* }
-        options { $($option:ident, $name:literal, $values:literal;)* }
+        lines {
+            $($hint:ident, $status:literal, $begins:literal, $rest:literal,
+              $advice:literal $($more:literal)* $(: $beside:literal)?;)*
+        }
+        options { $($option:ident, $name:literal, $values:literal $($rest_values:literal)*;)* }
     ) => {
-        match $of { $(OptionName::$option => $values),* }
+        match $of { $(OptionName::$option => concat!($values $(, $rest_values)*)),* }
     };
 }
 
 impl OptionName {
-    /// Its name, with the two hyphens.
+    /// Its name, of an option with the two hyphens.
     #[tactic(auto, unfolding(crate::specs::Advice::option_text))]
     pub fn name(self) -> &'static str
         ensures { result.now ≡ option_text self }

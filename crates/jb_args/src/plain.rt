@@ -74,6 +74,8 @@ pub struct DumpOptions<'a> {
     pub superblock: bool,
     /// `--summary`: whether the journal at a glance is printed in place of all lines.
     pub summary: bool,
+    /// `--draw`: whether after the journal at a glance its log is drawn, and the homes that are written most.
+    pub drawn: bool,
     /// `--journal`: the file with the journal, where the file has the home blocks alone.
     pub journal: Option<&'a str>,
     /// `--extents`: where the journal is within the file.
@@ -133,4 +135,6 @@ pub struct FormatOptions<'a> {
     pub uuid: &'a str,
     /// `--wide`: whether the journal has block numbers of 64 bits.
     pub wide: bool,
+    /// `--sparse`: whether a block gets room only when it is first written.
+    pub sparse: bool,
 }

@@ -1,7 +1,8 @@
-//! The second line.
-ghost use Rattle.std.specs.Prelude.{ℕ, List, []};
+//! What is said of a hint: the second line, and the same in parts.
+ghost use Rattle.std.specs.Prelude.{◌≡◌, ℕ, List, [], map};
 ghost use Rattle.jb_text.specs.Puts.{Puts};
-ghost use Rattle.jb_args.specs.Advice.{hint_line, line_with};
+ghost use Rattle.jb_text.specs.TextParts.{spelled};
+ghost use Rattle.jb_args.specs.Advice.{hint_line, hint_text, line_with};
 ghost use Rattle.jb_args.specs.declared.hint.HintArg.TheVariants.{BadOption};
 
 use crate::hint::{Hint, HintArg};
@@ -13,7 +14,7 @@ use std::io::{self, Write};
 use std::str;
 
 /// How many bytes of the system's text are kept: more than any of them has.
-const TEXT: usize = 256;
+pub const SYSTEM_TEXT: usize = 256;
 
 /// Writes the second line of a hint: what to do, and what it says beside that.
 ///
@@ -25,6 +26,35 @@ pub fn put_hint<W: Write>(writer: &mut W, hint: Hint) -> Result<(), WriteFault>
         (hint_line system hint) result }
 {
     put_words(writer, hint.advice(), hint.beside())
+}
+
+/// What the second line of a hint says, in parts, of which some may be empty. The system's text and a number are put
+/// into the room that is given.
+pub fn hint_parts<'b>(
+    hint: Hint,
+    text: &'b mut ArrayVec<u8, SYSTEM_TEXT>,
+    digits: &'b mut Buffer,
+) -> [&'b str; 5]
+    /// What a hint says is the same in a second line and in JSON.
+    ensures { (system : List ℕ) × (spelled (map (λ part. part.now) result) ≡ hint_text system hint) }
+{
+    let words: &'b str = hint.advice();
+    match hint.beside() {
+        HintArg::Nothing => [words, "", "", "", ""],
+        HintArg::BadOption(option) => {
+            let name: &'b str = option.name();
+            let values: &'b str = option.values();
+            [words, ": ", name, " is ", values]
+        }
+        HintArg::System(code) => {
+            let system: &'b str = system_text(code, text);
+            [words, ": ", system, "", ""]
+        }
+        HintArg::Homes(homes) => {
+            let number: &'b str = digits.format(homes);
+            [words, ": ", number, "", ""]
+        }
+    }
 }
 
 /// Writes these words as a second line, with what it says beside them.
@@ -64,7 +94,7 @@ fn put_option<'b, W: Write>(
 }
 
 /// The text of the system's error of this number, as the library shows it.
-fn system_text(code: i32, room: &mut ArrayVec<u8, TEXT>) -> &str {
+fn system_text(code: i32, room: &mut ArrayVec<u8, SYSTEM_TEXT>) -> &str {
     let _fits = write!(room, "{}", io::Error::from_raw_os_error(code));
     match str::from_utf8(room.as_slice()) {
         Ok(text) => text,

@@ -77,10 +77,12 @@ fn words_of<'a>(matches: &ArgMatches<'a>) -> Option<CommandLine<'a>>
     ensures { option_map wants result ≡ wanted_of (subcommand_rows_of matches.now) }
 {
     let (name, found) = matches.subcommand()?;
-    if name == "load" {
-        Some(CommandLine::Load(load_of(found)?))
-    } else {
-        Some(CommandLine::Plain(plain_of(name, found)?))
+    match name {
+        "load" => Some(CommandLine::Load(load_of(found)?)),
+        "completions" => Some(CommandLine::Completions {
+            shell: word_of(found, "SHELL")?,
+        }),
+        _ => Some(CommandLine::Plain(plain_of(name, found)?)),
     }
 }
 
@@ -149,6 +151,7 @@ fn dump_of<'a>(found: &ArgMatches<'a>) -> Option<Plain<'a>>
             last: number_of(found, "last"),
             superblock: flag_of(found, "super")?,
             summary: flag_of(found, "summary")?,
+            drawn: flag_of(found, "draw")?,
             journal: word_of(found, "journal"),
             extents: word_of(found, "extents"),
             checksums: flag_of(found, "checksums")?,
@@ -212,6 +215,7 @@ fn options_of<'a>(found: &ArgMatches<'a>) -> Option<FormatOptions<'a>>
         max: number_of(found, "max")?,
         uuid: word_of(found, "uuid")?,
         wide: flag_of(found, "wide")?,
+        sparse: flag_of(found, "sparse")?,
     })
 }
 

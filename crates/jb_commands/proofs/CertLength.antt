@@ -29,6 +29,7 @@ use Rattle.jb_price.specs.declared.certificate.CertAnswer.TheVariants.{Cut, NoCu
 use Rattle.jb_commands.specs.QueueFaults.{cause_told, fault_line, queue_fault}
 use Rattle.jb_commands.specs.Limits.{PlansAreReadable, PlansAreWithin}
 use Rattle.jb_commands.specs.Plan.{IsBestCert, IsBestCertOf, SaysPlan}
+use Rattle.jb_args.specs.declared.settings.AnswerForm.TheVariants.{Text}
 use Rattle.jb_commands.specs.AnswerSaid.{Said}
 
 -- handles weigh at most half as much as their lines are long
@@ -125,17 +126,17 @@ best-long text q cert small reads best =
     omega (arith, long, light, few')
 
 -- a fault has no words for standard output
-fault-silent : (fault : QueueFault) (words : Said) → queue_fault fault ≡ Some words → length words.out ≡ 0
+fault-silent : (fault : QueueFault) (words : Said) → queue_fault Text fault ≡ Some words → length words.out ≡ 0
 fault-silent fault words is = from (cause_told fault.cause) is
   where
-    from : (told : Option (List ℕ × Hint)) → option_map (fault_line fault.line) told ≡ Some words → length words.out ≡ 0
+    from : (told : Option (List ℕ × Hint)) → option_map (fault_line Text fault.line) told ≡ Some words → length words.out ≡ 0
     from None gives = cc
     from (Some told) gives =
-        let same : fault_line fault.line told ≡ words = cc in
+        let same : fault_line Text fault.line told ≡ words = cc in
         ap (λ (w : Said). length w.out) (sym same)
 
 -- what `jb plan` says of a text
-said-long : (text : List ℕ) (read : Result Queue QueueFault) (words : Said) → length text < 100000000 → queue_of text ≡ read → SaysPlan read words → length words.out ≤ 9 * length text
+said-long : (text : List ℕ) (read : Result Queue QueueFault) (words : Said) → length text < 100000000 → queue_of text ≡ read → SaysPlan Text read words → length words.out ≤ 9 * length text
 said-long text (Ok q) words small reads (cert, best, says) =
     let same = ap (λ (w : Said). length w.out) says in
     omega (arith, same, best-long text q cert small reads best)

@@ -5,6 +5,6 @@ pub mod ComparedLists
 pub mod DumpedSystem
 pub mod FoundSuper
 pub mod Judgement
-pub mod LineByLine
 pub mod ListWords
 pub mod Verdicts
+pub mod WatchedCalls

@@ -10,6 +10,7 @@ use Rattle.jb_price.specs.Verdict.{IsRight, Says}
 use Rattle.jb_price.specs.declared.certificate.Cert.{Cert}
 use Rattle.jb_price.specs.declared.verdict.Verdict.{Verdict}
 use Rattle.jb_price.specs.declared.verdict.Verdict.TheVariants.{Accepted}
+use Rattle.jb_args.specs.declared.settings.AnswerForm.{AnswerForm}
 use Rattle.jb_commands.specs.Check.{IsVerdictOn}
 use Rattle.jb_commands.specs.QueueFaults.{queue_fault}
 use Rattle.jb_commands.specs.Plan.{IsGeometryOf}
@@ -29,11 +30,11 @@ on_queue q cert g (Ok v) own says right = record { geometry = g; own = own; says
 on_queue q cert g (Err e) own says right = tt
 
 -- a fault with words is the first of the text
-pub named_by : (read : Result Queue QueueFault) (at : ℕ) (why : Cause) (words : Said) → ReportsBy read at why
-    → queue_fault (record { line = at; cause = why }) ≡ Some words → read ≡ Err (record { line = at; cause = why })
-named_by read at BlockSizeLine words reports told = reports
-named_by read at LimitLine words reports told = reports
-named_by read at HandleLine words reports told = reports
-named_by read at OpWord words reports told = reports
-named_by read at DataWord words reports told = reports
-named_by read at OutOfMemory words reports told = absurd (let h : ⊥ = cc in h)
+pub named_by : (form : AnswerForm) (read : Result Queue QueueFault) (at : ℕ) (why : Cause) (words : Said) → ReportsBy read at why
+    → queue_fault form (record { line = at; cause = why }) ≡ Some words → read ≡ Err (record { line = at; cause = why })
+named_by form read at BlockSizeLine words reports told = reports
+named_by form read at LimitLine words reports told = reports
+named_by form read at HandleLine words reports told = reports
+named_by form read at OpWord words reports told = reports
+named_by form read at DataWord words reports told = reports
+named_by form read at OutOfMemory words reports told = absurd (let h : ⊥ = cc in h)

@@ -1,5 +1,5 @@
 -- What a command says.
-use Rattle.std.specs.Prelude.{ℕ, List, Option, string_bytes}
+use Rattle.std.specs.Prelude.{ℕ, List, Option}
 use Rattle.jb_args.specs.declared.hint.Hint.{Hint}
 use Rattle.jb_commands.specs.declared.command_output.CommandOutput.{CommandOutput}
 
@@ -14,4 +14,4 @@ pub record Said : Type 0 where
 -- what an answer says
 abbrev pub said : CommandOutput → Said
 said answer =
-    record { status = answer.status; out = string_bytes answer.out; err = string_bytes answer.err; hint = answer.hint }
+    record { status = answer.status; out = answer.out.items; err = answer.err.items; hint = answer.hint }

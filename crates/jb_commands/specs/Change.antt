@@ -1,9 +1,9 @@
 -- How `jb renumber` and `jb widen` end on a disk.
-use Rattle.std.specs.Prelude.{◌⊎◌, ◌≡◌, ℕ, if◌then◌else◌, List, [], ◌∷◌, Result, Ok, Err, OnOk, codes, decimal}
+use Rattle.std.specs.Prelude.{◌⊎◌, ◌≡◌, ℕ, true, List, [], ◌∷◌, Result, Ok, Err, OnOk, codes}
 use Rattle.jb_disk.specs.Image.{Image, Only}
 use Rattle.jb_disk.specs.KeptOn.{KeptOn}
 use Rattle.jb_disk.specs.Time.{LeavesOnly}
-use Rattle.jb_text.specs.TextParts.{spelled}
+use Rattle.jb_json.specs.Facts.{Fact, Chosen, Counted, Marked}
 use Rattle.jb_format.specs.Changes.{ChangeFaults}
 use Rattle.jb_format.specs.declared.change.ChangeFault.{ChangeFault}
 use Rattle.jb_format.specs.declared.change.Renumbered.{Renumbered}
@@ -13,16 +13,15 @@ use Rattle.jb_commands.specs.declared.fault.CommandFault.{CommandFault}
 use Rattle.jb_commands.specs.declared.report.Report.{Report}
 use Rattle.jb_disk.specs.declared.disk.Disk.{Ghosts as Disks}
 
--- the line of a renumbering
-abbrev pub renumbered_line : Renumbered → List ℕ
-renumbered_line r =
-    spelled (codes "renumbered blocks " ∷ decimal r.blocks ∷ codes " next " ∷ decimal r.next ∷ codes "\n" ∷ [])
+-- what a renumbering reports
+abbrev pub renumbered_facts : Renumbered → List Fact
+renumbered_facts r =
+    Marked (codes "renumbered") true ∷ Counted (codes "blocks") r.blocks ∷ Counted (codes "next") r.next ∷ []
 
--- the line of a widening: another one where the journal was wide before
-abbrev pub widened_line : Widened → List ℕ
-widened_line w =
-    spelled ((if w.changed then codes "widened limit " else codes "already wide limit ") ∷ decimal w.limit ∷ codes "\n"
-    ∷ [])
+-- what a widening reports: also whether the journal was wide before
+abbrev pub widened_facts : Widened → List Fact
+widened_facts w =
+    Chosen (codes "widened") w.changed (codes "widened") (codes "already wide") ∷ Counted (codes "limit") w.limit ∷ []
 
 -- what a change answered, as the command's end: what it reports, or its fault
 abbrev pub change_end : {T : Type 0} → (T → Report) → Result T ChangeFault → Result Report CommandFault

@@ -1,7 +1,8 @@
 -- What `jb check` says of a queue text and the text of a certificate.
-use Rattle.std.specs.Prelude.{◌≡◌, ℕ, List, [], ◌++◌, Option, Some, None, Result, Ok, Err, codes, decimal, length}
-use Rattle.jb_args.specs.declared.hint.Hint.{Hint}
+use Rattle.std.specs.Prelude.{◌≡◌, ℕ, Bool, true, false, List, [], ◌∷◌, Option, Some, None, Result, Ok, Err, codes}
+use Rattle.std.specs.Prelude.{decimal, length}
 use Rattle.jb_args.specs.declared.hint.Hint.TheVariants.{CertificateLength, CertificateSyntax}
+use Rattle.jb_args.specs.declared.settings.AnswerForm.{AnswerForm}
 use Rattle.jb_cost.specs.Cut.{piece_cost}
 use Rattle.jb_cost.specs.declared.geometry.Geometry.{Geometry}
 use Rattle.jb_queue.specs.Queue.{Queue, queue_of}
@@ -16,34 +17,51 @@ use Rattle.jb_price.specs.declared.verdict.Reason.TheVariants.{OpeningPrice, Und
 use Rattle.jb_price.specs.declared.verdict.Reason.TheVariants.{EndPrice}
 use Rattle.jb_price.specs.declared.verdict.Verdict.{Verdict}
 use Rattle.jb_price.specs.declared.verdict.Verdict.TheVariants.{Accepted, Refused}
+use Rattle.jb_json.specs.Facts.{Fact, Bare, Chosen, Named}
+use Rattle.jb_commands.specs.AnswerForms.{text_in}
 use Rattle.jb_commands.specs.QueueFaults.{queue_fault}
+use Rattle.jb_commands.specs.TextFaults.{text_fault}
 use Rattle.jb_commands.specs.Plan.{IsGeometryOf}
 use Rattle.jb_commands.specs.AnswerSaid.{Said}
 
--- the name of a fault of a certificate, with the bounds of its piece
-abbrev pub reason_text : Reason → List ℕ
-reason_text OpeningPrice = codes "OpeningPrice\n"
-reason_text (Undercut i j) = codes "Undercut " ++ (decimal i ++ (codes " " ++ (decimal j ++ codes "\n")))
-reason_text NotACut = codes "NotACut\n"
-reason_text (OverLimit i j) = codes "OverLimit " ++ (decimal i ++ (codes " " ++ (decimal j ++ codes "\n")))
-reason_text TotalDiffers = codes "TotalDiffers\n"
-reason_text EndPrice = codes "EndPrice\n"
+-- what is reported of a fault of a certificate: its name, and the bounds of its piece
+abbrev pub reason_facts : Reason → List Fact
+reason_facts OpeningPrice = Named (codes "reason") (Some (codes "OpeningPrice")) ∷ []
+reason_facts (Undercut i j) =
+    Named (codes "reason") (Some (codes "Undercut")) ∷ Bare (codes "from") i ∷ Bare (codes "to") j ∷ []
+reason_facts NotACut = Named (codes "reason") (Some (codes "NotACut")) ∷ []
+reason_facts (OverLimit i j) =
+    Named (codes "reason") (Some (codes "OverLimit")) ∷ Bare (codes "from") i ∷ Bare (codes "to") j ∷ []
+reason_facts TotalDiffers = Named (codes "reason") (Some (codes "TotalDiffers")) ∷ []
+reason_facts EndPrice = Named (codes "reason") (Some (codes "EndPrice")) ∷ []
 
--- the line of a verdict, with the exit status
-abbrev pub verdict_text : Verdict → Said
-verdict_text Accepted = record { status = 0; out = codes "accepted\n"; err = []; hint = None }
-verdict_text (Refused reason) =
-    record { status = 1; out = codes "refused " ++ reason_text reason; err = []; hint = None }
+-- whether a certificate is accepted
+abbrev pub accepted_fact : Bool → Fact
+accepted_fact accepted = Chosen (codes "accepted") accepted (codes "accepted") (codes "refused")
 
--- the line for a text that is no certificate of the queue, with the exit status and the hint
-abbrev pub no_cert : List ℕ → Hint → Said
-no_cert cause hint = record { status = 2; out = []; err = codes "jb: certificate: " ++ cause; hint = Some hint }
+-- what is reported of a verdict
+abbrev pub verdict_facts : Verdict → List Fact
+verdict_facts Accepted = accepted_fact true ∷ []
+verdict_facts (Refused reason) = accepted_fact false ∷ reason_facts reason
 
--- what is said of such a text; none where memory ran out
-abbrev pub cert_fault : CertFault → Option Said
-cert_fault (Syntax line) = Some (no_cert (codes "Syntax " ++ (decimal line ++ codes "\n")) CertificateSyntax)
-cert_fault Length = Some (no_cert (codes "Length\n") CertificateLength)
-cert_fault Memory = None
+-- the exit status of a verdict
+abbrev pub verdict_status : Verdict → ℕ
+verdict_status Accepted = 0
+verdict_status (Refused reason) = 1
+
+-- what is said of a verdict, in this form
+abbrev pub verdict_text : AnswerForm → Verdict → Said
+verdict_text form verdict =
+    record { status = verdict_status verdict; out = text_in form (verdict_facts verdict); err = []; hint = None }
+
+-- what is said of a text that is no certificate of the queue, in this form; none where memory ran out
+abbrev pub cert_fault : AnswerForm → CertFault → Option Said
+cert_fault form (Syntax line) =
+    Some (text_fault form (codes "certificate Syntax") (line ∷ []) (codes "certificate: Syntax " ∷ decimal line ∷ [])
+    CertificateSyntax)
+cert_fault form Length =
+    Some (text_fault form (codes "certificate Length") [] (codes "certificate: Length" ∷ []) CertificateLength)
+cert_fault form Memory = None
 
 -- the verdict on a certificate of the queue; where it is accepted, its answer is right
 pub record IsVerdictOn (q : Queue) (cert : Cert) (verdict : Verdict) : Type 0 where
@@ -53,21 +71,21 @@ pub record IsVerdictOn (q : Queue) (cert : Cert) (verdict : Verdict) : Type 0 wh
   pub right : verdict ≡ Accepted → IsRight (piece_cost geometry q.handles) q.limit (length q.handles) cert.answer
 
 -- what `jb check` says of what the second text claims of the queue, or of that text's first fault
-abbrev pub SaysOfClaim : Queue → Result Claim CertFault → Said → Type 0
-SaysOfClaim q (Ok claim) words =
+abbrev pub SaysOfClaim : AnswerForm → Queue → Result Claim CertFault → Said → Type 0
+SaysOfClaim form q (Ok claim) words =
     (cert : Cert) × (verdict : Verdict) × (claim_of cert ≡ claim) × IsVerdictOn q cert verdict
-    × (words ≡ verdict_text verdict)
-SaysOfClaim q (Err fault) words = cert_fault fault ≡ Some words
+    × (words ≡ verdict_text form verdict)
+SaysOfClaim form q (Err fault) words = cert_fault form fault ≡ Some words
 
 -- what `jb check` says of the bytes of the second text, where the first is a queue's
-abbrev pub SaysCheck : Queue → List ℕ → Said → Type 0
-SaysCheck q claim words = SaysOfClaim q (read_of (length q.handles) claim) words
+abbrev pub SaysCheck : AnswerForm → Queue → List ℕ → Said → Type 0
+SaysCheck form q claim words = SaysOfClaim form q (read_of (length q.handles) claim) words
 
 -- what `jb check` says of a queue, or of the first fault of its text, whatever the certificate
-abbrev pub SaysOfBoth : Result Queue QueueFault → List ℕ → Said → Type 0
-SaysOfBoth (Ok q) claim words = SaysCheck q claim words
-SaysOfBoth (Err fault) claim words = queue_fault fault ≡ Some words
+abbrev pub SaysOfBoth : AnswerForm → Result Queue QueueFault → List ℕ → Said → Type 0
+SaysOfBoth form (Ok q) claim words = SaysCheck form q claim words
+SaysOfBoth form (Err fault) claim words = queue_fault form fault ≡ Some words
 
 -- what `jb check` says of the bytes of both texts
-abbrev pub CheckSays : List ℕ → List ℕ → Said → Type 0
-CheckSays text claim words = SaysOfBoth (queue_of text) claim words
+abbrev pub CheckSays : AnswerForm → List ℕ → List ℕ → Said → Type 0
+CheckSays form text claim words = SaysOfBoth form (queue_of text) claim words

@@ -1,5 +1,5 @@
 -- What `jb cost` says of a queue text.
-use Rattle.std.specs.Prelude.{ℕ, ◌+◌, List, [], ◌++◌, Option, Some, None, Result, Ok, Err, codes, decimal, nat_lt}
+use Rattle.std.specs.Prelude.{ℕ, ◌+◌, Bool, not, List, [], ◌∷◌, Option, Some, None, Result, Ok, Err, codes, nat_lt}
 use Rattle.std.specs.Prelude.{if◌then◌else◌}
 use Rattle.std.specs.Int.{div_ceil}
 use Rattle.std.specs.FinSet as set
@@ -9,6 +9,9 @@ use Rattle.jb_block.specs.Width.{is_wide}
 use Rattle.jb_queue.specs.Queue.{Queue, queue_of}
 use Rattle.jb_handle.specs.Words.{copies, frees}
 use Rattle.jb_queue.specs.declared.fault.QueueFault.{QueueFault}
+use Rattle.jb_json.specs.Facts.{Fact, Chosen, Counted}
+use Rattle.jb_args.specs.declared.settings.AnswerForm.{AnswerForm}
+use Rattle.jb_commands.specs.AnswerForms.{text_in}
 use Rattle.jb_commands.specs.QueueFaults.{queue_fault}
 use Rattle.jb_commands.specs.AnswerSaid.{Said}
 
@@ -26,24 +29,26 @@ queue_cost q =
     1 + set.len (copies q.handles) + div_ceil (set.len (copies q.handles)) (full_tags q)
     + div_ceil (set.len (frees q.handles)) (full_entries q)
 
--- the word for a cost against a limit
-abbrev pub verdict : ℕ → ℕ → List ℕ
-verdict cost limit = if nat_lt limit cost then codes " over\n" else codes " fits\n"
+-- what `jb cost` reports of a cost and a limit, which it is within or not
+abbrev pub cost_facts : ℕ → ℕ → Bool → List Fact
+cost_facts cost limit fits =
+    Counted (codes "cost") cost ∷ Counted (codes "limit") limit
+    ∷ Chosen (codes "fits") fits (codes "fits") (codes "over") ∷ []
 
--- what `jb cost` says of a cost and a limit
-abbrev pub cost_line : ℕ → ℕ → Said
-cost_line cost limit = record {
+-- what `jb cost` says of a cost and a limit, in this form
+abbrev pub cost_line : AnswerForm → ℕ → ℕ → Said
+cost_line form cost limit = record {
   status = if nat_lt limit cost then 1 else 0;
-  out = codes "cost " ++ (decimal cost ++ (codes " limit " ++ (decimal limit ++ verdict cost limit)));
+  out = text_in form (cost_facts cost limit (not (nat_lt limit cost)));
   err = [];
   hint = None;
 }
 
 -- what `jb cost` says of a queue, or of its first fault
-abbrev pub cost_told : Result Queue QueueFault → Option Said
-cost_told (Ok queue) = Some (cost_line (queue_cost queue) queue.limit)
-cost_told (Err fault) = queue_fault fault
+abbrev pub cost_told : AnswerForm → Result Queue QueueFault → Option Said
+cost_told form (Ok queue) = Some (cost_line form (queue_cost queue) queue.limit)
+cost_told form (Err fault) = queue_fault form fault
 
 -- what `jb cost` says of the bytes of a text
-abbrev pub cost_said : List ℕ → Option Said
-cost_said text = cost_told (queue_of text)
+abbrev pub cost_said : AnswerForm → List ℕ → Option Said
+cost_said form text = cost_told form (queue_of text)

@@ -15,7 +15,14 @@ use Rattle.jb_commands.specs.declared.fault.CommandFault.TheVariants.{CannotRead
 -- the lines that the words ask for
 abbrev pub choice_of : DumpWords → DumpFilter
 choice_of w =
-    record { home = w.home; last = w.last; superblock = w.superblock; summary = w.summary; checksums = w.checksums }
+    record {
+      home = w.home;
+      last = w.last;
+      superblock = w.superblock;
+      summary = w.summary;
+      drawn = w.drawn;
+      checksums = w.checksums;
+    }
 
 -- how a command ends by what a dump answers: a text that was written has status 0
 abbrev pub end_by : Result Unit DumpFault → Result ℕ CommandFault

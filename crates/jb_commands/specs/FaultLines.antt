@@ -11,11 +11,15 @@ use Rattle.jb_commands.specs.declared.fault.CommandFault.TheVariants.{NumbersSpe
 use Rattle.jb_commands.specs.declared.streams.fault_line.Numbers.{Numbers}
 use Rattle.jb_commands.specs.declared.streams.fault_line.Numbers.TheVariants as numbers
 
--- what a line has before the name of a file: its words, and its numbers with a space between them
+-- what is said of a fault: its name, and its numbers after it, each with a space before it
+abbrev pub fault_parts : List ℕ → Numbers → List (List ℕ)
+fault_parts words numbers.None = words ∷ []
+fault_parts words (numbers.One number) = words ∷ codes " " ∷ decimal number ∷ []
+fault_parts words (numbers.Two one two) = words ∷ codes " " ∷ decimal one ∷ codes " " ∷ decimal two ∷ []
+
+-- what a line has before the name of a file: whose it is, and what is said of the fault
 abbrev pub parts_of : List ℕ → Numbers → List (List ℕ)
-parts_of words numbers.None = words ∷ []
-parts_of words (numbers.One number) = words ∷ decimal number ∷ []
-parts_of words (numbers.Two one two) = words ∷ decimal one ∷ codes " " ∷ decimal two ∷ []
+parts_of words numbers = codes "jb: " ∷ fault_parts words numbers
 
 -- the name at the end of a fault's line: of the file that it is about, where that is known
 abbrev pub named : Option PairNames → CommandFault → Option (List ℕ)

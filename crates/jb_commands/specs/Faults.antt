@@ -1,5 +1,5 @@
 -- The status, the line and the hint of each way in which a command ends without an answer, and which faults end it so.
-use Rattle.std.specs.Prelude.{ℕ, ◌==◌, ◌&&◌, ◌||◌, if◌then◌else◌, List, [], ◌∷◌, Option, None, Some, codes, decimal}
+use Rattle.std.specs.Prelude.{ℕ, ◌==◌, ◌&&◌, ◌||◌, if◌then◌else◌, List, [], ◌∷◌, Option, None, codes}
 use Rattle.jb_args.specs.declared.hint.Hint.{Hint}
 use Rattle.jb_args.specs.declared.hint.Hint.TheVariants as hint
 use Rattle.jb_dump.specs.declared.fault.DumpFault.{DumpFault}
@@ -24,8 +24,9 @@ use Rattle.jb_super.specs.declared.checked.CheckedSuperFault.{CheckedSuperFault}
 use Rattle.jb_super.specs.declared.checked.CheckedSuperFault.TheVariants as checked
 use Rattle.jb_super.specs.declared.fault.SuperFault.{SuperFault}
 use Rattle.jb_super.specs.declared.fault.SuperFault.TheVariants as super
-use Rattle.jb_commands.specs.Lines.{PairNames, image_named, journal_named, line_naming}
-use Rattle.jb_commands.specs.OwnLines.{own_fault_line}
+use Rattle.jb_commands.specs.FaultLines.{named, parts_of}
+use Rattle.jb_commands.specs.Lines.{PairNames, line_naming}
+use Rattle.jb_commands.specs.OwnLines.{own_words}
 use Rattle.jb_commands.specs.declared.fault.CommandFault.{CommandFault}
 use Rattle.jb_commands.specs.declared.fault.CommandFault.TheVariants.{CannotRead, InUse, MountsUnknown, NoLinks}
 use Rattle.jb_commands.specs.declared.fault.CommandFault.TheVariants.{SameFile, CannotMake, BadOption, TooLong}
@@ -34,6 +35,8 @@ use Rattle.jb_commands.specs.declared.fault.CommandFault.TheVariants.{Extents, B
 use Rattle.jb_commands.specs.declared.fault.CommandFault.TheVariants.{NeedsRecovery, NumbersSpent, BlockSize, Accounts}
 use Rattle.jb_commands.specs.declared.fault.CommandFault.TheVariants.{Geometry, DeviceFault, Memory, WriteFault, Own}
 use Rattle.jb_commands.specs.declared.fault.CommandFault.TheVariants.{ChecksumType, SuperChecksum, BadChecksum, Lost}
+use Rattle.jb_commands.specs.declared.streams.fault_line.Numbers.{Numbers}
+use Rattle.jb_commands.specs.declared.streams.fault_line.Numbers.TheVariants as numbers
 
 -- the exit status
 abbrev pub status_of : CommandFault → ℕ
@@ -69,81 +72,78 @@ status_of WriteFault = 1
 
 -- what a block with a wrong checksum is called
 abbrev pub sum_words : Summed → List ℕ
-sum_words summed.Descriptor = codes "jb: BadChecksum descriptor "
-sum_words summed.Revoke = codes "jb: BadChecksum revoke "
-sum_words summed.Commit = codes "jb: BadChecksum commit "
-sum_words summed.Data = codes "jb: BadChecksum data "
+sum_words summed.Descriptor = codes "BadChecksum descriptor"
+sum_words summed.Revoke = codes "BadChecksum revoke"
+sum_words summed.Commit = codes "BadChecksum commit"
+sum_words summed.Data = codes "BadChecksum data"
 
--- the line of a superblock that is refused, after the name of a file: the fault's name and its numbers; of a feature
--- word, 1, 2 or 3, those of its bits that are not taken
-abbrev pub super_line : Option (List ℕ) → SuperFault → List ℕ
-super_line name super.ShortBlock = line_naming (codes "jb: Super ShortBlock" ∷ []) name
-super_line name super.NoMagic = line_naming (codes "jb: Super NoMagic" ∷ []) name
-super_line name (super.NotVersion2 kind) = line_naming (codes "jb: Super NotVersion2 " ∷ decimal kind ∷ []) name
-super_line name (super.BlockSize size) = line_naming (codes "jb: Super BlockSize " ∷ decimal size ∷ []) name
-super_line name super.Geometry = line_naming (codes "jb: Super Geometry" ∷ []) name
-super_line name (super.Feature word bits) =
-    line_naming (codes "jb: Super Feature " ∷ decimal word ∷ codes " " ∷ decimal bits ∷ []) name
+-- the name of a superblock's fault, and its numbers: of a feature word, 1, 2 or 3, those of its bits that are not taken
+abbrev pub super_words : SuperFault → List ℕ × Numbers
+super_words super.ShortBlock = (codes "Super ShortBlock", numbers.None)
+super_words super.NoMagic = (codes "Super NoMagic", numbers.None)
+super_words (super.NotVersion2 kind) = (codes "Super NotVersion2", numbers.One kind)
+super_words (super.BlockSize size) = (codes "Super BlockSize", numbers.One size)
+super_words super.Geometry = (codes "Super Geometry", numbers.None)
+super_words (super.Feature word bits) = (codes "Super Feature", numbers.Two word bits)
 
--- the line of a journal that is not recovered into a file system: the fault's name, and the bytes of the file system's
--- blocks
-abbrev pub system_line : Option (List ℕ) → FileSystemFault → List ℕ
-system_line name (system.BlockSize size) = line_naming (codes "jb: FileSystem BlockSize " ∷ decimal size ∷ []) name
-system_line name system.Uuid = line_naming (codes "jb: FileSystem Uuid" ∷ []) name
-system_line name system.Clean = line_naming (codes "jb: FileSystem Clean" ∷ []) name
-system_line name system.Newer = line_naming (codes "jb: FileSystem Newer" ∷ []) name
-system_line name system.Unrecovered = line_naming (codes "jb: FileSystem Unrecovered" ∷ []) name
+-- the same of a journal that is not recovered into a file system: the bytes of that one's blocks
+abbrev pub system_words : FileSystemFault → List ℕ × Numbers
+system_words (system.BlockSize size) = (codes "FileSystem BlockSize", numbers.One size)
+system_words system.Uuid = (codes "FileSystem Uuid", numbers.None)
+system_words system.Clean = (codes "FileSystem Clean", numbers.None)
+system_words system.Newer = (codes "FileSystem Newer", numbers.None)
+system_words system.Unrecovered = (codes "FileSystem Unrecovered", numbers.None)
 
--- the line of extents that do not hold the journal: the fault's name, and a block or how many they have
-abbrev pub extents_line : ExtentsFault → List ℕ
-extents_line (extents.Overlap block) = line_naming (codes "jb: Extents Overlap " ∷ decimal block ∷ []) None
-extents_line (extents.PastEnd block) = line_naming (codes "jb: Extents PastEnd " ∷ decimal block ∷ []) None
-extents_line (extents.Short blocks) = line_naming (codes "jb: Extents Short " ∷ decimal blocks ∷ []) None
-extents_line (extents.Long blocks) = line_naming (codes "jb: Extents Long " ∷ decimal blocks ∷ []) None
-extents_line extents.NoJournal = line_naming (codes "jb: Extents NoJournal" ∷ []) None
-extents_line (extents.BlockSizes one other) =
-    line_naming (codes "jb: Extents BlockSizes " ∷ decimal one ∷ codes " " ∷ decimal other ∷ []) None
-extents_line (extents.Front block) = line_naming (codes "jb: Extents Front " ∷ decimal block ∷ []) None
-extents_line (extents.Home home) = line_naming (codes "jb: Extents Home " ∷ decimal home ∷ []) None
-extents_line extents.Nothing = line_naming (codes "jb: Extents Nothing" ∷ []) None
-extents_line (extents.Other place) = line_naming (codes "jb: Extents Other " ∷ decimal place ∷ []) None
-extents_line (extents.Broken place) = line_naming (codes "jb: Extents Broken " ∷ decimal place ∷ []) None
+-- the same of extents that do not hold the journal: a block, or how many they have
+abbrev pub extents_words : ExtentsFault → List ℕ × Numbers
+extents_words (extents.Overlap block) = (codes "Extents Overlap", numbers.One block)
+extents_words (extents.PastEnd block) = (codes "Extents PastEnd", numbers.One block)
+extents_words (extents.Short blocks) = (codes "Extents Short", numbers.One blocks)
+extents_words (extents.Long blocks) = (codes "Extents Long", numbers.One blocks)
+extents_words extents.NoJournal = (codes "Extents NoJournal", numbers.None)
+extents_words (extents.BlockSizes one other) = (codes "Extents BlockSizes", numbers.Two one other)
+extents_words (extents.Front block) = (codes "Extents Front", numbers.One block)
+extents_words (extents.Home home) = (codes "Extents Home", numbers.One home)
+extents_words extents.Nothing = (codes "Extents Nothing", numbers.None)
+extents_words (extents.Other place) = (codes "Extents Other", numbers.One place)
+extents_words (extents.Broken place) = (codes "Extents Broken", numbers.One place)
+
+-- the name of a fault, and its numbers
+abbrev pub fault_words : CommandFault → List ℕ × Numbers
+fault_words (CannotRead name code) = (codes "cannot read", numbers.None)
+fault_words (InUse name) = (codes "in use", numbers.None)
+fault_words (MountsUnknown name) = (codes "mounts unknown", numbers.None)
+fault_words (NoLinks name) = (codes "no links", numbers.None)
+fault_words (SameFile name) = (codes "same file", numbers.None)
+fault_words (CannotMake name code) = (codes "cannot make", numbers.None)
+fault_words (BadOption option) = (codes "bad option", numbers.None)
+fault_words (TooLong name) = (codes "too long", numbers.None)
+fault_words ReadFault = (codes "ReadFault", numbers.None)
+fault_words (Super fault) = super_words fault
+fault_words (JournalLength blocks maxlen) = (codes "JournalLength", numbers.Two blocks maxlen)
+fault_words (FileSystem fault) = system_words fault
+fault_words (Extents fault) = extents_words fault
+fault_words (Own fault) = own_words fault
+fault_words (ChecksumType kind) = (codes "Super ChecksumType", numbers.One kind)
+fault_words SuperChecksum = (codes "Super Checksum", numbers.None)
+fault_words (BadChecksum what place) = (sum_words what, numbers.One place)
+fault_words (Lost place) = (codes "Lost", numbers.One place)
+fault_words (BadRevoke place) = (codes "BadRevoke", numbers.One place)
+fault_words (HomeOutOfRange home number homes) = (codes "HomeOutOfRange", numbers.Two home number)
+fault_words (NoHome home homes) = (codes "NoHome", numbers.One home)
+fault_words NeedsRecovery = (codes "NeedsRecovery", numbers.None)
+fault_words NumbersSpent = (codes "NumbersSpent", numbers.None)
+fault_words BlockSize = (codes "BlockSize", numbers.None)
+fault_words Accounts = (codes "Accounts", numbers.None)
+fault_words Geometry = (codes "Geometry", numbers.None)
+fault_words DeviceFault = (codes "DeviceFault", numbers.None)
+fault_words Memory = (codes "Memory", numbers.None)
+fault_words WriteFault = (codes "WriteFault", numbers.None)
 
 -- the line on standard error. Of a command over two files it ends with the name of the one that it is about, where that
 -- is known
 abbrev pub line_of : Option PairNames → CommandFault → List ℕ
-line_of names (CannotRead name code) = line_naming (codes "jb: cannot read" ∷ []) (Some name.now)
-line_of names (InUse name) = line_naming (codes "jb: in use" ∷ []) (Some name.now)
-line_of names (MountsUnknown name) = line_naming (codes "jb: mounts unknown" ∷ []) (Some name.now)
-line_of names (NoLinks name) = line_naming (codes "jb: no links" ∷ []) (Some name.now)
-line_of names (SameFile name) = line_naming (codes "jb: same file" ∷ []) (Some name.now)
-line_of names (CannotMake name code) = line_naming (codes "jb: cannot make" ∷ []) (Some name.now)
-line_of names (BadOption option) = line_naming (codes "jb: bad option" ∷ []) None
-line_of names (TooLong name) = line_naming (codes "jb: too long" ∷ []) (Some name.now)
-line_of names ReadFault = line_naming (codes "jb: ReadFault" ∷ []) None
-line_of names (Super fault) = super_line (journal_named names) fault
-line_of names (JournalLength blocks maxlen) =
-    line_naming (codes "jb: JournalLength " ∷ decimal blocks ∷ codes " " ∷ decimal maxlen ∷ []) (journal_named names)
-line_of names (FileSystem fault) = system_line (image_named names) fault
-line_of names (Extents fault) = extents_line fault
-line_of names (Own fault) = own_fault_line fault
-line_of names (ChecksumType kind) =
-    line_naming (codes "jb: Super ChecksumType " ∷ decimal kind ∷ []) (journal_named names)
-line_of names SuperChecksum = line_naming (codes "jb: Super Checksum" ∷ []) (journal_named names)
-line_of names (BadChecksum what place) = line_naming (sum_words what ∷ decimal place ∷ []) (journal_named names)
-line_of names (Lost place) = line_naming (codes "jb: Lost " ∷ decimal place ∷ []) (journal_named names)
-line_of names (BadRevoke place) = line_naming (codes "jb: BadRevoke " ∷ decimal place ∷ []) (journal_named names)
-line_of names (HomeOutOfRange home number homes) =
-    line_naming (codes "jb: HomeOutOfRange " ∷ decimal home ∷ codes " " ∷ decimal number ∷ []) (image_named names)
-line_of names (NoHome home homes) = line_naming (codes "jb: NoHome " ∷ decimal home ∷ []) (image_named names)
-line_of names NeedsRecovery = line_naming (codes "jb: NeedsRecovery" ∷ []) (journal_named names)
-line_of names NumbersSpent = line_naming (codes "jb: NumbersSpent" ∷ []) (journal_named names)
-line_of names BlockSize = line_naming (codes "jb: BlockSize" ∷ []) None
-line_of names Accounts = line_naming (codes "jb: Accounts" ∷ []) None
-line_of names Geometry = line_naming (codes "jb: Geometry" ∷ []) None
-line_of names DeviceFault = line_naming (codes "jb: DeviceFault" ∷ []) None
-line_of names Memory = line_naming (codes "jb: Memory" ∷ []) None
-line_of names WriteFault = line_naming (codes "jb: WriteFault" ∷ []) None
+line_of names fault = line_naming (parts_of (fault_words fault).0 (fault_words fault).1) (named names fault)
 
 -- what a second line is about after the line of a superblock that is refused
 abbrev pub super_hint : SuperFault → Hint

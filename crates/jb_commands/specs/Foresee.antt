@@ -1,31 +1,25 @@
 -- How `jb recover --dry-run` ends on a disk.
-use Rattle.std.specs.Prelude.{ℕ, Bool, if◌then◌else◌, List, [], ◌∷◌, ◌++◌, map, Option, Some, None, Result, Ok, Err}
-use Rattle.std.specs.Prelude.{codes, decimal}
+use Rattle.std.specs.Prelude.{ℕ, Bool, if◌then◌else◌, List, [], ◌∷◌, ◌++◌, Option, Some, None, Result, Ok, Err}
+use Rattle.std.specs.Prelude.{codes}
 use Rattle.jb_ext.specs.declared.choosing.MapSource.{MapSource}
 use Rattle.jb_image.specs.declared.extents_fault.ExtentsFault.TheVariants.{Home}
-use Rattle.jb_text.specs.TextParts.{spelled}
+use Rattle.jb_json.specs.Facts.{Fact, Listed}
 use Rattle.jb_image.specs.Images.{own_home}
 use Rattle.jb_image.specs.declared.image.ImageDisk.{ImageDisk}
 use Rattle.jb_recover.specs.declared.checked_fault.CheckedFault.{CheckedFault}
 use Rattle.jb_recover.specs.declared.recovered.Foreseen.{Foreseen}
 use Rattle.jb_commands.specs.Faults.{recover_fault}
-use Rattle.jb_commands.specs.Recover.{recovered_line}
+use Rattle.jb_commands.specs.Recover.{recovered_facts}
 use Rattle.jb_commands.specs.declared.fault.CommandFault.{CommandFault}
 use Rattle.jb_commands.specs.declared.fault.CommandFault.TheVariants.{Extents as InExtents}
 use Rattle.jb_commands.specs.declared.report.Report.{Report}
 use Rattle.jb_commands.specs.declared.report.Report.TheVariants.{Foreseen as ReportsForeseen}
 
--- the line of a home block that would be written
-abbrev pub home_line : ℕ → List ℕ
-home_line home = spelled (codes "home " ∷ decimal home ∷ codes "\n" ∷ [])
-
--- the lines of home blocks
-abbrev pub homes_lines : List ℕ → List ℕ
-homes_lines homes = spelled (map home_line homes)
-
--- what is said of a recovery beforehand: the line that it has, and the home blocks where they are asked for
-abbrev pub foreseen_text : Bool → Option MapSource → Foreseen → List ℕ
-foreseen_text list found told = recovered_line found told.counts ++ (if list then homes_lines told.homes.items else [])
+-- what is reported of a recovery beforehand: what it reports, and the home blocks where they are asked for
+abbrev pub foreseen_facts : Bool → Option MapSource → Foreseen → List Fact
+foreseen_facts list found told =
+    recovered_facts found told.counts
+    ++ (if list then Listed (codes "homes") (codes "home") told.homes.items ∷ [] else [])
 
 -- what was foreseen of an image, by the first home block that would be written and is the journal's own, if there is
 -- one

@@ -1,16 +1,16 @@
--- The line of `jb format`, and what it says of a journal that was made.
-use Rattle.std.specs.Prelude.{ℕ, List, [], ◌∷◌, codes, decimal}
+-- What `jb format` reports of a journal that was made.
+use Rattle.std.specs.Prelude.{ℕ, true, List, [], ◌∷◌, codes}
 use Rattle.jb_block.specs.Size.{bytes_of}
 use Rattle.jb_block.specs.Width.{is_wide}
 use Rattle.jb_image.specs.declared.image_geometry.ImageGeometry.{ImageGeometry}
-use Rattle.jb_text.specs.TextParts.{spelled}
+use Rattle.jb_json.specs.Facts.{Fact, Counted, Marked}
 use Rattle.jb_super.specs.Features.{of_width}
 use Rattle.jb_super.specs.Geometry.{limit_of}
 use Rattle.jb_super.specs.Superblock.{new_super}
 
--- the line of a new journal with this limit
-abbrev pub formatted_line : ℕ → List ℕ
-formatted_line limit = spelled (codes "formatted limit " ∷ decimal limit ∷ codes "\n" ∷ [])
+-- what is reported of a new journal with this limit
+abbrev pub formatted_facts : ℕ → List Fact
+formatted_facts limit = Marked (codes "formatted") true ∷ Counted (codes "limit") limit ∷ []
 
 -- the most log blocks of a transaction of such a journal
 abbrev pub new_limit_of : ImageGeometry → ℕ

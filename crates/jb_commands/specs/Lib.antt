@@ -1,3 +1,4 @@
+pub mod AnswerForms
 pub mod AnswerSaid
 pub mod Cat
 pub mod Change
@@ -6,9 +7,11 @@ pub mod Check
 pub mod Checking
 pub mod Cost
 pub mod Dump
+pub mod DumpForm
 pub mod DumpPlace
 pub mod Ends
 pub mod FaultLines
+pub mod FaultReports
 pub mod Faults
 pub mod Files
 pub mod Foresee
@@ -30,4 +33,6 @@ pub mod Recover
 pub mod Reports
 pub mod Runs
 pub mod Searched
+pub mod TextFaults
 pub mod Texts
+pub mod Watched

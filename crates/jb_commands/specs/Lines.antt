@@ -14,21 +14,42 @@ abbrev pub upto : (ℕ → List ℕ) → ℕ → List ℕ
 upto text zero = []
 upto text (suc n) = upto text n ++ text n
 
--- a byte is the second one of a control character of two bytes, the first of which is 194
-abbrev pub is_second : ℕ → Bool
-is_second b = not (nat_lt b 128) && nat_lt b 160
+-- a byte is a control character
+abbrev pub is_control : ℕ → Bool
+is_control a = nat_lt a 32 || a == 127
 
--- the byte at this place of a name belongs to a control character: it is one alone, or one of two together are
-abbrev pub is_control_at : List ℕ → ℕ → Bool
-is_control_at name at =
-    (nat_lt (get_or name at 0) 32 || get_or name at 0 == 127)
-    || ((get_or name at 0 == 194 && is_second (get_or name (at + 1) 0))
-    || (is_second (get_or name at 0) && (not (at == 0) && get_or name (at - 1) 0 == 194)))
+-- two bytes are a control character (U+0080 to U+009F), or one that turns the direction of a text (U+061C)
+abbrev pub is_control_pair : ℕ → ℕ → Bool
+is_control_pair a b = (a == 194 && (not (nat_lt b 128) && nat_lt b 160)) || (a == 216 && b == 156)
 
--- the byte at this place of a name as it is shown: of a control character as `\x` and two hexadecimal digits
+-- three bytes are a character that turns the direction of a text, or ends its line (U+200E, U+200F, U+2028 to U+202E,
+-- U+2066 to U+2069)
+abbrev pub is_control_triple : ℕ → ℕ → ℕ → Bool
+is_control_triple a b c =
+    a == 226 && ((b == 128 && ((c == 142 || c == 143) || (not (nat_lt c 168) && nat_lt c 175)))
+    || (b == 129 && (not (nat_lt c 166) && nat_lt c 170)))
+
+-- how many bytes the character has that begins with these three and is not shown; 0 where it is shown
+abbrev pub hidden_length : ℕ → ℕ → ℕ → ℕ
+hidden_length a b c =
+    if is_control a then 1 else if is_control_pair a b then 2 else if is_control_triple a b c then 3 else 0
+
+-- the same of the character that begins at this place of a name
+abbrev pub hidden_from : List ℕ → ℕ → ℕ
+hidden_from name at = hidden_length (get_or name at 0) (get_or name (at + 1) 0) (get_or name (at + 2) 0)
+
+-- the byte at this place of a name belongs to a character that is not shown, and that begins so many bytes before
+abbrev pub is_hidden_after : List ℕ → ℕ → ℕ → Bool
+is_hidden_after name at before = not (nat_lt at before) && nat_lt before (hidden_from name (at - before))
+
+-- the byte at this place of a name belongs to a character that is not shown
+abbrev pub is_hidden_at : List ℕ → ℕ → Bool
+is_hidden_at name at = is_hidden_after name at 0 || (is_hidden_after name at 1 || is_hidden_after name at 2)
+
+-- the byte at this place of a name as it is shown: of a character that is not shown as `\x` and two hexadecimal digits
 abbrev pub shown_at : List ℕ → ℕ → List ℕ
 shown_at name at =
-    if is_control_at name at then 92 ∷ 120 ∷ encode_lower (get_or name at 0 ∷ []) else get_or name at 0 ∷ []
+    if is_hidden_at name at then 92 ∷ 120 ∷ encode_lower (get_or name at 0 ∷ []) else get_or name at 0 ∷ []
 
 -- a name as it is shown
 abbrev pub shown_name : List ℕ → List ℕ

@@ -7,6 +7,7 @@ use Rattle.jb_args.specs.declared.option_name.OptionName.TheVariants.{Bs, Homes,
 use Rattle.jb_block.specs.Size.{bytes_of, IsBlockSize}
 use Rattle.jb_block.specs.Width.{is_wide}
 use Rattle.jb_args.specs.PlainCommand.{GivenOptions}
+use Rattle.jb_image.specs.Create.{is_sparse}
 use Rattle.jb_image.specs.declared.image_geometry.ImageGeometry.{ImageGeometry}
 
 -- as many blocks as a journal may have
@@ -47,3 +48,4 @@ pub record IsAskedBy (o : GivenOptions) (g : ImageGeometry) : Type 0 where
   pub max : g.max_transaction ≡ o.max
   pub uuid : decode_of o.uuid ≡ Ok g.uuid
   pub width : is_wide g.width ≡ o.wide
+  pub allocation : is_sparse g.allocation ≡ o.sparse

@@ -1,5 +1,5 @@
 -- What `jb plan` says of a queue text.
-use Rattle.std.specs.Prelude.{◌≡◌, ℕ, List, [], Option, Some, None, Result, Ok, Err, length}
+use Rattle.std.specs.Prelude.{◌≡◌, ℕ, List, [], ◌∷◌, Option, Some, None, Result, Ok, Err, codes, length}
 use Rattle.jb_cost.specs.Cut.{ArePrices, EachPiece, IsFirstToAttain, piece_cost}
 use Rattle.jb_cost.specs.declared.geometry.Geometry.{Geometry}
 use Rattle.jb_queue.specs.Queue.{Queue, queue_of}
@@ -11,6 +11,10 @@ use Rattle.jb_price.specs.Verdict.{IsRight}
 use Rattle.jb_price.specs.declared.certificate.Cert.{Cert}
 use Rattle.jb_price.specs.declared.certificate.CertAnswer.{CertAnswer}
 use Rattle.jb_price.specs.declared.certificate.CertAnswer.TheVariants.{Cut, NoCut}
+use Rattle.jb_json.specs.Facts.{Fact, Counted, Listed, Named, Sparse}
+use Rattle.jb_json.specs.Objects.{json_line}
+use Rattle.jb_args.specs.declared.settings.AnswerForm.{AnswerForm}
+use Rattle.jb_args.specs.declared.settings.AnswerForm.TheVariants.{Json, Text}
 use Rattle.jb_commands.specs.Cost.{full_entries, full_tags}
 use Rattle.jb_commands.specs.QueueFaults.{queue_fault}
 use Rattle.jb_commands.specs.AnswerSaid.{Said}
@@ -46,15 +50,29 @@ abbrev pub IsBestCertOf : Queue → Cert → Type 0
 IsBestCertOf q cert =
     (g : Geometry) × IsGeometryOf q g × IsBestCert (piece_cost g q.handles) q.limit (length q.handles) cert
 
--- what `jb plan` says of a certificate
-abbrev pub plan_text : Cert → Said
-plan_text cert = record { status = status_of_plan cert.answer; out = cert_text cert; err = []; hint = None }
+-- what is reported in JSON of a certificate's answer: the cut's bounds and its total, or null for both
+abbrev pub answer_facts : CertAnswer → List Fact
+answer_facts (Cut bounds total) = Listed (codes "cut") [] bounds.items ∷ Counted (codes "total") total ∷ []
+answer_facts NoCut = Named (codes "cut") None ∷ Named (codes "total") None ∷ []
 
--- what `jb plan` says of a queue, or of its first fault: the text of its best certificate
-abbrev pub SaysPlan : Result Queue QueueFault → Said → Type 0
-SaysPlan (Ok q) words = (cert : Cert) × IsBestCertOf q cert × (words ≡ plan_text cert)
-SaysPlan (Err fault) words = queue_fault fault ≡ Some words
+-- what is reported in JSON of a certificate: the prices and the answer that its text has
+abbrev pub cert_facts : Cert → List Fact
+cert_facts cert = Sparse (codes "prices") cert.prices.items ∷ answer_facts cert.answer
+
+-- a certificate in a form: its text, or the same in JSON
+abbrev pub cert_in : AnswerForm → Cert → List ℕ
+cert_in Text cert = cert_text cert
+cert_in Json cert = json_line (cert_facts cert)
+
+-- what `jb plan` says of a certificate, in this form
+abbrev pub plan_text : AnswerForm → Cert → Said
+plan_text form cert = record { status = status_of_plan cert.answer; out = cert_in form cert; err = []; hint = None }
+
+-- what `jb plan` says of a queue, or of its first fault: its best certificate
+abbrev pub SaysPlan : AnswerForm → Result Queue QueueFault → Said → Type 0
+SaysPlan form (Ok q) words = (cert : Cert) × IsBestCertOf q cert × (words ≡ plan_text form cert)
+SaysPlan form (Err fault) words = queue_fault form fault ≡ Some words
 
 -- what `jb plan` says of the bytes of a text
-abbrev pub PlanSays : List ℕ → Said → Type 0
-PlanSays text words = SaysPlan (queue_of text) words
+abbrev pub PlanSays : AnswerForm → List ℕ → Said → Type 0
+PlanSays form text words = SaysPlan form (queue_of text) words

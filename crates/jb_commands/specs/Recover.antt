@@ -1,8 +1,8 @@
--- How a recovery of a disk ends, and its line.
-use Rattle.std.specs.Prelude.{◌≡◌, ℕ, List, [], ◌∷◌, Option, Some, Result, Ok, Err, codes, decimal}
+-- How a recovery of a disk ends, and what it reports.
+use Rattle.std.specs.Prelude.{◌≡◌, ℕ, Bool, true, false, List, [], ◌∷◌, Option, Some, Result, Ok, Err, codes}
 use Rattle.jb_ext.specs.declared.choosing.MapSource.{MapSource}
 use Rattle.jb_ext.specs.declared.choosing.MapSource.TheVariants.{Backup}
-use Rattle.jb_text.specs.TextParts.{spelled}
+use Rattle.jb_json.specs.Facts.{Fact, Counted, Marked}
 use Rattle.jb_recover.specs.declared.checked_fault.CheckedFault.{CheckedFault}
 use Rattle.jb_recover.specs.declared.recovered.Recovered.{Recovered}
 use Rattle.jb_super.specs.declared.checked.Checksums.{Checksums}
@@ -13,17 +13,17 @@ use Rattle.jb_commands.specs.declared.report.Report.{Report}
 use Rattle.jb_commands.specs.declared.report.Report.TheVariants.{Recovered as ReportsRecovered}
 use Rattle.jb_disk.specs.declared.disk.Disk.{Ghosts as Disks}
 
--- the word for a journal that was found by the superblock's copy of its map
-abbrev pub found_word : Option MapSource → List ℕ
-found_word (Some Backup) = codes " backup"
-found_word _ = []
+-- whether a journal was found by the superblock's copy of its map
+abbrev pub is_backup : Option MapSource → Bool
+is_backup (Some Backup) = true
+is_backup _ = false
 
--- the line of a recovery, of a journal of which this said where it is
-abbrev pub recovered_line : Option MapSource → Recovered → List ℕ
-recovered_line found r = spelled (
-    codes "transactions " ∷ decimal r.transactions ∷ codes " copies " ∷ decimal r.copies ∷ codes " revoked "
-    ∷ decimal r.revoked
-    ∷ codes " next " ∷ decimal r.next ∷ found_word found ∷ codes "\n" ∷ [])
+-- what a recovery reports, of a journal of which this said where it is
+abbrev pub recovered_facts : Option MapSource → Recovered → List Fact
+recovered_facts found r =
+    Counted (codes "transactions") r.transactions ∷ Counted (codes "copies") r.copies
+    ∷ Counted (codes "revoked") r.revoked
+    ∷ Counted (codes "next") r.next ∷ Marked (codes "backup") (is_backup found) ∷ []
 
 -- what a recovery answered, as the command's end: its counts, and what said where the journal is; or its fault with the
 -- number of home blocks

@@ -1,10 +1,12 @@
 -- What a command has to say once its image is closed.
 use Rattle.std.specs.Prelude.{◌≡◌, ℕ, List, Option, Result, Ok, Err}
-use Rattle.jb_commands.specs.Change.{renumbered_line, widened_line}
+use Rattle.jb_args.specs.declared.settings.AnswerForm.{AnswerForm}
+use Rattle.jb_commands.specs.AnswerForms.{text_in}
+use Rattle.jb_commands.specs.Change.{renumbered_facts, widened_facts}
 use Rattle.jb_commands.specs.Ends.{with_status}
-use Rattle.jb_commands.specs.Foresee.{foreseen_text}
-use Rattle.jb_commands.specs.Format.{formatted_line}
-use Rattle.jb_commands.specs.Recover.{recovered_line}
+use Rattle.jb_commands.specs.Foresee.{foreseen_facts}
+use Rattle.jb_commands.specs.Format.{formatted_facts}
+use Rattle.jb_commands.specs.Recover.{recovered_facts}
 use Rattle.jb_commands.specs.Outputs.{TellsLine}
 use Rattle.jb_commands.specs.declared.program_end.ProgramEnd.{ProgramEnd}
 use Rattle.jb_commands.specs.declared.fault.CommandFault.{CommandFault}
@@ -12,22 +14,26 @@ use Rattle.jb_commands.specs.declared.report.Report.{Report}
 use Rattle.jb_commands.specs.declared.report.Report.TheVariants.{Said, Formatted, Foreseen, Recovered, Renumbered}
 use Rattle.jb_commands.specs.declared.report.Report.TheVariants.{Widened}
 
--- it is on standard output, with status 0, or standard output failed part of the way; of a command that has said all
--- itself, its end
-abbrev pub TellsReport : Report → Option (List ℕ) → Option (List ℕ) → Result ProgramEnd CommandFault → Type 0
-TellsReport (Said ended) out_old out_new end = (end ≡ Ok ended) × (out_new ≡ out_old)
-TellsReport (Formatted limit) out_old out_new end = TellsLine (formatted_line limit) out_old out_new end
-TellsReport (Recovered done found) out_old out_new end = TellsLine (recovered_line found done) out_old out_new end
-TellsReport (Foreseen told list found) out_old out_new end =
-    TellsLine (foreseen_text list found told) out_old out_new end
-TellsReport (Renumbered done) out_old out_new end = TellsLine (renumbered_line done) out_old out_new end
-TellsReport (Widened done) out_old out_new end = TellsLine (widened_line done) out_old out_new end
-
--- what a command ended with is reported, or it ended with a fault, and then nothing is written
-abbrev pub TellsEnd : Result Report CommandFault → Option (List ℕ) → Option (List ℕ) → Result ProgramEnd CommandFault
+-- it is on standard output in this form, with status 0, or standard output failed part of the way; of a command that
+-- has said all itself, its end
+abbrev pub TellsReport : AnswerForm → Report → Option (List ℕ) → Option (List ℕ) → Result ProgramEnd CommandFault
     → Type 0
-TellsEnd (Ok report) out_old out_new end = TellsReport report out_old out_new end
-TellsEnd (Err fault) out_old out_new end = (end ≡ Err fault) × (out_new ≡ out_old)
+TellsReport form (Said ended) out_old out_new end = (end ≡ Ok ended) × (out_new ≡ out_old)
+TellsReport form (Formatted limit) out_old out_new end =
+    TellsLine (text_in form (formatted_facts limit)) out_old out_new end
+TellsReport form (Recovered done found) out_old out_new end =
+    TellsLine (text_in form (recovered_facts found done)) out_old out_new end
+TellsReport form (Foreseen told list found) out_old out_new end =
+    TellsLine (text_in form (foreseen_facts list found told)) out_old out_new end
+TellsReport form (Renumbered done) out_old out_new end =
+    TellsLine (text_in form (renumbered_facts done)) out_old out_new end
+TellsReport form (Widened done) out_old out_new end = TellsLine (text_in form (widened_facts done)) out_old out_new end
+
+-- what a command ended with is reported in this form, or it ended with a fault, and then nothing is written
+abbrev pub TellsEnd : AnswerForm → Result Report CommandFault → Option (List ℕ) → Option (List ℕ)
+    → Result ProgramEnd CommandFault → Type 0
+TellsEnd form (Ok report) out_old out_new end = TellsReport form report out_old out_new end
+TellsEnd form (Err fault) out_old out_new end = (end ≡ Err fault) × (out_new ≡ out_old)
 
 -- the end of a command that has said all itself, and ends so
 abbrev pub said_end : Result ProgramEnd CommandFault → Result Report CommandFault

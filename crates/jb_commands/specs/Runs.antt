@@ -9,13 +9,16 @@ use Rattle.jb_text.specs.Puts.{PutsPart}
 use Rattle.jb_image.specs.Files.{FileImage}
 use Rattle.jb_image.specs.declared.image.ImageDisk.{ImageDisk}
 use Rattle.jb_args.specs.PlainCommand.{Asked}
+use Rattle.jb_args.specs.declared.settings.AnswerForm.{AnswerForm}
+use Rattle.jb_args.specs.declared.settings.AnswerForm.TheVariants.{Json, Text}
+use Rattle.jb_json.specs.Objects.{json_line}
 use Rattle.jb_args.specs.PlainCommand.Asked.{AsksCat, AsksCheck, AsksCost, AsksDump, AsksFormat, AsksPlan, AsksRecover}
 use Rattle.jb_args.specs.PlainCommand.Asked.{AsksRenumber, AsksWiden}
 use Rattle.jb_commands.specs.Check.{CheckSays}
 use Rattle.jb_commands.specs.Cost.{cost_said}
 use Rattle.jb_commands.specs.Limits.{cert_limit}
 use Rattle.jb_commands.specs.Dump.{reads_dump}
-use Rattle.jb_commands.specs.DumpPlace.{EndsOfDump}
+use Rattle.jb_commands.specs.DumpForm.{EndsOfDumpIn}
 use Rattle.jb_commands.specs.ChangePlace.{EndsOfChange}
 use Rattle.jb_commands.specs.Files.{EndsOfFormat}
 use Rattle.jb_commands.specs.JournalPlace.{EndsOfCat, EndsOfRecover}
@@ -23,6 +26,7 @@ use Rattle.jb_commands.specs.Plan.{PlanSays}
 use Rattle.jb_commands.specs.AnswerSaid.{Said}
 use Rattle.jb_commands.specs.Outputs.{Outputs, Tells}
 use Rattle.jb_commands.specs.Ends.{of_fault}
+use Rattle.jb_commands.specs.FaultReports.{fault_facts}
 use Rattle.jb_commands.specs.Reports.{TellsEnd, said_end, status_end}
 use Rattle.jb_commands.specs.ListText.{reads_list}
 use Rattle.jb_commands.specs.Faults.{line_of}
@@ -60,12 +64,19 @@ EndsOfClaim Says other old new end =
     × Tells words old new end)
     ⊎ ((fault : CommandFault) × (end ≡ Err fault) × HasNoTextWithin cert_limit other None fault × (new ≡ old))
 
--- the program's end, and the line of a command that ended without an answer, over the files of these names where they
--- are two
-abbrev pub Closes : Option PairNames → Result ProgramEnd CommandFault → Outputs → Outputs → ProgramEnd → Type 0
-Closes names (Ok told) old new ended = (ended ≡ told) × (new ≡ old)
-Closes names (Err fault) old new ended =
-    (ended ≡ of_fault fault) × (new.out ≡ old.out) × PutsPart old.err new.err (line_of names fault)
+-- what is said of a fault on standard error, as far as that took it: its line, or its JSON with some text of the
+-- system's, over the files of these names where they are two
+abbrev pub TellsFault : AnswerForm → Option PairNames → CommandFault → Option (List ℕ) → Option (List ℕ) → Type 0
+TellsFault Text names fault err_old err_new = PutsPart err_old err_new (line_of names fault)
+TellsFault Json names fault err_old err_new =
+    (system : List ℕ) × PutsPart err_old err_new (json_line (fault_facts names system fault))
+
+-- the program's end, and what is said of a command that ended without an answer
+abbrev pub Closes : AnswerForm → Option PairNames → Result ProgramEnd CommandFault → Outputs → Outputs → ProgramEnd
+    → Type 0
+Closes form names (Ok told) old new ended = (ended ≡ told) × (new ≡ old)
+Closes form names (Err fault) old new ended =
+    (ended ≡ of_fault fault) × (new.out ≡ old.out) × TellsFault form names fault old.err new.err
 
 -- whether a command reads standard input: as the text, journal or list of extents after `-`, and for nothing else
 abbrev pub reads_input : Asked → Bool
@@ -91,31 +102,35 @@ module _ {S T : Type 0} {start : Starts S} {other : Starts T} where
 
   -- how the command that the words ask for ends: what it has written by then, the image that it was over, as it has
   -- left it, and what it has to say
-  abbrev pub EndsAsked : Asked → Option (List ℕ) → Outputs → Outputs
+  abbrev pub EndsAsked : AnswerForm → Asked → Option (List ℕ) → Outputs → Outputs
       → Option (ImageDisk (FileDisk S start) (FileDisk T other)) → Result Report CommandFault → Type 0
-  EndsAsked (AsksCost file) input old new image end =
-      SaidAll (EndsAsSaid (λ text words. cost_said text ≡ Some words) file input old new) image end
-  EndsAsked (AsksPlan file) input old new image end = SaidAll (EndsAsSaid PlanSays file input old new) image end
-  EndsAsked (AsksCheck file cert) input old new image end = SaidAll (EndsOfTwo CheckSays file cert old new) image end
-  EndsAsked (AsksDump file words) input old new image end =
-      DumpedAll (EndsOfDump start other words file input old.out new.out) image end × (new.err ≡ old.err)
-  EndsAsked (AsksFormat name options) input old new image end = EndsOfFormat name options image end × (new ≡ old)
-  EndsAsked (AsksCat name words) input old new image end =
+  EndsAsked form (AsksCost file) input old new image end =
+      SaidAll (EndsAsSaid (λ text words. cost_said form text ≡ Some words) file input old new) image end
+  EndsAsked form (AsksPlan file) input old new image end =
+      SaidAll (EndsAsSaid (PlanSays form) file input old new) image end
+  EndsAsked form (AsksCheck file cert) input old new image end =
+      SaidAll (EndsOfTwo (CheckSays form) file cert old new) image end
+  EndsAsked form (AsksDump file words) input old new image end =
+      DumpedAll (EndsOfDumpIn start other form words file input old.out new.out) image end × (new.err ≡ old.err)
+  EndsAsked form (AsksFormat name options) input old new image end = EndsOfFormat name options image end × (new ≡ old)
+  EndsAsked form (AsksCat name words) input old new image end =
       EndsOfCat name words input old.out new.out image end × (new.err ≡ old.err)
-  EndsAsked (AsksRecover name words) input old new image end = EndsOfRecover name words input image end × (new ≡ old)
-  EndsAsked (AsksRenumber name extents) input old new image end =
+  EndsAsked form (AsksRecover name words) input old new image end =
+      EndsOfRecover name words input image end × (new ≡ old)
+  EndsAsked form (AsksRenumber name extents) input old new image end =
       EndsOfChange Renumbers IsRenumbering RenumbersAs ReportsRenumbered name extents input image end × (new ≡ old)
-  EndsAsked (AsksWiden name extents) input old new image end =
+  EndsAsked form (AsksWiden name extents) input old new image end =
       EndsOfChange Widens IsWidened WidensAs ReportsWidened name extents input image end × (new ≡ old)
 
 -- what a command has to say, once its image is closed
-abbrev pub TellsDone : Result Report CommandFault → Outputs → Outputs → Result ProgramEnd CommandFault → Type 0
-TellsDone end old new told = TellsEnd end old.out new.out told × (new.err ≡ old.err)
+abbrev pub TellsDone : AnswerForm → Result Report CommandFault → Outputs → Outputs → Result ProgramEnd CommandFault
+    → Type 0
+TellsDone form end old new told = TellsEnd form end old.out new.out told × (new.err ≡ old.err)
 
--- the whole run of the command that the words ask for
-abbrev pub Runs : Asked → Option (List ℕ) → Outputs → Outputs → ProgramEnd → Type 0
-Runs asked input old new ended =
+-- the whole run of the command that the words ask for, in this form
+abbrev pub Runs : AnswerForm → Asked → Option (List ℕ) → Outputs → Outputs → ProgramEnd → Type 0
+Runs form asked input old new ended =
     (image : Option FileImage) × (end : Result Report CommandFault) × (done : Outputs)
-    × EndsAsked asked input old done image end
-    × ((told : Result ProgramEnd CommandFault) × (mid : Outputs) × TellsDone end done mid told
-    × Closes (names_of asked) told mid new ended)
+    × EndsAsked form asked input old done image end
+    × ((told : Result ProgramEnd CommandFault) × (mid : Outputs) × TellsDone form end done mid told
+    × Closes form (names_of asked) told mid new ended)

@@ -1,16 +1,19 @@
-ghost use Rattle.std.specs.Prelude.{◌≡◌, ◌+◌, ◌++◌, [], IfOk, None, Some, codes, decimal, length};
+ghost use Rattle.std.specs.Prelude.{◌≡◌, ◌+◌, ◌∷◌, [], IfOk, None, Some, codes, false, length};
+ghost use Rattle.jb_json.specs.Facts.{Bare, Named, fact_of};
+ghost use Rattle.jb_commands.specs.AnswerForms.{text_in};
 ghost use Rattle.jb_queue.specs.QueueText.{value_of};
 ghost use Rattle.jb_handle.specs.Size.{IsWithinSize};
-ghost use Rattle.jb_price.specs.declared.fault.CertFault.TheVariants.{Syntax};
+ghost use Rattle.jb_price.specs.declared.fault.CertFault.TheVariants.{Length, Syntax};
 ghost use Rattle.jb_price.specs.declared.verdict.Verdict.TheVariants.{Refused};
-ghost use Rattle.jb_commands.specs.Check.{IsVerdictOn, SaysCheck, cert_fault, verdict_text};
+ghost use Rattle.jb_commands.specs.Check.{IsVerdictOn, SaysCheck, accepted_fact, cert_fault, verdict_text};
 ghost use Rattle.jb_commands.specs.AnswerSaid.{said};
 
-use crate::command_output::CommandOutput;
+use crate::command_output::{CommandOutput, TextFault};
 use itoa::Buffer;
-use jb_args::Hint;
+use jb_args::{AnswerForm, Hint};
 use jb_block::Memory;
 use jb_cost::Geometry;
+use jb_json::Field;
 use jb_price::{Cert, CertFault, Reason, Verdict, check, read_cert};
 use jb_queue::QueueText;
 use std::alloc::Global;
@@ -20,18 +23,23 @@ use std::alloc::Global;
 ///
 /// # Errors
 /// `Memory` where memory ran out.
-pub fn check_answer(alloc: Global, queue: &QueueText, claim: &[u8]) -> Result<CommandOutput, Memory>
+pub fn check_answer(
+    alloc: Global,
+    form: AnswerForm,
+    queue: &QueueText,
+    claim: &[u8],
+) -> Result<CommandOutput, Memory>
     requires { IsWithinSize queue.now.handles.items }
-    /// What `check` prints is the checker's verdict, or the first fault of the certificate's text; it accepts only
-    /// where the cut and the total are right.
-    ensures said { IfOk result (λ answer. SaysCheck (value_of queue.now) claim.now (said answer)) }
+    /// What `check` prints is the checker's verdict, or the first fault of the certificate's text, in JSON the same;
+    /// it accepts only where the cut and the total are right.
+    ensures said { IfOk result (λ answer. SaysCheck form (value_of queue.now) claim.now (said answer)) }
 {
     match read_cert(alloc, claim, queue.handles.as_slice().len()) {
         Ok(cert) => {
             let verdict = verdict_on(alloc, queue, &cert)?;
-            verdict_told(alloc, verdict)
+            verdict_told(alloc, form, verdict)
         }
-        Err(fault) => cert_fault_told(alloc, fault),
+        Err(fault) => cert_fault_told(alloc, form, fault),
     }
 }
 
@@ -45,69 +53,117 @@ fn verdict_on(alloc: Global, queue: &QueueText, cert: &Cert) -> Result<Verdict, 
     check(alloc, queue.handles.as_slice(), geometry, queue.limit, cert)
 }
 
-/// The line of a verdict.
-fn verdict_told(alloc: Global, verdict: Verdict) -> Result<CommandOutput, Memory>
-    ensures said { IfOk result (λ answer. said answer ≡ verdict_text verdict) }
+/// What is said of a verdict.
+fn verdict_told(alloc: Global, form: AnswerForm, verdict: Verdict) -> Result<CommandOutput, Memory>
+    ensures said { IfOk result (λ answer. said answer ≡ verdict_text form verdict) }
 {
     match verdict {
-        Verdict::Accepted => CommandOutput::told(alloc, 0, &["accepted\n"]),
-        Verdict::Refused(reason) => refused(alloc, reason),
+        Verdict::Accepted => CommandOutput::told(alloc, form, 0, &[accepted(true)]),
+        Verdict::Refused(reason) => refused(alloc, form, reason),
     }
 }
 
-/// The line of a certificate that is refused for this.
-fn refused(alloc: Global, reason: Reason) -> Result<CommandOutput, Memory>
-    ensures said { IfOk result (λ answer. said answer ≡ verdict_text (Refused reason)) }
+/// Whether a certificate is accepted, as a field.
+fn accepted(is_so: bool) -> Field<'static>
+    ensures { fact_of result ≡ accepted_fact is_so }
+{
+    Field::Chosen("accepted", is_so, "accepted", "refused")
+}
+
+/// What is said of a certificate that is refused for this.
+fn refused(alloc: Global, form: AnswerForm, reason: Reason) -> Result<CommandOutput, Memory>
+    ensures said { IfOk result (λ answer. said answer ≡ verdict_text form (Refused reason)) }
 {
     match reason {
-        Reason::OpeningPrice => CommandOutput::told(alloc, 1, &["refused OpeningPrice\n"]),
-        Reason::Undercut(from, to) => refused_piece(alloc, "refused Undercut ", from, to),
-        Reason::NotACut => CommandOutput::told(alloc, 1, &["refused NotACut\n"]),
-        Reason::OverLimit(from, to) => refused_piece(alloc, "refused OverLimit ", from, to),
-        Reason::TotalDiffers => CommandOutput::told(alloc, 1, &["refused TotalDiffers\n"]),
-        Reason::EndPrice => CommandOutput::told(alloc, 1, &["refused EndPrice\n"]),
+        Reason::OpeningPrice => refused_whole(alloc, form, "OpeningPrice"),
+        Reason::Undercut(from, to) => refused_piece(alloc, form, "Undercut", from, to),
+        Reason::NotACut => refused_whole(alloc, form, "NotACut"),
+        Reason::OverLimit(from, to) => refused_piece(alloc, form, "OverLimit", from, to),
+        Reason::TotalDiffers => refused_whole(alloc, form, "TotalDiffers"),
+        Reason::EndPrice => refused_whole(alloc, form, "EndPrice"),
     }
 }
 
-/// The same with the bounds of a piece after the words.
+/// The same of a reason with this name that is about no piece.
+fn refused_whole(alloc: Global, form: AnswerForm, name: &str) -> Result<CommandOutput, Memory>
+    ensures said { IfOk result (λ answer. said answer ≡ record {
+      status = 1;
+      out = text_in form (accepted_fact false ∷ Named (codes "reason") (Some name.now) ∷ []);
+      err = [];
+      hint = None;
+    }) }
+{
+    let fields = [accepted(false), Field::Named("reason", Some(name))];
+    CommandOutput::told(alloc, form, 1, &fields)
+}
+
+/// The same of one about the piece with these bounds.
 fn refused_piece(
     alloc: Global,
-    words: &str,
+    form: AnswerForm,
+    name: &str,
     from: usize,
     to: usize,
 ) -> Result<CommandOutput, Memory>
     ensures said { IfOk result (λ answer. said answer ≡ record {
       status = 1;
-      out = words.now ++ (decimal from ++ (codes " " ++ (decimal to ++ codes "\n")));
+      out = text_in form (accepted_fact false ∷ Named (codes "reason") (Some name.now) ∷ Bare (codes "from") from
+          ∷ Bare (codes "to") to ∷ []);
       err = [];
       hint = None;
     }) }
 {
-    let mut first = Buffer::new();
-    let mut second = Buffer::new();
-    let parts = [words, first.format(from), " ", second.format(to), "\n"];
-    CommandOutput::told(alloc, 1, &parts)
+    let fields = [
+        accepted(false),
+        Field::Named("reason", Some(name)),
+        Field::Bare("from", from as u64),
+        Field::Bare("to", to as u64),
+    ];
+    CommandOutput::told(alloc, form, 1, &fields)
 }
 
-/// The line for a text that is no certificate of the queue.
-fn cert_fault_told(alloc: Global, fault: CertFault) -> Result<CommandOutput, Memory>
-    ensures said { IfOk result (λ answer. cert_fault fault ≡ Some (said answer)) }
+/// What is said of a text that is no certificate of the queue.
+fn cert_fault_told(
+    alloc: Global,
+    form: AnswerForm,
+    fault: CertFault,
+) -> Result<CommandOutput, Memory>
+    ensures said { IfOk result (λ answer. cert_fault form fault ≡ Some (said answer)) }
 {
     match fault {
-        CertFault::Syntax(line) => syntax_told(alloc, line),
-        CertFault::Length => {
-            let line = ["jb: certificate: Length\n"];
-            CommandOutput::fault(alloc, Hint::CertificateLength, &line)
-        }
+        CertFault::Syntax(line) => syntax_told(alloc, form, line),
+        CertFault::Length => length_told(alloc, form),
         CertFault::Memory => Err(Memory),
     }
 }
 
-/// The line for a text whose line of this number breaks the form.
-fn syntax_told(alloc: Global, line: u64) -> Result<CommandOutput, Memory>
-    ensures said { IfOk result (λ answer. cert_fault (Syntax line) ≡ Some (said answer)) }
+/// The same of a text that has not one price more than the queue has handles.
+fn length_told(alloc: Global, form: AnswerForm) -> Result<CommandOutput, Memory>
+    ensures said { IfOk result (λ answer. cert_fault form Length ≡ Some (said answer)) }
+{
+    let numbers: [u64; 0] = [];
+    let reason = ["certificate: Length"];
+    let fault = TextFault {
+        name: "certificate Length",
+        numbers: &numbers,
+        reason: &reason,
+        hint: Hint::CertificateLength,
+    };
+    CommandOutput::fault(alloc, form, fault)
+}
+
+/// The same of a text whose line of this number breaks the form.
+fn syntax_told(alloc: Global, form: AnswerForm, line: u64) -> Result<CommandOutput, Memory>
+    ensures said { IfOk result (λ answer. cert_fault form (Syntax line) ≡ Some (said answer)) }
 {
     let mut digits = Buffer::new();
-    let parts = ["jb: certificate: Syntax ", digits.format(line), "\n"];
-    CommandOutput::fault(alloc, Hint::CertificateSyntax, &parts)
+    let reason = ["certificate: Syntax ", digits.format(line)];
+    let numbers = [line];
+    let fault = TextFault {
+        name: "certificate Syntax",
+        numbers: &numbers,
+        reason: &reason,
+        hint: Hint::CertificateSyntax,
+    };
+    CommandOutput::fault(alloc, form, fault)
 }

@@ -4,6 +4,7 @@ ghost use Rattle.std.specs.Prelude.{◌≡◌, None};
 use crate::fault::CommandFault;
 use crate::program_end::ProgramEnd;
 use crate::report::{Report, said_end, status_end};
+use jb_args::AnswerForm;
 use jb_disk::{FileDisk, Start, Unknown};
 use jb_image::ImageDisk;
 use std::io::Write;
@@ -44,19 +45,23 @@ impl<'a, S: Start, T: Start> CommandEnd<'a, S, T> {
         }
     }
 
-    /// Closes the image, and then writes what there is to say, and gives the end of the program.
+    /// Closes the image, and then writes what there is to say, in this form, and gives the end of the program.
     ///
     /// # Errors
     /// The fault of a command that ended without an answer, and then nothing was written; `CommandFault::WriteFault`
     /// where `out` took only the beginning of the text.
-    pub fn tell<O: Write>(self, out: &mut O) -> Result<ProgramEnd, CommandFault<'a>>
-        ensures { TellsEnd self.entry.end (O.contents out.old) (O.contents out.new) result }
+    pub fn tell<O: Write>(
+        self,
+        form: AnswerForm,
+        out: &mut O,
+    ) -> Result<ProgramEnd, CommandFault<'a>>
+        ensures { TellsEnd form self.entry.end (O.contents out.old) (O.contents out.new) result }
     {
         let CommandEnd { image, end } = self;
         // no line is written while an image is open
         drop(image);
         match end {
-            Ok(report) => report.tell(out),
+            Ok(report) => report.tell(form, out),
             Err(fault) => Err(fault),
         }
     }

@@ -1,9 +1,9 @@
 //! The table of the faults of a command: what each is told as. Of a fault that has a type of its own the row names the
 //! functions that read the table of that type.
-ghost use Rattle.std.specs.Prelude.{◌≡◌, Option, option_map};
-ghost use Rattle.jb_commands.specs.FaultLines.{parts_of, named};
-ghost use Rattle.jb_commands.specs.Faults.{line_of};
-ghost use Rattle.jb_commands.specs.Lines.{PairNames, line_naming, names_said};
+ghost use Rattle.std.specs.Prelude.{◌≡◌, option_map};
+ghost use Rattle.jb_commands.specs.FaultLines.{named};
+ghost use Rattle.jb_commands.specs.Faults.{fault_words};
+ghost use Rattle.jb_commands.specs.Lines.{names_said};
 
 use crate::fault::CommandFault;
 use crate::names::{TwoFiles, image_of, journal_of};
@@ -14,49 +14,49 @@ use crate::nested_faults::{
 use crate::streams::{Numbers, words_of_sum};
 use jb_args::Hint;
 
-/// Calls a macro with the table, after the names that are given for it. A row is a fault, the words and the numbers of
-/// its line, whose name comes after them, the exit status, and what a second line is about. The name is the fault's
-/// own, or, of a command over two files, that of the journal's or of the image's.
+/// Calls a macro with the table, after the names that are given for it. A row is a fault: its name and its numbers, as
+/// its line and its JSON have them; the file named after them; the exit status; and what a second line is about.
+/// The file is the fault's own, or, of a command over two files, that of the journal or of the image.
 macro_rules! fault_rows {
     ($form:ident $(, $with:ident)+) => {
         $form! {
             [$($with)+]
             CommandFault::CannotRead(name, code) =>
-                ("jb: cannot read", Numbers::None), own(name), 2, Hint::CannotRead(code);
-            CommandFault::InUse(name) => ("jb: in use", Numbers::None), own(name), 2, Hint::InUse;
+                ("cannot read", Numbers::None), own(name), 2, Hint::CannotRead(code);
+            CommandFault::InUse(name) => ("in use", Numbers::None), own(name), 2, Hint::InUse;
             CommandFault::MountsUnknown(name) =>
-                ("jb: mounts unknown", Numbers::None), own(name), 2, Hint::MountsUnknown;
-            CommandFault::NoLinks(name) => ("jb: no links", Numbers::None), own(name), 2, Hint::NoLinks;
-            CommandFault::SameFile(name) => ("jb: same file", Numbers::None), own(name), 2, Hint::SameFile;
+                ("mounts unknown", Numbers::None), own(name), 2, Hint::MountsUnknown;
+            CommandFault::NoLinks(name) => ("no links", Numbers::None), own(name), 2, Hint::NoLinks;
+            CommandFault::SameFile(name) => ("same file", Numbers::None), own(name), 2, Hint::SameFile;
             CommandFault::CannotMake(name, code) =>
-                ("jb: cannot make", Numbers::None), own(name), 2, Hint::CannotMake(code);
-            CommandFault::BadOption(option) => ("jb: bad option", Numbers::None), none, 2, Hint::BadOption(option);
-            CommandFault::TooLong(name) => ("jb: too long", Numbers::None), own(name), 2, Hint::TooLong;
-            CommandFault::ReadFault => ("jb: ReadFault", Numbers::None), none, 1, Hint::ReadFault;
+                ("cannot make", Numbers::None), own(name), 2, Hint::CannotMake(code);
+            CommandFault::BadOption(option) => ("bad option", Numbers::None), none, 2, Hint::BadOption(option);
+            CommandFault::TooLong(name) => ("too long", Numbers::None), own(name), 2, Hint::TooLong;
+            CommandFault::ReadFault => ("ReadFault", Numbers::None), none, 1, Hint::ReadFault;
             CommandFault::Super(fault) => words_of_super(fault), journal, 1, super_hint(fault);
             CommandFault::ChecksumType(kind) =>
-                ("jb: Super ChecksumType ", Numbers::One(u64::from(kind))), journal, 1, Hint::SuperChecksumType;
-            CommandFault::SuperChecksum => ("jb: Super Checksum", Numbers::None), journal, 1, Hint::SuperChecksum;
+                ("Super ChecksumType", Numbers::One(u64::from(kind))), journal, 1, Hint::SuperChecksumType;
+            CommandFault::SuperChecksum => ("Super Checksum", Numbers::None), journal, 1, Hint::SuperChecksum;
             CommandFault::JournalLength(blocks, maxlen) =>
-                ("jb: JournalLength ", Numbers::Two(blocks, u64::from(maxlen))), journal, 1, Hint::JournalLength;
+                ("JournalLength", Numbers::Two(blocks, u64::from(maxlen))), journal, 1, Hint::JournalLength;
             CommandFault::FileSystem(fault) => words_of_system(fault), image, 1, system_hint(fault);
             CommandFault::Extents(fault) => words_of_extents(fault), none, 1, extents_hint(fault);
             CommandFault::Own(fault) => words_of_own(fault), none, 1, own_hint(fault);
             CommandFault::BadChecksum(what, place) =>
                 (words_of_sum(what), Numbers::One(place)), journal, 1, Hint::BadChecksum;
-            CommandFault::Lost(place) => ("jb: Lost ", Numbers::One(place)), journal, 1, Hint::Lost;
-            CommandFault::BadRevoke(place) => ("jb: BadRevoke ", Numbers::One(place)), journal, 1, Hint::BadRevoke;
+            CommandFault::Lost(place) => ("Lost", Numbers::One(place)), journal, 1, Hint::Lost;
+            CommandFault::BadRevoke(place) => ("BadRevoke", Numbers::One(place)), journal, 1, Hint::BadRevoke;
             CommandFault::HomeOutOfRange(home, number, homes) =>
-                ("jb: HomeOutOfRange ", Numbers::Two(home, u64::from(number))), image, 1, Hint::HomeOutOfRange(homes);
-            CommandFault::NoHome(home, homes) => ("jb: NoHome ", Numbers::One(home)), image, 1, Hint::NoHome(homes);
-            CommandFault::NeedsRecovery => ("jb: NeedsRecovery", Numbers::None), journal, 1, Hint::NeedsRecovery;
-            CommandFault::NumbersSpent => ("jb: NumbersSpent", Numbers::None), journal, 1, Hint::NumbersSpent;
-            CommandFault::BlockSize => ("jb: BlockSize", Numbers::None), none, 1, Hint::BlockSize;
-            CommandFault::Accounts => ("jb: Accounts", Numbers::None), none, 1, Hint::Accounts;
-            CommandFault::Geometry => ("jb: Geometry", Numbers::None), none, 1, Hint::Geometry;
-            CommandFault::DeviceFault => ("jb: DeviceFault", Numbers::None), none, 1, Hint::DeviceFault;
-            CommandFault::Memory => ("jb: Memory", Numbers::None), none, 1, Hint::Memory;
-            CommandFault::WriteFault => ("jb: WriteFault", Numbers::None), none, 1, Hint::WriteFault;
+                ("HomeOutOfRange", Numbers::Two(home, u64::from(number))), image, 1, Hint::HomeOutOfRange(homes);
+            CommandFault::NoHome(home, homes) => ("NoHome", Numbers::One(home)), image, 1, Hint::NoHome(homes);
+            CommandFault::NeedsRecovery => ("NeedsRecovery", Numbers::None), journal, 1, Hint::NeedsRecovery;
+            CommandFault::NumbersSpent => ("NumbersSpent", Numbers::None), journal, 1, Hint::NumbersSpent;
+            CommandFault::BlockSize => ("BlockSize", Numbers::None), none, 1, Hint::BlockSize;
+            CommandFault::Accounts => ("Accounts", Numbers::None), none, 1, Hint::Accounts;
+            CommandFault::Geometry => ("Geometry", Numbers::None), none, 1, Hint::Geometry;
+            CommandFault::DeviceFault => ("DeviceFault", Numbers::None), none, 1, Hint::DeviceFault;
+            CommandFault::Memory => ("Memory", Numbers::None), none, 1, Hint::Memory;
+            CommandFault::WriteFault => ("WriteFault", Numbers::None), none, 1, Hint::WriteFault;
         }
     };
 }
@@ -131,10 +131,9 @@ impl<'a> CommandFault<'a> {
     }
 }
 
-/// The words of a fault's line, and its numbers.
+/// The name of a fault, and its numbers.
 pub(crate) fn words_of(fault: CommandFault<'_>) -> (&'static str, Numbers)
-    ensures { (names : Option PairNames) → line_of names fault.entry
-        ≡ line_naming (parts_of result.0.now result.1) (named names fault.entry) }
+    ensures { (result.0.now, result.1) ≡ fault_words fault.entry }
 {
     fault_rows!(line_in, fault)
 }

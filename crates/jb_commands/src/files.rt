@@ -1,6 +1,7 @@
 //! The commands over files: each opens its files, and reads, makes or changes them.
 
 mod changes;
+mod dump_form;
 mod found;
 mod homes;
 mod journals;
@@ -11,13 +12,15 @@ mod opening;
 mod own;
 mod placed;
 mod recovered;
+mod recovering;
 mod searching;
 mod shut;
 mod texts;
+mod watched;
 
 pub use changes::{renumber_file, widen_file};
+pub(crate) use dump_form::dump_in;
 pub use homes::cat_file;
-pub(crate) use journals::dump_named;
 pub use making::format_file;
 pub use opened::OpenedImage;
 pub use opening::{Opening, open_counted};

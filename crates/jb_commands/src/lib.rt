@@ -15,6 +15,7 @@ mod nested_faults;
 mod options;
 mod plan;
 mod program_end;
+mod progress;
 mod queue_fault;
 mod report;
 mod running;
@@ -29,7 +30,7 @@ pub use files::{
     OpenedImage, Opening, cat_file, format_file, open_counted, open_placed, read_file,
     recover_file, renumber_file, widen_file,
 };
-pub use jb_args::Plain;
+pub use jb_args::{AnswerForm, Plain};
 pub use names::TwoFiles;
 pub use plan::plan_answer;
 pub use program_end::ProgramEnd;

@@ -3,13 +3,14 @@ ghost use Rattle.std.specs.List.{AllPass};
 ghost use Rattle.hex.specs.Hex.{decode_of, is_hex_digit};
 ghost use Rattle.jb_block.specs.Size.{bytes_of, IsBlockSize};
 ghost use Rattle.jb_block.specs.Width.{is_wide};
+ghost use Rattle.jb_image.specs.Create.{is_sparse};
 ghost use Rattle.jb_args.specs.PlainCommand.{options_said};
 ghost use Rattle.jb_commands.specs.Options.{AreGood, IsAskedBy, IsFirstBad};
 
 use hex::FromHex;
 use jb_args::{FormatOptions, OptionName};
 use jb_block::{BlockSize, Width};
-use jb_image::ImageGeometry;
+use jb_image::{Allocation, ImageGeometry};
 
 /// The image that the options ask for.
 ///
@@ -47,6 +48,7 @@ pub(crate) fn new_file(options: FormatOptions<'_>) -> Result<ImageGeometry, Opti
         max_transaction: max,
         uuid,
         width: width_of(options.wide),
+        allocation: allocation_of(options.sparse),
     })
 }
 
@@ -84,6 +86,17 @@ fn width_of(wide: bool) -> Width
     ensures { is_wide result ≡ wide }
 {
     if wide { Width::Wide } else { Width::Narrow }
+}
+
+/// When the blocks of a new file get room, as `--sparse` asks for it.
+fn allocation_of(sparse: bool) -> Allocation
+    ensures { is_sparse result ≡ sparse }
+{
+    if sparse {
+        Allocation::Sparse
+    } else {
+        Allocation::Whole
+    }
 }
 
 /// Whether a file may have as many bytes as this many blocks of journal and homes.

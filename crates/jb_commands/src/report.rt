@@ -7,6 +7,7 @@ use crate::program_end::ProgramEnd;
 use crate::streams::{
     tell_foreseen, tell_formatted, tell_recovered, tell_renumbered, tell_widened,
 };
+use jb_args::AnswerForm;
 use jb_ext::MapSource;
 use jb_format::{Renumbered, Widened};
 use jb_recover::{Foreseen, Recovered};
@@ -34,31 +35,35 @@ impl Report {
     ghost use Rattle.jb_commands.specs.Reports.{TellsReport};
     ghost use Rattle.jb_commands.specs.Outputs.{line_end};
 
-    /// Writes its line, or its lines, and gives the end of the program.
+    /// Writes its line, or its lines, or the same in JSON, and gives the end of the program.
     ///
     /// # Errors
     /// `CommandFault::WriteFault` where `out` took only the beginning of the text.
-    pub fn tell<'a, O: Write>(&self, out: &mut O) -> Result<ProgramEnd, CommandFault<'a>>
-        /// What a command has done, in its line.
-        ensures { TellsReport self.now (O.contents out.old) (O.contents out.new) result }
+    pub fn tell<'a, O: Write>(
+        &self,
+        form: AnswerForm,
+        out: &mut O,
+    ) -> Result<ProgramEnd, CommandFault<'a>>
+        /// What a command has done, in its line or in JSON: the same facts.
+        ensures { TellsReport form self.now (O.contents out.old) (O.contents out.new) result }
     {
-        match self.put(out) {
+        match self.put(form, out) {
             Ok(ended) => Ok(ended),
             Err(_) => Err(CommandFault::WriteFault),
         }
     }
 
     /// The same as a writer's answer.
-    fn put<O: Write>(&self, out: &mut O) -> Result<ProgramEnd, WriteFault>
-        ensures { TellsReport self.now (O.contents out.old) (O.contents out.new) (line_end result) }
+    fn put<O: Write>(&self, form: AnswerForm, out: &mut O) -> Result<ProgramEnd, WriteFault>
+        ensures { TellsReport form self.now (O.contents out.old) (O.contents out.new) (line_end result) }
     {
         match self {
             Report::Said(ended) => Ok(*ended),
-            Report::Formatted(limit) => tell_formatted(*limit, out),
-            Report::Recovered(done, found) => tell_recovered(*done, *found, out),
-            Report::Foreseen(told, list, found) => tell_foreseen(told, *list, *found, out),
-            Report::Renumbered(done) => tell_renumbered(*done, out),
-            Report::Widened(done) => tell_widened(*done, out),
+            Report::Formatted(limit) => tell_formatted(form, *limit, out),
+            Report::Recovered(done, found) => tell_recovered(form, *done, *found, out),
+            Report::Foreseen(told, list, found) => tell_foreseen(form, told, *list, *found, out),
+            Report::Renumbered(done) => tell_renumbered(form, *done, out),
+            Report::Widened(done) => tell_widened(form, *done, out),
         }
     }
 }

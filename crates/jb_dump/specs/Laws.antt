@@ -13,6 +13,7 @@ allowing checksums filter =
       last = filter.last;
       superblock = filter.superblock;
       summary = filter.summary;
+      drawn = filter.drawn;
       checksums = checksums;
     }
 

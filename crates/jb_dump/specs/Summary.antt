@@ -1,5 +1,6 @@
 -- A journal at a glance: what its log holds, and the text of that.
-use Rattle.std.specs.Prelude.{ℕ, zero, suc, ◌+◌, ◌-◌, ◌/◌, List, [], ◌∷◌, ◌++◌, length, map, max, min, codes, decimal}
+use Rattle.std.specs.Prelude.{ℕ, zero, suc, ◌+◌, ◌-◌, ◌/◌, Bool, List, [], ◌∷◌, ◌++◌, length, map, max, min, codes}
+use Rattle.std.specs.Prelude.{decimal}
 use Rattle.jb_super.specs.Geometry.{place, usable_of}
 use Rattle.jb_super.specs.Superblock.{Superblock}
 use Rattle.jb_text.specs.TextParts.{spelled}
@@ -10,6 +11,7 @@ use Rattle.jb_scan.specs.declared.transaction.Transaction.{Transaction}
 use Rattle.jb_dump.specs.Dates.{date_text}
 use Rattle.jb_dump.specs.Lines.{clean_line, home_in}
 use Rattle.jb_dump.specs.MostWritten.{foremost, written_rows}
+use Rattle.jb_dump.specs.Picture.{picture_where}
 
 -- what the committed transactions of a log come to: how many blocks each takes, the homes of all their copies, how many
 -- homes their revoke blocks name, and when each was committed, in seconds since 1970; all in the order of the log
@@ -157,16 +159,21 @@ contents_text sum =
     ∷ copies_line (length sum.homes) (length rows) ∷ written_lines (foremost rows) ∷ revokes_line sum.revokes
     ∷ times_line (first_of_all sum.times) (last_of_all sum.times) ∷ [])
 
+-- that, and where it is wanted the picture of the log of a journal with this superblock
+abbrev pub contents_drawn : Bool → Superblock → Summary → List ℕ
+contents_drawn drawn s sum =
+    contents_text sum ++ picture_where drawn s sum.sizes (sum_of sum.sizes) (foremost (written_rows sum.homes))
+
 -- nothing of none, and else that
 abbrev pub contents_said : ℕ → List ℕ → List ℕ
 contents_said zero text = []
 contents_said (suc n) text = text
 
--- the text of a log that has to be recovered
-abbrev pub glance_text : Superblock → Summary → List ℕ
-glance_text s sum =
+-- the text of a log that has to be recovered, with its picture or without
+abbrev pub glance_text : Bool → Superblock → Summary → List ℕ
+glance_text drawn s sum =
     spelled (room_line s (length sum.sizes) (sum_of sum.sizes) ∷ ends_line s (sum_of sum.sizes)
-    ∷ contents_said (length sum.sizes) (contents_text sum) ∷ [])
+    ∷ contents_said (length sum.sizes) (contents_drawn drawn s sum) ∷ [])
 
 -- that of a clean journal, whose log holds nothing
 abbrev pub clean_said : Superblock → List ℕ

@@ -11,6 +11,8 @@ pub struct DumpFilter {
     pub superblock: bool,
     /// Whether in place of all lines those of the journal at a glance are written. The others change nothing then.
     pub summary: bool,
+    /// Whether after the lines of the journal at a glance its log is drawn, and the homes that are written most.
+    pub drawn: bool,
     /// Whether a journal with checksums is taken, too, and its blocks are judged by them.
     pub checksums: bool,
 }
@@ -29,6 +31,7 @@ impl DumpFilter {
             last: None,
             superblock: false,
             summary: false,
+            drawn: false,
             checksums: false,
         }
     }

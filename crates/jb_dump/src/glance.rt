@@ -1,7 +1,7 @@
 //! The text of a journal at a glance.
 ghost use Rattle.std.specs.Prelude.{◌≡◌, ◌<◌, ◌-◌, ◌++◌, string_bytes, OnOk, IfOk};
 ghost use Rattle.jb_dump.specs.Dates.{date_text};
-ghost use Rattle.jb_dump.specs.Summary.{Summary, clean_said, contents_text, copies_line, ends_line, written_line};
+ghost use Rattle.jb_dump.specs.Summary.{Summary, clean_said, contents_drawn, copies_line, ends_line, written_line};
 ghost use Rattle.jb_dump.specs.Summary.{written_lines, revokes_line, room_line, room_text, glance_text, sizes_line};
 ghost use Rattle.jb_dump.specs.Summary.{times_line};
 ghost use Rattle.jb_dump.specs.LogTotals.{IsTallyOf};
@@ -10,6 +10,7 @@ use crate::contents::Contents;
 use crate::date::put_date;
 use crate::lines::put_clean;
 use crate::log_totals::LogTotals;
+use crate::picture::put_picture_where;
 use crate::ranking::foremost_of;
 use jb_block::Memory;
 use jb_super::Super;
@@ -110,11 +111,17 @@ fn date(alloc: Global, sec: u64) -> Result<String, Memory>
     Ok(text)
 }
 
-/// Puts what is said of some transactions beside their room and ends.
-fn put_contents(alloc: Global, text: &mut String, tally: LogTotals) -> Result<(), Memory>
+/// Puts what is said of some transactions beside their room and ends, and their picture where that is wanted.
+fn put_contents(
+    alloc: Global,
+    text: &mut String,
+    sb: &Super,
+    tally: LogTotals,
+    drawn: bool,
+) -> Result<(), Memory>
     requires some { 0 < tally.count }
     ensures { OnOk result ((sum : Summary) → IsTallyOf sum tally
-        → string_bytes text.new ≡ string_bytes text.old ++ contents_text sum) }
+        → string_bytes text.new ≡ string_bytes text.old ++ contents_drawn drawn sb.now sum) }
 {
     let LogTotals {
         count,
@@ -122,6 +129,7 @@ fn put_contents(alloc: Global, text: &mut String, tally: LogTotals) -> Result<()
         most,
         first,
         last,
+        sizes,
         contents,
     } = tally;
     let Contents {
@@ -136,25 +144,27 @@ fn put_contents(alloc: Global, text: &mut String, tally: LogTotals) -> Result<()
     put_homes(text, &rows)?;
     put_revoked(text, revokes)?;
     put_times(alloc, text, first, last)?;
+    put_picture_where(drawn, text, sb, &sizes, blocks, &rows)?;
     Ok(())
 }
 
-/// Puts the text of a log that has to be recovered.
+/// Puts the text of a log that has to be recovered, with its picture where that is wanted.
 pub(crate) fn put_summary(
     alloc: Global,
     text: &mut String,
     sb: &Super,
     tally: LogTotals,
+    drawn: bool,
 ) -> Result<(), Memory>
     ensures { OnOk result ((sum : Summary) → IsTallyOf sum tally
-        → string_bytes text.new ≡ string_bytes text.old ++ glance_text sb.now sum) }
+        → string_bytes text.new ≡ string_bytes text.old ++ glance_text drawn sb.now sum) }
 {
     put_room(text, sb, tally.count, u64::from(tally.contents.blocks))?;
     put_ends(text, sb, tally.contents.blocks)?;
     if tally.count == 0 {
         return Ok(());
     }
-    put_contents(alloc, text, tally)?;
+    put_contents(alloc, text, sb, tally, drawn)?;
     Ok(())
 }
 

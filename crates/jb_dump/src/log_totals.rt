@@ -22,6 +22,8 @@ pub(crate) struct LogTotals {
     pub first: u64,
     /// When the last was.
     pub last: u64,
+    /// How many blocks each takes, in their order.
+    pub sizes: Vec<u32>,
     /// What they hold.
     pub contents: Contents,
 }
@@ -39,6 +41,7 @@ impl LogTotals {
             most: 0,
             first: 0,
             last: 0,
+            sizes: Vec::new(alloc),
             contents: Contents::new(alloc),
         }
     }
@@ -52,7 +55,9 @@ impl LogTotals {
     {
         let before = self.contents.blocks;
         self.contents.add(transaction.pieces.as_slice())?;
-        let size = u64::from(self.contents.blocks - before);
+        let blocks = self.contents.blocks - before;
+        self.sizes.push(blocks)?;
+        let size = u64::from(blocks);
         let sec = transaction.stamp.sec;
         if self.count == 0 {
             self.least = size;

@@ -1,5 +1,5 @@
 -- When numbers make an image, and what its making does to its file.
-use Rattle.std.specs.Prelude.{◌≡◌, ◌+◌, ◌*◌, ◌^◌, ◌<◌, ◌≤◌, ℕ, false, List, Result, Ok, Err, OnOk, set}
+use Rattle.std.specs.Prelude.{◌≡◌, ◌+◌, ◌*◌, ◌^◌, ◌<◌, ◌≤◌, ℕ, Bool, true, false, List, Result, Ok, Err, OnOk, set}
 use Rattle.jb_block.specs.Size.{bytes_of}
 use Rattle.jb_block.specs.Width.{is_wide}
 use Rattle.jb_disk.specs.File.{IsMeasured, count_of, size_of_blocks}
@@ -13,6 +13,8 @@ use Rattle.jb_image.specs.Files.{as_file}
 use Rattle.jb_format.specs.Format.{FormatFaults, new_block}
 use Rattle.jb_format.specs.declared.fault.FormatFault.{FormatFault}
 use Rattle.jb_format.specs.declared.fault.FormatFault.TheVariants.{DeviceFault}
+use Rattle.jb_image.specs.declared.allocation.Allocation.{Allocation}
+use Rattle.jb_image.specs.declared.allocation.Allocation.TheVariants.{Sparse, Whole}
 use Rattle.jb_image.specs.declared.image_geometry.ImageGeometry.{ImageGeometry}
 
 -- the journal has as many blocks as one may have, the image a length that a file may have, and each home block a number
@@ -22,6 +24,11 @@ pub record MakesImage (g : ImageGeometry) : Type 0 where
   pub most : g.journal < 2 ^ 31
   pub len : (g.journal + g.homes) * bytes_of g.block_size < 2 ^ 63
   pub numbers : is_wide g.width ≡ false → g.homes ≤ 2 ^ 32
+
+-- its blocks get no room before they are first written
+abbrev pub is_sparse : Allocation → Bool
+is_sparse Sparse = true
+is_sparse Whole = false
 
 -- block 0 of the journal that is asked for, in blocks of this size
 abbrev pub block_made : ℕ → ImageGeometry → List ℕ

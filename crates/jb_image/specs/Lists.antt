@@ -1,6 +1,6 @@
 -- A list of extents: what a text lists, and which blocks it has.
 use Rattle.std.specs.Prelude.{◌≡◌, ℕ, ◌+◌, ◌-◌, ◌^◌, ◌<◌, ◌≤◌, ◌==◌, ◌&&◌, ◌||◌, not, Bool, true, false, if◌then◌else◌}
-use Rattle.std.specs.Prelude.{List, [], ◌∷◌, ◌++◌, All, min, max, nat_lt, Option, Some, None, option_and_then, Result}
+use Rattle.std.specs.Prelude.{List, [], ◌∷◌, ◌++◌, min, max, nat_lt, Option, Some, None, option_and_then, Result}
 use Rattle.std.specs.Prelude.{Ok, Err}
 use Rattle.jb_text.specs.Parts.{grow}
 use Rattle.jb_map.specs.Blocks.{extent_count, has_block}

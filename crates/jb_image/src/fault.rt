@@ -21,7 +21,7 @@ pub enum ImageFault {
     #[error("the image is neither a regular file nor a block device")]
     OtherKind,
     /// The system refused a call; where the image is made, also since a file of the other name is there.
-    #[error("the image cannot be opened: {0}")]
+    #[error("the image cannot be opened or made: {0}")]
     System(SystemFault),
     /// There was no memory.
     #[error("out of memory")]

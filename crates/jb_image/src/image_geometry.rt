@@ -4,7 +4,9 @@ ghost use Rattle.jb_block.specs.Size.{bytes_of};
 ghost use Rattle.jb_block.specs.Width.{is_wide};
 ghost use Rattle.jb_block.specs.declared.width.Width.TheVariants.{Narrow};
 ghost use Rattle.jb_image.specs.Create.{MakesImage};
+ghost use Rattle.jb_image.specs.declared.allocation.Allocation.TheVariants.{Sparse, Whole};
 
+use crate::allocation::Allocation;
 use jb_block::{BlockSize, Width};
 
 /// The fewest and the most blocks of a journal.
@@ -27,11 +29,13 @@ pub struct ImageGeometry {
     pub uuid: [u8; 16],
     /// The width of block numbers in the log. A narrow one has no room for homes from 2^32 on.
     pub width: Width,
+    /// When its blocks get room in the file system.
+    pub allocation: Allocation,
 }
 
 impl ImageGeometry {
-    /// This many blocks of this size, with transactions of a quarter of the log at most, block numbers of 32 bits, and
-    /// zeros for a UUID.
+    /// This many blocks of this size, with transactions of a quarter of the log at most, block numbers of 32 bits,
+    /// zeros for a UUID, and room for all blocks.
     pub fn new(block_size: BlockSize, journal: u32, homes: u64) -> ImageGeometry
         ensures { result ≡ record {
           block_size = block_size;
@@ -40,6 +44,7 @@ impl ImageGeometry {
           max_transaction = 0;
           uuid = replicate 16 0;
           width = Narrow;
+          allocation = Whole;
         } }
     {
         ImageGeometry {
@@ -49,6 +54,17 @@ impl ImageGeometry {
             max_transaction: 0,
             uuid: [0; 16],
             width: Width::Narrow,
+            allocation: Allocation::Whole,
+        }
+    }
+
+    /// The same in a sparse file: a block gets room when it is first written.
+    pub fn sparse(self) -> ImageGeometry
+        ensures { result ≡ record self { allocation = Sparse } }
+    {
+        ImageGeometry {
+            allocation: Allocation::Sparse,
+            ..self
         }
     }
 

@@ -3,6 +3,7 @@
 //! lists.
 #![tactic(auto)]
 
+mod allocation;
 mod draft;
 mod extents;
 mod extents_disk;
@@ -26,6 +27,7 @@ mod shared;
 mod stretch;
 mod unfinished;
 
+pub use allocation::Allocation;
 pub use extents::Extents;
 pub use extents_disk::ExtentsDisk;
 pub use extents_fault::{ExtentsFault, ListFault};

@@ -6,6 +6,7 @@ ghost use Rattle.jb_disk.specs.contracts.start.UnknownStart.TheImpl.{ghosts as u
 ghost use Rattle.jb_image.specs.Create.{MakingFailed, MakesImage, WasMade};
 ghost use Rattle.jb_image.specs.declared.fault.MakeFault.TheVariants.{DeviceFault, Geometry as NoGeometry};
 
+use crate::allocation::{Allocation, write_zeros};
 use crate::draft::Draft;
 use crate::fault::{ImageFault, MakeFault};
 use crate::image_geometry::ImageGeometry;
@@ -16,10 +17,10 @@ use std::fs::File;
 use std::rt::Files;
 
 /// Makes an image with a new journal and home blocks of zeros, whole or not at all: under another name in the same
-/// folder (`.jb-unfinished` after its own), formatted and synced, and then by its own name, which survives a crash.
-/// What a killed process has left of one is removed: a file of the other name that is empty, or has zeros alone, or
-/// zeros after the superblock of a journal without a transaction. The disk is locked as one that is
-/// [opened](crate::open_image) for change.
+/// folder (`.jb-unfinished` after its own), with the room that the geometry asks for, formatted and synced, and then by
+/// its own name, which survives a crash. What a killed process has left of one is removed: a file of the other name
+/// that is empty, or has zeros alone, or zeros after the superblock of a journal without a transaction. The disk is
+/// locked as one that is [opened](crate::open_image) for change.
 ///
 /// # Errors
 /// In this order: `Geometry` where a journal may not have this many blocks, a file this many bytes, or the last home
@@ -27,8 +28,9 @@ use std::rt::Files;
 /// `InUse` where another process makes one, and with `System` or `Memory` where the system refuses a call or memory ran
 /// out; `DeviceFault` where the journal was not written; `Exists` where a file has come by the name meanwhile, and
 /// `NoLinks` where the file system has no links. There is no new file of this name then. `System` has the
-/// number `EEXIST` where any other file has the other name, which stays as it is, and `ENAMETOOLONG` where that name is
-/// too long: where the file system takes 255 bytes, this one may have 241.
+/// number `EEXIST` where any other file has the other name, which stays as it is, `ENAMETOOLONG` where that name is too
+/// long (where the file system takes 255 bytes, this one may have 241), and `ENOSPC`, `EDQUOT` or `EFBIG` where the
+/// disk, a quota or a limit has no room for the image. How much is free is not asked before.
 pub fn create_image<R: Files<File = File> + AllocGlobal>(
     rt: &R,
     name: &str,
@@ -130,12 +132,13 @@ fn fill<S: Start>(
     }
 }
 
-/// A file of this length as a disk, with its length synced: a sync of its data may leave that out.
+/// A new file, at its beginning, as a disk of this length, with the room that was asked for. Its length and its map to
+/// blocks are synced: a sync of its data may leave them out.
 ///
 /// # Errors
 /// `System` where the system refuses a call, or another length is found.
 fn disk_of<S: Start>(
-    file: File,
+    mut file: File,
     len: u64,
     geometry: ImageGeometry,
 ) -> Result<FileDisk<S>, ImageFault>
@@ -144,7 +147,12 @@ fn disk_of<S: Start>(
     ensures count { IfOk result (λ disk. count_of disk ≡ geometry.journal + geometry.homes) }
     ensures measured { IfOk result IsMeasured }
 {
+    // a length that the file system or a limit does not take is refused before anything is written
     file.set_len(len)?;
+    match geometry.allocation {
+        Allocation::Whole => write_zeros(&mut file, len)?,
+        Allocation::Sparse => {}
+    }
     file.sync_all()?;
     let Ok(disk) = FileDisk::<S>::holding(file, geometry.block_size) else {
         return Err(ImageFault::System(SystemFault { code: None }));

@@ -72,7 +72,8 @@ pub fn open_holding<S: Start, R: Files<File = File> + AllocGlobal>(
 /// # Errors
 /// Those of [`open`], but that there is no such image; `FewerHomes` where the image that is there has fewer homes;
 /// `Make` where it was not made, with `InUse` where another process makes it, with `NoLinks` where the file system has
-/// no links, and with `System` (`EEXIST`) where a file that no killed process leaves has the other name.
+/// no links, and with `System` where a file that no killed process leaves has the other name (`EEXIST`), or the disk
+/// has too little room (`ENOSPC`).
 pub fn open_or_create<R: Files<File = File> + AllocGlobal>(
     rt: &R,
     name: &str,

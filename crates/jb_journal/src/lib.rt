@@ -35,7 +35,7 @@ pub use jb_desk::{BeginFault, Delay, Ended, Origin, WaitFault};
 pub use jb_disk::{Clock, Disk, Fault, FileDisk, FixedClock, MemoryDisk, Start, Unknown};
 pub use jb_format::{FormatFault, format};
 pub use jb_handle::{Handle, Payload, Shape, TouchFault, Word, Words};
-pub use jb_image::{ImageFault, ImageGeometry, MakeFault, SystemFault};
+pub use jb_image::{Allocation, ImageFault, ImageGeometry, MakeFault, SystemFault};
 pub use jb_recover::{PeekFault, RecoverFault, Recovered, recover};
 pub use journal_fault::JournalFault;
 pub use not_run::NotRun;

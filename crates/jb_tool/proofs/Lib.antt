@@ -3,6 +3,7 @@ pub mod HandleRefusals
 pub mod LoadAnswers
 pub mod NextHandle
 pub mod OwnHomes
+pub mod ProgramWords
 pub mod TrailBlocks
 pub mod WordRefusals
 pub mod WorkerSteps

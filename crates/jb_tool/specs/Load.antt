@@ -1,6 +1,7 @@
 -- How `jb load` ends over files.
 use Rattle.std.specs.Prelude.{◌≡◌, ◌⊎◌, ◌≤◌, ℕ, Bool, true, false, List, Option, None, Result, Ok, Err, Some}
 use Rattle.jb_args.specs.declared.hint.Hint.{Hint}
+use Rattle.jb_args.specs.declared.settings.AnswerForm.{AnswerForm}
 use Rattle.jb_args.specs.declared.option_name.OptionName.TheVariants.{Threads}
 use Rattle.jb_ext.specs.declared.choosing.MapSource.{MapSource}
 use Rattle.jb_super.specs.declared.checked.Checksums.TheVariants.{Refused}
@@ -74,17 +75,18 @@ abbrev pub end_with_hint : Option Hint → Result ℕ WriteFault → Result Prog
 end_with_hint hint (Ok status) = Ok (record { status = status; hint = hint })
 end_with_hint hint (Err fault) = Err CommandWriteFault
 
--- what a load has to say is told: its lines, or the line of its text's first fault
-abbrev pub TellsLoadReport : LoadReport → Outputs → Outputs → Result ProgramEnd CommandFault → Type 0
-TellsLoadReport (ReportsLoaded loaded homes) old new end =
+-- what a load has to say is told in this form: what it did, or its text's first fault
+abbrev pub TellsLoadReport : AnswerForm → LoadReport → Outputs → Outputs → Result ProgramEnd CommandFault → Type 0
+TellsLoadReport form (ReportsLoaded loaded homes) old new end =
     (told : Result ℕ WriteFault) × (end ≡ end_with_hint (load_hint homes loaded) told)
-    × TellsLoad loaded old.out new.out old.err new.err told
-TellsLoadReport (ReportsText answer) old new end = Tells (said answer) old new end
+    × TellsLoad form (load_hint homes loaded) loaded old.out new.out old.err new.err told
+TellsLoadReport form (ReportsText answer) old new end = Tells (said answer) old new end
 
 -- what a load ended with is told, or it ended with a fault, and then nothing is written
-abbrev pub TellsLoadEnd : Result LoadReport CommandFault → Outputs → Outputs → Result ProgramEnd CommandFault → Type 0
-TellsLoadEnd (Ok report) old new end = TellsLoadReport report old new end
-TellsLoadEnd (Err fault) old new end = (end ≡ Err fault) × (new ≡ old)
+abbrev pub TellsLoadEnd : AnswerForm → Result LoadReport CommandFault → Outputs → Outputs
+    → Result ProgramEnd CommandFault → Type 0
+TellsLoadEnd form (Ok report) old new end = TellsLoadReport form report old new end
+TellsLoadEnd form (Err fault) old new end = (end ≡ Err fault) × (new ≡ old)
 
 module _ {S T : Type 0} {start : Starts S} {other : Starts T} where
   -- a queue was loaded into an open image, and this is the image then: the groups that the load counts are in its
@@ -122,20 +124,21 @@ module _ {S T : Type 0} {start : Starts S} {other : Starts T} where
       ⊎ ((is_within disk ≡ true) × (image ≡ Some disk) × (end ≡ Err Memory))
 
   -- the queue of a text was loaded; or the text's first fault is told, and the image is as it was opened
-  abbrev pub LoadsRead : LoadOptions → ℕ → ImageDisk (FileDisk S start) (FileDisk T other) → Result Queue QueueFault
+  abbrev pub LoadsRead : AnswerForm → LoadOptions → ℕ → ImageDisk (FileDisk S start) (FileDisk T other)
+      → Result Queue QueueFault
       → Option (ImageDisk (FileDisk S start) (FileDisk T other)) → Result LoadReport CommandFault → Type 0
-  LoadsRead options homes disk (Ok queue) image end = LoadsApart options homes disk queue image end
-  LoadsRead options homes disk (Err fault) image end =
-      (image ≡ Some disk) × ((answer : CommandOutput) × (queue_fault fault ≡ Some (said answer))
+  LoadsRead form options homes disk (Ok queue) image end = LoadsApart options homes disk queue image end
+  LoadsRead form options homes disk (Err fault) image end =
+      (image ≡ Some disk) × ((answer : CommandOutput) × (queue_fault form fault ≡ Some (said answer))
       × (end ≡ Ok (ReportsText answer)))
 
   -- the text of the file of this name was not had, or there was no memory for its fault, and the image is as it was
   -- opened; or it was had, and what it holds is loaded or refused
-  abbrev pub LoadsText : List ℕ → LoadOptions → ℕ → ImageDisk (FileDisk S start) (FileDisk T other)
+  abbrev pub LoadsText : AnswerForm → List ℕ → LoadOptions → ℕ → ImageDisk (FileDisk S start) (FileDisk T other)
       → Option (ImageDisk (FileDisk S start) (FileDisk T other)) → Result LoadReport CommandFault → Type 0
-  LoadsText name options homes disk image end =
+  LoadsText form name options homes disk image end =
       ((fault : CommandFault) × (image ≡ Some disk) × (end ≡ Err fault) × HasNoText name None fault)
-      ⊎ ((text : List ℕ) × IsText None text × LoadsRead options homes disk (queue_of text) image end)
+      ⊎ ((text : List ℕ) × IsText None text × LoadsRead form options homes disk (queue_of text) image end)
 
 -- the image was not opened: the number of threads is bad, or it is not, and the image was not opened for this
 abbrev pub IsLoadUnopened : {S T : Type 0} → Starts S → Starts T → Loading → Option (List ℕ) → CommandFault → Type 0
@@ -155,34 +158,35 @@ JudgesLoad G journal within old new judged =
 
 module _ {S T : Type 0} {start : Starts S} {other : Starts T} where
   -- the text came next; or the image is not the journal's own, and stays as it was judged
-  abbrev pub LoadsJudged : Loading → LoadOptions → ℕ → Result Unit CommandFault
+  abbrev pub LoadsJudged : AnswerForm → Loading → LoadOptions → ℕ → Result Unit CommandFault
       → ImageDisk (FileDisk S start) (FileDisk T other) → Option (ImageDisk (FileDisk S start) (FileDisk T other))
       → Result LoadReport CommandFault → Type 0
-  LoadsJudged load options homes (Ok done) disk image end = LoadsText load.file options homes disk image end
-  LoadsJudged load options homes (Err fault) disk image end = (image ≡ Some disk) × (end ≡ Err fault)
+  LoadsJudged form load options homes (Ok done) disk image end = LoadsText form load.file options homes disk image end
+  LoadsJudged form load options homes (Err fault) disk image end = (image ≡ Some disk) × (end ≡ Err fault)
 
   -- an open image was judged, and then loaded
-  abbrev pub LoadsOpened : Loading → LoadOptions → ℕ → ImageDisk (FileDisk S start) (FileDisk T other)
+  abbrev pub LoadsOpened : AnswerForm → Loading → LoadOptions → ℕ → ImageDisk (FileDisk S start) (FileDisk T other)
       → Option (ImageDisk (FileDisk S start) (FileDisk T other)) → Result LoadReport CommandFault → Type 0
-  LoadsOpened load options homes disk image end =
+  LoadsOpened form load options homes disk image end =
       (mid : ImageDisk (FileDisk S start) (FileDisk T other)) × (judged : Result Unit CommandFault)
       × JudgesLoad as_files load.journal (is_within disk) disk mid judged
-      × LoadsJudged load options homes judged mid image end
+      × LoadsJudged form load options homes judged mid image end
 
   -- the image was not opened, and nothing was done; or it was, wherever its journal is, in blocks of the size that its
   -- first bytes say, with this many home blocks, and it was judged, and then the text came
-  abbrev pub EndsOfLoad : Loading → Option (List ℕ) → Option (ImageDisk (FileDisk S start) (FileDisk T other))
+  abbrev pub EndsOfLoad : AnswerForm → Loading → Option (List ℕ)
+      → Option (ImageDisk (FileDisk S start) (FileDisk T other))
       → Result LoadReport CommandFault → Type 0
-  EndsOfLoad load input image end =
+  EndsOfLoad form load input image end =
       ((fault : CommandFault) × (image ≡ None) × (end ≡ Err fault) × IsLoadUnopened start other load input fault)
       ⊎ (HasThreads load × ((disk : ImageDisk (FileDisk S start) (FileDisk T other)) × (homes : ℕ)
       × (found : Option MapSource)
       × IsOpenedAt Refused input load.journal load.extents disk homes found
-      × ((options : LoadOptions) × AreOptionsOf load options × LoadsOpened load options homes disk image end)))
+      × ((options : LoadOptions) × AreOptionsOf load options × LoadsOpened form load options homes disk image end)))
 
--- the whole run of a load
-abbrev pub RunsLoad : Loading → Option (List ℕ) → Outputs → Outputs → ProgramEnd → Type 0
-RunsLoad load input old new ended =
-    (image : Option FileImage) × (end : Result LoadReport CommandFault) × EndsOfLoad load input image end
-    × ((told : Result ProgramEnd CommandFault) × (mid : Outputs) × TellsLoadEnd end old mid told
-    × Closes (names_with load.image load.journal) told mid new ended)
+-- the whole run of a load, in this form
+abbrev pub RunsLoad : AnswerForm → Loading → Option (List ℕ) → Outputs → Outputs → ProgramEnd → Type 0
+RunsLoad form load input old new ended =
+    (image : Option FileImage) × (end : Result LoadReport CommandFault) × EndsOfLoad form load input image end
+    × ((told : Result ProgramEnd CommandFault) × (mid : Outputs) × TellsLoadEnd form end old mid told
+    × Closes form (names_with load.image load.journal) told mid new ended)

@@ -1,8 +1,16 @@
--- The lines and the status of a load.
+-- What a load says, in lines and in JSON, and its status.
 use Rattle.std.specs.Prelude.{◌≡◌, ℕ, Bool, true, false, ◌&&◌, ◌==◌, is_none, List, [], ◌∷◌, ◌++◌, Option, Some, None}
+use Rattle.std.specs.Prelude.{option_map}
 use Rattle.std.specs.Prelude.{Result, Ok, Err, codes, decimal}
 use Rattle.std.specs.Io.KnownBytes.{Appends}
 use Rattle.jb_text.specs.TextParts.{spelled}
+use Rattle.jb_json.specs.Facts.{Fact, Counted, Listed, Named, Worded}
+use Rattle.jb_json.specs.Objects.{json_line}
+use Rattle.jb_json.specs.Reports.{report_lines}
+use Rattle.jb_args.specs.Advice.{hint_text}
+use Rattle.jb_args.specs.declared.hint.Hint.{Hint}
+use Rattle.jb_args.specs.declared.settings.AnswerForm.{AnswerForm}
+use Rattle.jb_args.specs.declared.settings.AnswerForm.TheVariants.{Json, Text}
 use Rattle.jb_text.specs.Puts.{PutsPart}
 use Rattle.jb_text.specs.declared.putting.WriteFault.{WriteFault}
 use Rattle.jb_desk.specs.Ends.{is_shut}
@@ -14,12 +22,19 @@ use Rattle.jb_tool.specs.declared.loading.fault.QueueHandleFault.TheVariants.{Fu
 use Rattle.jb_tool.specs.declared.loading.fault.QueueHandleFault.TheVariants.{NotOpen, Memory}
 use Rattle.jb_tool.specs.declared.loading.loaded.Refused.{Refused}
 use Rattle.jb_tool.specs.declared.loading.loaded.Loaded.{Loaded}
+use Rattle.jb_tool.specs.declared.loading.telling.LoadPart.{LoadPart}
+use Rattle.jb_tool.specs.declared.loading.telling.LoadPart.TheVariants as part
+
+-- what is reported of the counts
+abbrev pub load_counts : Loaded → List Fact
+load_counts l =
+    Counted (codes "handles") l.handles ∷ Counted (codes "changes") l.changes ∷ Counted (codes "settled") l.settled
+    ∷ Counted (codes "groups") l.groups
+    ∷ Counted (codes "blocks") l.blocks ∷ []
 
 -- the line of the counts
-unfoldable pub counts_line : Loaded → List ℕ
-counts_line l = spelled (
-    codes "handles " ∷ decimal l.handles ∷ codes " changes " ∷ decimal l.changes ∷ codes " settled " ∷ decimal l.settled
-    ∷ codes " groups " ∷ decimal l.groups ∷ codes " blocks " ∷ decimal l.blocks ∷ codes "\n" ∷ [])
+abbrev pub counts_line : Loaded → List ℕ
+counts_line l = report_lines (load_counts l)
 
 -- the name of a fault
 abbrev pub name_of : QueueHandleFault → List ℕ
@@ -59,18 +74,31 @@ refused_line r = refused_parts (decimal r.handle) (name_of r.fault) (number_name
 
 -- the word of a checkpointer that ended Aborted, by how the committer did: it stopped where that one gave up
 abbrev pub aborted_word : Ended → List ℕ
-aborted_word (ended.Shut over) = codes "Aborted\n"
-aborted_word ended.Aborted = codes "Aborted\n"
-aborted_word ended.Memory = codes "Stopped\n"
-aborted_word ended.Refused = codes "Stopped\n"
+aborted_word (ended.Shut over) = codes "Aborted"
+aborted_word ended.Aborted = codes "Aborted"
+aborted_word ended.Memory = codes "Stopped"
+aborted_word ended.Refused = codes "Stopped"
 
--- the line of a thread that did not end Shut, with this word where it ended Aborted
-abbrev pub thread_end_line : List ℕ → List ℕ → Option Ended → List ℕ
-thread_end_line thread aborted None = []
-thread_end_line thread aborted (Some (ended.Shut over)) = []
-thread_end_line thread aborted (Some ended.Aborted) = spelled (thread ∷ aborted ∷ [])
-thread_end_line thread aborted (Some ended.Memory) = spelled (thread ∷ codes "Memory\n" ∷ [])
-thread_end_line thread aborted (Some ended.Refused) = spelled (thread ∷ codes "Refused\n" ∷ [])
+-- how a thread ended that did not end Shut, with this word where it ended Aborted
+abbrev pub end_word : List ℕ → Option Ended → Option (List ℕ)
+end_word aborted None = None
+end_word aborted (Some (ended.Shut over)) = None
+end_word aborted (Some ended.Aborted) = Some aborted
+end_word aborted (Some ended.Memory) = Some (codes "Memory")
+end_word aborted (Some ended.Refused) = Some (codes "Refused")
+
+-- how the committer ended that did not end Shut
+abbrev pub commit_word : Loaded → Option (List ℕ)
+commit_word l = end_word (codes "Aborted") (Some l.commit)
+
+-- the same of the checkpointer
+abbrev pub checkpoint_word : Loaded → Option (List ℕ)
+checkpoint_word l = end_word (aborted_word l.commit) l.checkpoint
+
+-- the line of a thread, where it did not end Shut, from how it ended
+abbrev pub thread_end_line : List ℕ → Option (List ℕ) → List ℕ
+thread_end_line thread None = []
+thread_end_line thread (Some word) = spelled (thread ∷ word ∷ codes "\n" ∷ [])
 
 -- its line, where one was refused
 abbrev pub refused_text : Option Refused → List ℕ
@@ -80,12 +108,55 @@ refused_text (Some r) = refused_line r
 -- the lines of the threads that did not end Shut
 unfoldable pub ends_text : Loaded → List ℕ
 ends_text l =
-    thread_end_line (codes "jb: commit ") (codes "Aborted\n") (Some l.commit)
-    ++ thread_end_line (codes "jb: checkpoint ") (aborted_word l.commit) l.checkpoint
+    thread_end_line (codes "jb: commit ") (commit_word l)
+    ++ thread_end_line (codes "jb: checkpoint ") (checkpoint_word l)
 
 -- the lines of what did not end well
 unfoldable pub faults_text : Loaded → List ℕ
 faults_text l = refused_text l.refused ++ ends_text l
+
+-- ---- in JSON
+
+-- the name of the fault of a handle that was refused, if one was
+abbrev pub refused_name : Option Refused → Option (List ℕ)
+refused_name refused = option_map (λ (r : Refused). name_of r.fault) refused
+
+-- a number where there is one
+abbrev pub if_numbered : Option ℕ → List ℕ
+if_numbered None = []
+if_numbered (Some n) = n ∷ []
+
+-- the place of that handle in the queue, and the fault's number, where it has one
+abbrev pub refused_numbers : Option Refused → List ℕ
+refused_numbers None = []
+refused_numbers (Some r) = r.handle ∷ if_numbered (number_named r.fault)
+
+-- what is reported of what did not end well
+abbrev pub load_ends : Loaded → List Fact
+load_ends l =
+    Named (codes "refused") (refused_name l.refused) ∷ Listed (codes "numbers") [] (refused_numbers l.refused)
+    ∷ Named (codes "commit") (commit_word l) ∷ Named (codes "checkpoint") (checkpoint_word l) ∷ []
+
+-- how much a load says: its counts alone, as a line; all of it in JSON, without what to do or with it
+abbrev pub part_text : LoadPart → List ℕ → Loaded → List ℕ
+part_text part.Counts hint l = counts_line l
+part_text part.All hint l = json_line (load_counts l ++ load_ends l)
+part_text part.Advised hint l = json_line (load_counts l ++ (load_ends l ++ Worded (codes "hint") hint ∷ []))
+
+-- what a load says in JSON, with this hint and this text of the system's
+abbrev pub json_text : List ℕ → Option Hint → Loaded → List ℕ
+json_text system None l = part_text part.All [] l
+json_text system (Some hint) l = part_text part.Advised (hint_text system hint) l
+
+-- what a load says on standard output, in this form
+abbrev pub load_out : AnswerForm → List ℕ → Option Hint → Loaded → List ℕ
+load_out Text system hint l = counts_line l
+load_out Json system hint l = json_text system hint l
+
+-- what it says on standard error: in JSON all is on standard output
+abbrev pub load_err : AnswerForm → Loaded → List ℕ
+load_err Text l = faults_text l
+load_err Json l = []
 
 -- a thread that was asked for ended as the desk was over
 abbrev pub is_well : Option Ended → Bool
@@ -101,11 +172,13 @@ abbrev pub status_if : Bool → ℕ
 status_if true = 0
 status_if false = 1
 
--- The counts are on standard output, and the lines of what did not end well on standard error as far as that took them;
--- or standard output failed part of the way, and nothing more was written
-abbrev pub TellsLoad : Loaded → Option (List ℕ) → Option (List ℕ) → Option (List ℕ) → Option (List ℕ)
-    → Result ℕ WriteFault → Type 0
-TellsLoad l out_old out_new err_old err_new (Ok status) =
-    Appends out_old out_new (counts_line l) × PutsPart err_old err_new (faults_text l)
+-- what is to be on standard output is there, and on standard error as much as that took; or standard output failed part
+-- of the way, and nothing more was written
+abbrev pub TellsLoad : AnswerForm → Option Hint → Loaded → Option (List ℕ) → Option (List ℕ) → Option (List ℕ)
+    → Option (List ℕ) → Result ℕ WriteFault → Type 0
+TellsLoad form hint l out_old out_new err_old err_new (Ok status) =
+    ((system : List ℕ) × Appends out_old out_new (load_out form system hint l))
+    × PutsPart err_old err_new (load_err form l)
     × (status ≡ status_if (is_whole l))
-TellsLoad l out_old out_new err_old err_new (Err fault) = PutsPart out_old out_new (counts_line l) × (err_new ≡ err_old)
+TellsLoad form hint l out_old out_new err_old err_new (Err fault) =
+    ((system : List ℕ) × PutsPart out_old out_new (load_out form system hint l)) × (err_new ≡ err_old)

@@ -1,15 +1,19 @@
 -- How the whole program ends.
-use Rattle.std.specs.Prelude.{◌≡◌, ◌≢◌, ◌⊎◌, ℕ, Bool, true, false, List, [], map, Option, Some, None, Err, IfSome}
-use Rattle.std.specs.Prelude.{codes}
+use Rattle.std.specs.Prelude.{◌≡◌, ◌≢◌, ◌⊎◌, ℕ, Bool, true, false, List, [], Option, Some, None, Result}
+use Rattle.std.specs.Prelude.{Ok, Err, IfSome, codes}
 use Rattle.std.specs.declared.io.ErrorKind.{ErrorKind}
 use Rattle.std.specs.declared.io.ErrorKind.TheVariants.{InvalidData}
 use Rattle.jb_args.specs.Advice.{hint_line}
 use Rattle.jb_args.specs.declared.hint.Hint.{Hint}
+use Rattle.jb_args.specs.declared.settings.AnswerForm.{AnswerForm}
+use Rattle.jb_args.specs.declared.settings.AnswerForm.TheVariants.{Text}
+use Rattle.jb_args.specs.Settings.{is_advised, settings_in, words_left}
+use Rattle.jb_args.specs.declared.settings.Settings.{Settings}
 use Rattle.jb_text.specs.Puts.{PutsPart}
 use Rattle.jb_args.specs.Faults.{fault_kinds}
 use Rattle.jb_args.specs.PlainCommand.Asked.{AsksCost}
 use Rattle.jb_args.specs.Command.{wanted_in}
-use Rattle.jb_commands.specs.Ends.{of_fault, with_status}
+use Rattle.jb_commands.specs.Ends.{exit_status, of_fault, with_status}
 use Rattle.jb_commands.specs.Faults.{line_of, not_utf8}
 use Rattle.jb_commands.specs.Runs.{Closes, Runs}
 use Rattle.jb_commands.specs.Outputs.{Outputs}
@@ -18,26 +22,39 @@ use Rattle.jb_commands.specs.declared.fault.CommandFault.TheVariants.{Memory}
 use Rattle.jb_tool.specs.RefusedWords.{RefusesWords}
 use Rattle.jb_tool.specs.RunWanted.{RunsWanted}
 
--- what `run` says of a run with these words
-pub record RunsWords {S : Type 0} (text : S → List ℕ) (words : List S) (input : Option (List ℕ)) (old new : Outputs)
+-- what `run` says of a run with these words, in this form; a fault of the words themselves is text in either
+pub record RunsWords (form : AnswerForm) (words : List (List ℕ)) (input : Option (List ℕ)) (old new : Outputs)
     (ended : ProgramEnd) : Type 0 where
-  pub bare : words ≡ [] → Runs (AsksCost (codes "-")) input old new ended
-  pub asked : words ≢ [] → fault_kinds (map text words) ≡ []
-      → IfSome (wanted_in (map text words)) (λ wanted. RunsWanted wanted input old new ended
-      ⊎ Closes None (Err Memory) old new ended)
-  pub refused : words ≢ [] → (fault_kinds (map text words) ≢ []) ⊎ (wanted_in (map text words) ≡ None)
-      → RefusesWords (fault_kinds (map text words)) (wanted_in (map text words)) old new ended
+  pub bare : words ≡ [] → Runs form (AsksCost (codes "-")) input old new ended
+  pub asked : words ≢ [] → fault_kinds words ≡ []
+      → IfSome (wanted_in words) (λ wanted. RunsWanted form wanted input old new ended
+      ⊎ Closes Text None (Err Memory) old new ended)
+  pub refused : words ≢ [] → (fault_kinds words ≢ []) ⊎ (wanted_in words ≡ None)
+      → RefusesWords (fault_kinds words) (wanted_in words) old new ended
 
 -- the help is on standard error, with status 2, or there was no memory for it
 abbrev pub Helps : Option (List ℕ) → Option (List ℕ) → ProgramEnd → Type 0
 Helps err_old err_new ended =
     (ended ≡ with_status 2) ⊎ ((ended ≡ of_fault Memory) × PutsPart err_old err_new (line_of None Memory))
 
--- what the program answers to its words: at a terminal its help where there are none, and else a run with them
-pub record AnswersWords {S : Type 0} (text : S → List ℕ) (words : List S) (at_terminal : Bool) (input : Option (List ℕ))
-    (old new : Outputs) (ended : ProgramEnd) : Type 0 where
+-- what the program answers to words that are no settings: at a terminal its help where there are none, and else a run
+-- with them
+pub record AnswersWords (form : AnswerForm) (words : List (List ℕ)) (at_terminal : Bool) (input : Option (List ℕ))
+    (old new : Outputs)
+    (ended : ProgramEnd) : Type 0 where
   pub help : words ≡ [] → at_terminal ≡ true → Helps old.err new.err ended × (new.out ≡ old.out)
-  pub run : (words ≢ []) ⊎ (at_terminal ≡ false) → RunsWords text words input old new ended
+  pub run : (words ≢ []) ⊎ (at_terminal ≡ false) → RunsWords form words input old new ended
+
+-- what it answers to all its words: what it answers to those that are left without the settings, or there was no memory
+-- for these
+abbrev pub AnswersGiven : AnswerForm → List (List ℕ) → Bool → Option (List ℕ) → Outputs → Outputs → ProgramEnd → Type 0
+AnswersGiven form words at_terminal input old new ended =
+    AnswersWords form (words_left words) at_terminal input old new ended ⊎ Closes Text None (Err Memory) old new ended
+
+-- the settings that were given, as the words change them, where the system has handed them over
+abbrev pub settings_given : {W K : Type 0} → (W → List (List ℕ)) → Settings → Result W K → Settings
+settings_given texts given (Ok words) = settings_in given (texts words)
+settings_given texts given (Err kind) = given
 
 -- what it answers where the system has not handed its words over: a word that is no text, or no memory
 pub record RefusesKind (kind : ErrorKind) (old new : Outputs) (ended : ProgramEnd) : Type 0 where
@@ -45,15 +62,15 @@ pub record RefusesKind (kind : ErrorKind) (old new : Outputs) (ended : ProgramEn
   pub memory : kind ≢ InvalidData → (ended ≡ of_fault Memory) × PutsPart old.err new.err (line_of None Memory)
   pub out : new.out ≡ old.out
 
--- on a terminal a second line follows where an end has a hint, as far as standard error took it; else nothing does
+-- where it is advised a second line follows an end that has a hint, as far as standard error took it; else nothing does
 abbrev pub Advises : Bool → Option Hint → Option (List ℕ) → Option (List ℕ) → Type 0
 Advises true (Some hint) err_old err_new = (system : List ℕ) × PutsPart err_old err_new (hint_line system hint)
 Advises true None err_old err_new = err_new ≡ err_old
 Advises false hint err_old err_new = err_new ≡ err_old
 
--- the program's status and outputs by what it answered: the status is the answer's, and on a terminal the second line
--- follows
-abbrev pub EndsProgram : Bool → (Outputs → Outputs → ProgramEnd → Type 0) → Outputs → Outputs → ℕ → Type 0
-EndsProgram on_terminal Answers old new status =
-    (ended : ProgramEnd) × (mid : Outputs) × Answers old mid ended × (status ≡ ended.status) × (new.out ≡ mid.out)
-    × Advises on_terminal ended.hint mid.err new.err
+-- the program's status and outputs by what it answered: the status is the answer's, or a finer one where the settings
+-- ask for it, and where they or a terminal ask for it the second line follows
+abbrev pub EndsProgram : Settings → Bool → (Outputs → Outputs → ProgramEnd → Type 0) → Outputs → Outputs → ℕ → Type 0
+EndsProgram settings on_terminal Answers old new status =
+    (ended : ProgramEnd) × (mid : Outputs) × Answers old mid ended × (status ≡ exit_status settings.statuses ended)
+    × (new.out ≡ mid.out) × Advises (is_advised settings on_terminal) ended.hint mid.err new.err

@@ -4,6 +4,7 @@ use Rattle.jb_text.specs.Puts.{PutsPart}
 use Rattle.jb_args.specs.Faults.{HasKind, Kinds, kind_of}
 use Rattle.jb_args.specs.Command.{Wanted}
 use Rattle.jb_args.specs.declared.Error.{Error}
+use Rattle.jb_args.specs.declared.settings.AnswerForm.TheVariants.{Text}
 use Rattle.jb_args.specs.declared.ErrorKind.{ErrorKind}
 use Rattle.jb_args.specs.declared.ErrorKind.TheVariants.{DisplayHelp, DisplayVersion, OutOfMemory}
 use Rattle.jb_commands.specs.Ends.{of_fault, with_status}
@@ -16,7 +17,7 @@ use Rattle.jb_commands.specs.declared.fault.CommandFault.TheVariants.{Memory, Wr
 -- how a run ends whose words clap refuses for this reason: help and the version are for standard output, and all else
 -- of clap's texts for standard error
 pub record EndsRefused (kind : ErrorKind) (old new : Outputs) (ended : ProgramEnd) : Type 0 where
-  pub memory : kind ≡ OutOfMemory → Closes None (Err Memory) old new ended
+  pub memory : kind ≡ OutOfMemory → Closes Text None (Err Memory) old new ended
   pub shown : (kind ≡ DisplayHelp) ⊎ (kind ≡ DisplayVersion)
       → ((ended ≡ with_status 0) × (new.err ≡ old.err))
       ⊎ ((ended ≡ of_fault WriteFault) × PutsPart old.err new.err (line_of None WriteFault))

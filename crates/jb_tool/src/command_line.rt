@@ -2,6 +2,7 @@ ghost use Rattle.std.specs.Prelude.{◌≡◌, ◌≢◌, ◌⊎◌, Err, None, 
 ghost use Rattle.jb_args.specs.Faults.{fault_kinds, kind_of};
 ghost use Rattle.jb_args.specs.PlainCommand.Asked.{AsksCost};
 ghost use Rattle.jb_args.specs.Command.{wanted_in};
+ghost use Rattle.jb_args.specs.declared.settings.AnswerForm.TheVariants.{Text};
 ghost use Rattle.jb_text.specs.Puts.{PutsPart};
 ghost use Rattle.jb_commands.specs.Ends.{of_fault, with_status};
 ghost use Rattle.jb_commands.specs.Runs.{Closes, Runs};
@@ -10,8 +11,9 @@ ghost use Rattle.jb_commands.specs.declared.fault.CommandFault.TheVariants.{Memo
 ghost use Rattle.jb_tool.specs.RefusedWords.{RefusesWords};
 ghost use Rattle.jb_tool.specs.RunWanted.{RunsWanted, wants_input};
 
+use crate::completing::run_completions;
 use crate::load_command::run_load;
-use jb_args::{CommandLine, Error, ErrorKind, Plain, parse};
+use jb_args::{CommandLine, Error, ErrorKind, Plain, Settings, parse};
 use jb_commands::{CommandFault, ProgramEnd, run_plain};
 use std::convert::AsStr;
 use std::fs::File;
@@ -23,25 +25,26 @@ use std::time::Clock;
 
 /// Runs `jb` with these words, the program's name left out, and gives its end. With no words it acts as
 /// `jb cost -`. Words that are no command are answered by clap's text: status 2 and `err`, or status 0 and `out` for
-/// help and the version. `input` is read by a command whose text it is, and else left as it is.
+/// help and the version. The words have no settings among them any more. `input` is read by a command whose text it
+/// is, and else left as it is.
 pub fn run<
     R: Files<File = File> + AllocGlobal + Threads + Wait + Clock + Sync,
     S: AsStr,
     I: Read,
     O: Write,
     E: Write,
->(rt: &R, words: &[S], input: &mut I, out: &mut O, err: &mut E) -> ProgramEnd
+>(rt: &R, words: &[S], settings: Settings, input: &mut I, out: &mut O, err: &mut E) -> ProgramEnd
     /// Without words, the same of `cost -`.
-    ensures bare { words.now ≡ [] → Runs (AsksCost (codes "-")) (I.remaining input.old)
+    ensures bare { words.now ≡ [] → Runs settings.form (AsksCost (codes "-")) (I.remaining input.old)
         (record { out = O.contents out.old; err = E.contents err.old })
         (record { out = O.contents out.new; err = E.contents err.new }) result }
     /// Where it finds no fault: the same of the command that it finds; of `load` what it opens, in which order, and
     /// what it reports. [But see](docs/WRONG_BODIES.md#loads).
     ensures asked { words.now ≢ [] → fault_kinds (map S.text words.now) ≡ []
-        → IfSome (wanted_in (map S.text words.now)) (λ wanted. RunsWanted wanted (I.remaining input.old)
+        → IfSome (wanted_in (map S.text words.now)) (λ wanted. RunsWanted settings.form wanted (I.remaining input.old)
         (record { out = O.contents out.old; err = E.contents err.old })
         (record { out = O.contents out.new; err = E.contents err.new }) result
-        ⊎ Closes None (Err CommandMemory) (record { out = O.contents out.old; err = E.contents err.old })
+        ⊎ Closes Text None (Err CommandMemory) (record { out = O.contents out.old; err = E.contents err.old })
         (record { out = O.contents out.new; err = E.contents err.new }) result) }
     /// Where clap refuses the words: the status, and which output stays as it was. [But
     /// see](docs/WRONG_BODIES.md#readers-writers-and-files).
@@ -54,18 +57,25 @@ pub fn run<
         → input.new ≡ input.old }
 {
     if words.is_empty() {
-        return run_plain(rt, Plain::Cost { file: "-" }, input, out, err);
+        return run_plain(rt, Plain::Cost { file: "-" }, settings, input, out, err);
     }
     match parse(rt.alloc(), words) {
-        Ok(CommandLine::Plain(plain)) => run_plain(rt, plain, input, out, err),
-        Ok(CommandLine::Load(load)) => run_load(rt, load, input, out, err),
+        Ok(CommandLine::Plain(plain)) => run_plain(rt, plain, settings, input, out, err),
+        Ok(CommandLine::Load(load)) => run_load(rt, load, settings, input, out, err),
+        Ok(CommandLine::Completions { shell }) => run_completions(
+            rt.alloc(),
+            shell,
+            settings.form,
+            out,
+            err,
+        ),
         Err(error) => tell_refusal(&error, out, err),
     }
 }
 
 /// Writes what clap says of the words, and gives the end of the program.
 fn tell_refusal<O: Write, E: Write>(error: &Error, out: &mut O, err: &mut E) -> ProgramEnd
-    ensures memory { kind_of error.now ≡ ErrorKind.OutOfMemory → Closes None (Err CommandMemory)
+    ensures memory { kind_of error.now ≡ ErrorKind.OutOfMemory → Closes Text None (Err CommandMemory)
         (record { out = O.contents out.old; err = E.contents err.old })
         (record { out = O.contents out.new; err = E.contents err.new }) result }
     ensures shown { (kind_of error.now ≡ ErrorKind.DisplayHelp) ⊎ (kind_of error.now ≡ ErrorKind.DisplayVersion)

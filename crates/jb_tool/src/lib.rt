@@ -3,6 +3,7 @@
 #![tactic(auto)]
 
 mod command_line;
+mod completing;
 mod hints;
 mod load_command;
 mod load_report;
@@ -11,6 +12,7 @@ mod own_homes;
 mod program;
 
 pub use command_line::run;
+pub use jb_args::{AnswerForm, Settings};
 pub use jb_commands::{
     CommandEnd, CommandFault, Plain, ProgramEnd, Report, TEXT_LIMIT, TwoFiles, cat_file, dump_from,
     format_file, perform, recover_file, recover_on, refuse_words, renumber_file, renumber_on,

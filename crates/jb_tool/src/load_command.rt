@@ -4,12 +4,12 @@ ghost use Rattle.jb_commands.specs.ListText.{reads_list};
 ghost use Rattle.jb_queue.specs.QueueLines.{queue_in};
 ghost use Rattle.jb_args.specs.Command.{load_said};
 ghost use Rattle.jb_tool.specs.Load.{EndsOfLoad, HasThreads, AreOptionsOf, LoadsApart, LoadsQueue, LoadsText};
-ghost use Rattle.jb_tool.specs.Load.{JudgesLoad, LoadsOpened, RunsLoad, load_fault};
+ghost use Rattle.jb_tool.specs.Load.{JudgesLoad, LoadsOpened, RunsLoad};
 
-use crate::load_report::{LoadDone, LoadReport};
+use crate::load_report::{LoadDone, LoadReport, fault_of};
 use crate::own_homes::own_touched;
-use crate::{LoadFault, LoadOptions, load_on};
-use jb_args::{LoadWords, OptionName};
+use crate::{LoadOptions, load_on};
+use jb_args::{AnswerForm, LoadWords, OptionName, Settings};
 use jb_block::Stamp;
 use jb_commands::{
     CommandFault, Opening, ProgramEnd, TwoFiles, close, fault_answer, judge_on, open_placed,
@@ -17,7 +17,6 @@ use jb_commands::{
 };
 use jb_disk::{Disk, FileDisk, FixedClock, Start, Unknown};
 use jb_image::{ExtentsFault, ImageDisk, JournalUse};
-use jb_journal::OpenFault;
 use jb_queue::{QueueLines, read_lines};
 use jb_super::Checksums;
 use std::fs::File;
@@ -31,21 +30,30 @@ use std::time::Clock;
 /// The most threads that may run the handles.
 const MOST_THREADS: u64 = 64;
 
-/// Runs `jb load` and gives the program's end; a load that ends without an answer has its line on `err`.
+/// Runs `jb load` and gives the program's end; a load that ends without an answer has its line on `err`,
+/// or in JSON the same.
 pub(crate) fn run_load<
     R: Files<File = File> + AllocGlobal + Threads + Wait + Clock + Sync,
     I: Read,
     O: Write,
     E: Write,
->(rt: &R, load: LoadWords<'_>, input: &mut I, out: &mut O, err: &mut E) -> ProgramEnd
-    ensures runs { RunsLoad (load_said load.entry) (I.remaining input.old)
+>(
+    rt: &R,
+    load: LoadWords<'_>,
+    settings: Settings,
+    input: &mut I,
+    out: &mut O,
+    err: &mut E,
+) -> ProgramEnd
+    ensures runs { RunsLoad settings.form (load_said load.entry) (I.remaining input.old)
         (record { out = O.contents out.old; err = E.contents err.old })
         (record { out = O.contents out.new; err = E.contents err.new }) result }
     ensures unread { reads_list (load_said load.entry).extents ≡ false → input.new ≡ input.old }
 {
-    let done = load_files::<Unknown, Unknown, R, I>(rt, load, input);
-    let told = done.tell(out, err);
-    close(told, TwoFiles::of(load.image, load.journal), err)
+    let done = load_files::<Unknown, Unknown, R, I>(rt, load, settings.form, input);
+    let told = done.tell(settings.form, out, err);
+    let files = TwoFiles::of(load.image, load.journal);
+    close(settings.form, told, files, err)
 }
 
 /// Loads the queue text of one file into the image that another one is. Where the journal is not at its front, the
@@ -61,13 +69,13 @@ pub fn load_files<
     T: Start + Send,
     R: Files<File = File> + AllocGlobal + Threads + Wait + Clock + Sync,
     I: Read,
->(rt: &R, load: LoadWords<'a>, input: &mut I) -> LoadDone<'a, S, T>
+>(rt: &R, load: LoadWords<'a>, form: AnswerForm, input: &mut I) -> LoadDone<'a, S, T>
     /// `load` over files, wherever the image has its journal: it was not opened; or nothing may be loaded to that file
     /// system's journal, the text is not there or is refused, or a handle touches a block of a journal within the
     /// image, and the image is as it was judged; or the queue was loaded and, if the files are honest, the groups that
     /// are counted are in its journal with the handles that stopped; or `load_on` has no answer, and nothing is said of
     /// what the image holds once its journal was opened. [But see](docs/WRONG_BODIES.md#loads).
-    ensures ends { EndsOfLoad (load_said load.entry) (I.remaining input.old) result.image result.end }
+    ensures ends { EndsOfLoad form (load_said load.entry) (I.remaining input.old) result.image result.end }
     ensures unread { reads_list (load_said load.entry).extents ≡ false → input.new ≡ input.old }
 {
     let Some(options) = load_options(load) else {
@@ -85,7 +93,7 @@ pub fn load_files<
         Checksums::Refused,
         input,
     ) {
-        Ok(opened) => load_opened(rt, load, opened.disk, opened.homes, options),
+        Ok(opened) => load_opened(rt, load, form, opened.disk, opened.homes, options),
         Err(fault) => LoadDone {
             image: None,
             end: Err(fault),
@@ -105,16 +113,17 @@ fn load_opened<
 >(
     rt: &R,
     load: LoadWords<'a>,
+    form: AnswerForm,
     mut disk: ImageDisk<FileDisk<S>, FileDisk<T>>,
     homes: u64,
     options: LoadOptions,
 ) -> LoadDone<'a, S, T>
     requires threads { (1 ≤ options.threads) × (options.threads ≤ 64) }
-    ensures loads { LoadsOpened (load_said load.entry) options homes disk result.image result.end }
+    ensures loads { LoadsOpened form (load_said load.entry) options homes disk result.image result.end }
 {
     let within = disk.is_within();
     match judge_load(&mut disk, load.journal, within) {
-        Ok(()) => load_text(rt, load, disk, homes, options),
+        Ok(()) => load_text(rt, load, form, disk, homes, options),
         Err(fault) => LoadDone {
             image: Some(disk),
             end: Err(fault),
@@ -154,12 +163,13 @@ fn load_text<
 >(
     rt: &R,
     load: LoadWords<'a>,
+    form: AnswerForm,
     disk: ImageDisk<FileDisk<S>, FileDisk<T>>,
     homes: u64,
     options: LoadOptions,
 ) -> LoadDone<'a, S, T>
     requires threads { (1 ≤ options.threads) × (options.threads ≤ 64) }
-    ensures loads { LoadsText (load_said load.entry).file options homes disk result.image result.end }
+    ensures loads { LoadsText form (load_said load.entry).file options homes disk result.image result.end }
 {
     let text = match read_file(rt, load.file) {
         Ok(text) => text,
@@ -172,7 +182,7 @@ fn load_text<
     };
     match read_lines(rt.alloc(), text) {
         Ok(queue) => load_apart(rt, disk, homes, load.stamp, &queue, options),
-        Err(fault) => match fault_answer(rt.alloc(), fault) {
+        Err(fault) => match fault_answer(rt.alloc(), form, fault) {
             Ok(answer) => LoadDone {
                 image: Some(disk),
                 end: Ok(LoadReport::Text(answer)),
@@ -267,20 +277,4 @@ fn load_options(load: LoadWords<'_>) -> Option<LoadOptions>
         hold: load.hold,
         checkpoint: load.checkpoint,
     })
-}
-
-/// What a fault of a load is reported as.
-fn fault_of<'a>(fault: LoadFault) -> CommandFault<'a>
-    ensures { result ≡ load_fault fault }
-{
-    match fault {
-        LoadFault::BlockSize => CommandFault::BlockSize,
-        LoadFault::Open(OpenFault::DeviceFault) => CommandFault::DeviceFault,
-        LoadFault::Open(OpenFault::Super(fault)) => CommandFault::Super(fault),
-        LoadFault::Open(OpenFault::NeedsRecovery) => CommandFault::NeedsRecovery,
-        LoadFault::Open(OpenFault::NumbersSpent) => CommandFault::NumbersSpent,
-        LoadFault::Open(OpenFault::Memory) => CommandFault::Memory,
-        LoadFault::Memory => CommandFault::Memory,
-        LoadFault::Accounts => CommandFault::Accounts,
-    }
 }

@@ -1,11 +1,14 @@
 //! What came of a load, and how it is told.
-ghost use Rattle.jb_tool.specs.Load.{TellsLoadReport};
+ghost use Rattle.std.specs.Prelude.{◌≡◌};
+ghost use Rattle.jb_tool.specs.Load.{TellsLoadReport, load_fault};
 
 use crate::hints::load_hint;
-use crate::{Loaded, tell_loaded};
+use crate::{LoadFault, Loaded, tell_loaded};
+use jb_args::AnswerForm;
 use jb_commands::{CommandFault, CommandOutput, ProgramEnd, tell};
 use jb_disk::{FileDisk, Start, Unknown};
 use jb_image::ImageDisk;
+use jb_journal::OpenFault;
 use std::io::Write;
 
 /// What a load has to say once its image is closed.
@@ -30,25 +33,26 @@ pub struct LoadDone<'a, S: Start = Unknown, T: Start = Unknown> {
 impl<'a, S: Start, T: Start> LoadDone<'a, S, T> {
     ghost use Rattle.jb_tool.specs.Load.{TellsLoadEnd};
 
-    /// Closes the image, and then writes what there is to say, and gives the program's end.
+    /// Closes the image, and then writes what there is to say, in this form, and gives the program's end.
     ///
     /// # Errors
     /// The fault of a load that ended without an answer, and then nothing was written; `CommandFault::WriteFault` where
     /// standard output took only the beginning of its line.
     pub fn tell<O: Write, E: Write>(
         self,
+        form: AnswerForm,
         out: &mut O,
         err: &mut E,
     ) -> Result<ProgramEnd, CommandFault<'a>>
-        /// What came of it, in its lines, once the image is closed.
-        ensures tells { TellsLoadEnd self.entry.end (record { out = O.contents out.old; err = E.contents err.old })
+        /// What came of it, in its lines or in JSON, once the image is closed.
+        ensures tells { TellsLoadEnd form self.entry.end (record { out = O.contents out.old; err = E.contents err.old })
             (record { out = O.contents out.new; err = E.contents err.new }) result }
     {
         let LoadDone { image, end } = self;
         // no line is written while an image is open
         drop(image);
         match end {
-            Ok(report) => tell_report(&report, out, err),
+            Ok(report) => tell_report(form, &report, out, err),
             Err(fault) => Err(fault),
         }
     }
@@ -59,21 +63,36 @@ impl<'a, S: Start, T: Start> LoadDone<'a, S, T> {
 /// # Errors
 /// `CommandFault::WriteFault` where standard output took only the beginning of its line.
 fn tell_report<'a, O: Write, E: Write>(
+    form: AnswerForm,
     report: &LoadReport,
     out: &mut O,
     err: &mut E,
 ) -> Result<ProgramEnd, CommandFault<'a>>
-    ensures tells { TellsLoadReport report.now (record { out = O.contents out.old; err = E.contents err.old })
+    ensures tells { TellsLoadReport form report.now (record { out = O.contents out.old; err = E.contents err.old })
         (record { out = O.contents out.new; err = E.contents err.new }) result }
 {
     match report {
         LoadReport::Loaded(loaded, homes) => {
-            let status = tell_loaded(loaded, out, err)?;
-            Ok(ProgramEnd {
-                status,
-                hint: load_hint(loaded, *homes),
-            })
+            let hint = load_hint(loaded, *homes);
+            let status = tell_loaded(form, loaded, hint, out, err)?;
+            Ok(ProgramEnd { status, hint })
         }
         LoadReport::Text(answer) => tell(answer, out, err),
+    }
+}
+
+/// What a fault of a load is reported as.
+pub(crate) fn fault_of<'a>(fault: LoadFault) -> CommandFault<'a>
+    ensures { result ≡ load_fault fault }
+{
+    match fault {
+        LoadFault::BlockSize => CommandFault::BlockSize,
+        LoadFault::Open(OpenFault::DeviceFault) => CommandFault::DeviceFault,
+        LoadFault::Open(OpenFault::Super(fault)) => CommandFault::Super(fault),
+        LoadFault::Open(OpenFault::NeedsRecovery) => CommandFault::NeedsRecovery,
+        LoadFault::Open(OpenFault::NumbersSpent) => CommandFault::NumbersSpent,
+        LoadFault::Open(OpenFault::Memory) => CommandFault::Memory,
+        LoadFault::Memory => CommandFault::Memory,
+        LoadFault::Accounts => CommandFault::Accounts,
     }
 }

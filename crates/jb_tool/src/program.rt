@@ -1,9 +1,15 @@
 //! The whole program over its words and its three streams, whatever they are.
-ghost use Rattle.std.specs.Prelude.{◌≡◌, MatchResult, true};
-ghost use Rattle.jb_tool.specs.Program.{Advises, AnswersWords, EndsProgram, Helps, RefusesKind};
+ghost use Rattle.std.specs.Prelude.{◌≡◌, MatchResult, None, map, true};
+ghost use Rattle.jb_args.specs.Settings.{is_advised};
+ghost use Rattle.jb_text.specs.Puts.{PutsPart};
+ghost use Rattle.jb_commands.specs.Ends.{exit_status, of_fault};
+ghost use Rattle.jb_commands.specs.Faults.{line_of};
+ghost use Rattle.jb_commands.specs.declared.fault.CommandFault.TheVariants.{Memory as CommandMemory};
+ghost use Rattle.jb_tool.specs.Program.{Advises, AnswersGiven, AnswersWords, EndsProgram, Helps, RefusesKind};
+ghost use Rattle.jb_tool.specs.Program.{settings_given};
 
 use crate::command_line::run;
-use jb_args::{put_hint, show_help};
+use jb_args::{Settings, put_hint, settings_in, show_help, words_left};
 use jb_commands::{CommandFault, ProgramEnd, refuse_words};
 use std::alloc::Global;
 use std::convert::AsStr;
@@ -24,7 +30,8 @@ pub struct Terminals {
 }
 
 /// Runs the program with these words, its name left out, or with the reason for which the system has not handed them
-/// over, and gives its exit status: what was answered, and on a terminal the second line after it.
+/// over, and gives its exit status: what was answered, and the second line after it where the settings or a terminal
+/// ask for it. The settings are those that were given, as the words change them; a command has the words that are left.
 pub fn run_program<
     R: Files<File = File> + AllocGlobal + Threads + Wait + Clock + Sync,
     S: AsStr,
@@ -34,32 +41,49 @@ pub fn run_program<
 >(
     rt: &R,
     words: Result<&[S], ErrorKind>,
+    given: Settings,
     terminals: Terminals,
     input: &mut I,
     out: &mut O,
     err: &mut E,
 ) -> u8
-    /// The whole program, over any words and streams: its status is that of the answer, both outputs are as the answer
-    /// has left them, and on a terminal the second line of its hint follows, as far as standard error took it.
-    ensures ends { EndsProgram terminals.err (λ old new ended. MatchResult words.entry
-        (λ words. AnswersWords S.text words.now terminals.input (I.remaining input.old) old new ended)
+    /// The whole program, over any words and streams: its status is that of the answer, or a finer one where the
+    /// settings ask for it, both outputs are as the answer has left them, and where the settings or a terminal ask for
+    /// it the second line of its hint follows, as far as standard error took it.
+    ensures ends { EndsProgram (settings_given (λ w. map S.text w.now) given words.entry) terminals.err
+        (λ old new ended. MatchResult words.entry
+        (λ ws. AnswersGiven (settings_given (λ w. map S.text w.now) given words.entry).form
+        (map S.text ws.now) terminals.input (I.remaining input.old) old new ended)
         (λ kind. RefusesKind kind old new ended))
         (record { out = O.contents out.old; err = E.contents err.old })
         (record { out = O.contents out.new; err = E.contents err.new }) result }
 {
-    let ended = answered(rt, words, terminals.input, input, out, err);
-    finish(ended, terminals.err, err)
+    let settings = settings_of(given, words);
+    let ended = answered(rt, words, settings, terminals.input, input, out, err);
+    finish(ended, settings, terminals.err, err)
 }
 
-/// Writes on a terminal the second line that an end has, and gives the exit status. A fault of the writer is ignored.
-fn finish<E: Write>(ended: ProgramEnd, on_terminal: bool, err: &mut E) -> u8
-    ensures status { result ≡ ended.status }
-    ensures advises { Advises on_terminal ended.hint (E.contents err.old) (E.contents err.new) }
+/// The settings that were given, as the words change them, where there are words.
+fn settings_of<S: AsStr>(given: Settings, words: Result<&[S], ErrorKind>) -> Settings
+    ensures { result ≡ settings_given (λ w. map S.text w.now) given words.entry }
 {
-    if on_terminal {
+    match words {
+        Ok(words) => settings_in(given, words),
+        Err(_) => given,
+    }
+}
+
+/// Writes the second line that an end has where it is advised, and gives the exit status. A fault of the writer is
+/// ignored.
+fn finish<E: Write>(ended: ProgramEnd, settings: Settings, on_terminal: bool, err: &mut E) -> u8
+    ensures status { result ≡ exit_status settings.statuses ended }
+    ensures advises { Advises (is_advised settings on_terminal) ended.hint (E.contents err.old)
+        (E.contents err.new) }
+{
+    if settings.is_advised(on_terminal) {
         advise(ended, err);
     }
-    ended.status
+    ended.exit_status(settings.statuses)
 }
 
 /// Writes the second line that an end has.
@@ -84,13 +108,14 @@ fn answered<
 >(
     rt: &R,
     words: Result<&[S], ErrorKind>,
+    settings: Settings,
     at_terminal: bool,
     input: &mut I,
     out: &mut O,
     err: &mut E,
 ) -> ProgramEnd
     ensures answers { MatchResult words.entry
-        (λ words. AnswersWords S.text words.now at_terminal (I.remaining input.old)
+        (λ words. AnswersGiven settings.form (map S.text words.now) at_terminal (I.remaining input.old)
         (record { out = O.contents out.old; err = E.contents err.old })
         (record { out = O.contents out.new; err = E.contents err.new }) result)
         (λ kind. RefusesKind kind
@@ -98,27 +123,60 @@ fn answered<
         (record { out = O.contents out.new; err = E.contents err.new }) result) }
 {
     match words {
-        Ok(words) => answered_words(rt, words, at_terminal, input, out, err),
+        Ok(words) => answered_given(rt, words, settings, at_terminal, input, out, err),
         Err(kind) => refuse_words(kind, err),
+    }
+}
+
+/// Takes the settings off the words, and runs `jb` with those that are left.
+fn answered_given<
+    R: Files<File = File> + AllocGlobal + Threads + Wait + Clock + Sync,
+    S: AsStr,
+    I: Read,
+    O: Write,
+    E: Write,
+>(
+    rt: &R,
+    words: &[S],
+    settings: Settings,
+    at_terminal: bool,
+    input: &mut I,
+    out: &mut O,
+    err: &mut E,
+) -> ProgramEnd
+    ensures answers { AnswersGiven settings.form (map S.text words.now) at_terminal (I.remaining input.old)
+        (record { out = O.contents out.old; err = E.contents err.old })
+        (record { out = O.contents out.new; err = E.contents err.new }) result }
+{
+    match words_left(rt.alloc(), words) {
+        Ok(left) => answered_words(rt, left.as_slice(), settings, at_terminal, input, out, err),
+        Err(_) => out_of_memory(err),
     }
 }
 
 /// Runs `jb` with these words; with no words, and standard input a terminal, writes its help.
 fn answered_words<
     R: Files<File = File> + AllocGlobal + Threads + Wait + Clock + Sync,
-    S: AsStr,
     I: Read,
     O: Write,
     E: Write,
->(rt: &R, words: &[S], at_terminal: bool, input: &mut I, out: &mut O, err: &mut E) -> ProgramEnd
-    ensures answers { AnswersWords S.text words.now at_terminal (I.remaining input.old)
+>(
+    rt: &R,
+    words: &[&str],
+    settings: Settings,
+    at_terminal: bool,
+    input: &mut I,
+    out: &mut O,
+    err: &mut E,
+) -> ProgramEnd
+    ensures answers { AnswersWords settings.form (map (λ word. word.now) words.now) at_terminal (I.remaining input.old)
         (record { out = O.contents out.old; err = E.contents err.old })
         (record { out = O.contents out.new; err = E.contents err.new }) result }
 {
     if at_terminal && words.is_empty() {
         return help(rt.alloc(), err);
     }
-    run(rt, words, input, out, err)
+    run(rt, words, settings, input, out, err)
 }
 
 /// Writes the short help, as clap does where words are missing, and gives the end of the program.
@@ -127,9 +185,15 @@ fn help<E: Write>(alloc: Global, err: &mut E) -> ProgramEnd
 {
     match show_help(alloc, err) {
         Ok(()) => ProgramEnd::with_status(2),
-        Err(_) => {
-            CommandFault::Memory.tell(None, err);
-            ProgramEnd::of_fault(CommandFault::Memory)
-        }
+        Err(_) => out_of_memory(err),
     }
+}
+
+/// Says that memory ran out, and gives the end of the program.
+fn out_of_memory<E: Write>(err: &mut E) -> ProgramEnd
+    ensures told { PutsPart (E.contents err.old) (E.contents err.new) (line_of None CommandMemory) }
+    ensures ends { result ≡ of_fault CommandMemory }
+{
+    CommandFault::Memory.tell(None, err);
+    ProgramEnd::of_fault(CommandFault::Memory)
 }

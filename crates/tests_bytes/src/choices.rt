@@ -81,6 +81,7 @@ fn choice_of(taken: &Taken) -> DumpFilter {
         last: taken.1,
         superblock: false,
         summary: false,
+        drawn: false,
         checksums: false,
     }
 }

@@ -126,6 +126,7 @@ fn alone(checksums: bool, home: Option<u64>, last: Option<u64>) -> DumpFilter {
         last,
         superblock: true,
         summary: false,
+        drawn: false,
         checksums,
     }
 }

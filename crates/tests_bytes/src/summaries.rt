@@ -14,6 +14,17 @@ const GLANCE: DumpFilter = DumpFilter {
     last: None,
     superblock: false,
     summary: true,
+    drawn: false,
+    checksums: false,
+};
+
+/// The same, and drawn.
+const DRAWN: DumpFilter = DumpFilter {
+    home: None,
+    last: None,
+    superblock: false,
+    summary: true,
+    drawn: true,
     checksums: false,
 };
 
@@ -107,18 +118,53 @@ static BY_HAND: [Case; 6] = [
     ),
 ];
 
+/// WRAPPED with its picture: a transaction that begins in column 29 and goes on in column 0.
+const WRAPS_DRAWN: &str = "log transactions=1 used=6 usable=32 free=26
+ends tail=30 head=4
+blocks least=6 mean=6 most=6
+copies total=4 homes=4
+home number=5 copies=1
+home number=6 copies=1
+home number=7 copies=1
+home number=8 copies=1
+revokes total=0
+commits first=1970-01-01T00:00:00Z last=1970-01-01T00:00:00Z
+blocks in a column: 1; . free, - used, 1-9 transactions begin, + more
+|---..........................1--|
+|   H                         T  |
+T is the tail, H the head, B both
+|##############################| home 5: 1
+|##############################| home 6: 1
+|##############################| home 7: 1
+|##############################| home 8: 1
+";
+
+/// Words of a journal made by hand, and the journal at a glance with its picture, where its log holds something.
+static DRAWN_BY_HAND: [Case; 3] = [
+    Case("10:21 1 2 0", Ok(CLEAN)),
+    Case("10:21 1 9 1", Ok(EMPTY)),
+    Case(WRAPPED, Ok(WRAPS_DRAWN)),
+];
+
 /// Checks a journal at a glance that is made by hand.
-fn check_glance(test: &impl Test, alloc: Global, case: &Case, row: u64) {
+fn check_glance(test: &impl Test, alloc: Global, case: &Case, filter: DumpFilter, row: u64) {
     let Case(words, wanted) = case;
     let journal = by_hand(test, alloc, words);
-    let (answer, written) = told_of(alloc, &journal, GLANCE);
+    let (answer, written) = told_of(alloc, &journal, filter);
     check_told(test, answer, &written, *wanted, row)
 }
 
 /// Checks journals made by hand.
 fn check_by_hand(test: &impl Test, alloc: Global) {
     for (row, case) in BY_HAND.iter().enumerate() {
-        check_glance(test, alloc, case, row as u64)
+        check_glance(test, alloc, case, GLANCE, row as u64)
+    }
+}
+
+/// Checks journals made by hand with their pictures.
+fn check_drawn(test: &impl Test, alloc: Global) {
+    for (row, case) in DRAWN_BY_HAND.iter().enumerate() {
+        check_glance(test, alloc, case, DRAWN, row as u64)
     }
 }
 
@@ -154,6 +200,7 @@ fn check_alone(test: &impl Test, alloc: Global) {
         last: Some(0),
         superblock: true,
         summary: true,
+        drawn: false,
         checksums: false,
     };
     let (answer, written) = told_of(alloc, &journal, filter);
@@ -172,6 +219,7 @@ fn check_alone(test: &impl Test, alloc: Global) {
 #[test]
 fn journals_at_a_glance(rt: HostRuntime) {
     check_by_hand(&By(&rt), rt.alloc());
+    check_drawn(&By(&rt), rt.alloc());
     check_several(&By(&rt), rt.alloc());
     check_alone(&By(&rt), rt.alloc())
 }

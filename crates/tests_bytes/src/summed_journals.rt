@@ -14,6 +14,7 @@ const SUMMED: DumpFilter = DumpFilter {
     last: None,
     superblock: false,
     summary: false,
+    drawn: false,
     checksums: true,
 };
 
@@ -23,6 +24,7 @@ const LAST: DumpFilter = DumpFilter {
     last: Some(2),
     superblock: false,
     summary: false,
+    drawn: false,
     checksums: true,
 };
 

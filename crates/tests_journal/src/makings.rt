@@ -30,7 +30,8 @@ fn check_unmade(rt: &impl FileHost) {
     let test = By(rt, rt.alloc());
     check_no_images(rt);
     // most file systems have no file of 2^62 bytes: what was made is there when that is found out, and goes
-    let vast = made(rt, ImageGeometry::new(BlockSize::OneKib, 33, 1 << 52)).is_ok();
+    let large = ImageGeometry::new(BlockSize::OneKib, 33, 1 << 52);
+    let vast = made(rt, large.sparse()).is_ok();
     check(&test, exists(rt, NAME) == vast, "a vast image");
     check(
         &test,

@@ -4,7 +4,7 @@ use crate::checks::By;
 use crate::plans::check_printed;
 use crate::texts::{FOUR_HANDLES, GROWING, check_said, check_told, queue_of};
 use crate::verdicts::{cert_with, check_verdicts};
-use jb_commands::fault_answer;
+use jb_commands::{AnswerForm, fault_answer};
 use jb_price::{Cert, CertFault, laws, read_cert};
 use jb_queue::read_queue;
 use std::alloc::Global;
@@ -56,7 +56,7 @@ fn check_unread(test: &impl Test, alloc: Global) {
 /// Checks what is said of a queue that is none.
 fn check_no_queue(test: &impl Test, alloc: Global) {
     let fault = read_queue(alloc, b"bs 1024\nlimit 6\nh x\n").err();
-    let answer = fault_answer(alloc, fault.must(test, "a queue")).must(test, "memory");
+    let answer = fault_answer(alloc, AnswerForm::Text, fault.must(test, "a queue")).must(test, "memory");
     let told = (2, "", "jb: queue line 3: OpWord\n");
     check_told(test, &answer, told, "what is said of queue", 0)
 }

@@ -5,7 +5,7 @@ ghost use Rattle.jb_handle.specs.Size.{IsWithinSize};
 use crate::checks::By;
 use crate::costs::one_handle;
 use crate::texts::{ALONE, FREEING, GROWING, bytes_of, check_said, check_told, queue_of};
-use jb_commands::plan_answer;
+use jb_commands::{AnswerForm, plan_answer};
 use jb_cost::Geometry;
 use jb_handle::Shape;
 use jb_plan::{Answer, Batch, Planned, PrepareFault, Prepared, is_batch, plan, prepare};
@@ -196,7 +196,7 @@ fn check_batch(test: &impl Test, alloc: Global, queue: QueueText, cert: &Cert, r
 
 /// Checks what `jb plan` says of a queue that has this certificate.
 fn check_plan_told(test: &impl Test, alloc: Global, queue: &str, cert: &str, row: u64) {
-    let answer = plan_answer(alloc, bytes_of(test, queue.as_bytes())).must(test, "memory");
+    let answer = plan_answer(alloc, AnswerForm::Text, bytes_of(test, queue.as_bytes())).must(test, "memory");
     let told = (u8::from(cert.ends_with("none\n")), cert, "");
     check_told(test, &answer, told, "what is said of row", row)
 }

@@ -2,7 +2,7 @@
 ghost use Rattle.std.specs.Prelude.{◌≡◌, ◌<◌, ◌^◌, length};
 ghost use Rattle.jb_handle.specs.Size.{IsWithinSize};
 
-use jb_commands::{CommandOutput, check_answer, cost_answer};
+use jb_commands::{AnswerForm, CommandOutput, check_answer, cost_answer};
 use jb_handle::is_within_size;
 use jb_queue::{QueueText, read_queue};
 use std::alloc::Global;
@@ -49,14 +49,14 @@ pub fn check_told(
     row: u64,
 ) {
     let (status, out, err) = told;
-    check_at(test, answer.out.as_str() == out, what, row);
-    check_at(test, answer.err.as_str() == err, what, row);
+    check_at(test, answer.out.as_slice() == out.as_bytes(), what, row);
+    check_at(test, answer.err.as_slice() == err.as_bytes(), what, row);
     check_at(test, answer.status == status, what, row)
 }
 
 /// Checks what `jb cost` says of a text.
 pub fn check_cost_told(test: &impl Test, alloc: Global, text: &[u8], told: Told<'_>, row: u64) {
-    let answer = cost_answer(alloc, bytes_of(test, text)).must(test, "memory");
+    let answer = cost_answer(alloc, AnswerForm::Text, bytes_of(test, text)).must(test, "memory");
     check_told(test, &answer, told, "what is said of row", row)
 }
 
@@ -71,6 +71,6 @@ pub fn check_said(
 )
     requires { IsWithinSize queue.now.handles.items }
 {
-    let answer = check_answer(alloc, queue, cert.as_bytes()).must(test, "memory");
+    let answer = check_answer(alloc, AnswerForm::Text, queue, cert.as_bytes()).must(test, "memory");
     check_told(test, &answer, told, "what is said of certificate", row)
 }

@@ -5,7 +5,7 @@ use crate::small::formatted;
 use jb_commands::{ShownHomes, cat_on};
 use jb_disk::{Disk, MemoryDisk, OneFaultDisk};
 use jb_super::Checksums;
-use jb_tool::{CommandFault, renumber_on, widen_on};
+use jb_tool::{AnswerForm, CommandFault, renumber_on, widen_on};
 use std::alloc::Global;
 use std::process::Abort;
 use tests_support::{read_block, write_block};
@@ -30,7 +30,7 @@ fn is_changed<D: Disk>(
     };
     let mut out = Vec::new(alloc);
     let answer = match answer {
-        Ok(report) => report.tell(&mut out),
+        Ok(report) => report.tell(AnswerForm::Text, &mut out),
         Err(fault) => Err(fault),
     };
     let met = matches!(answer, Err(CommandFault::DeviceFault));

@@ -3,10 +3,10 @@
 use crate::checks::{check_at, check_text};
 use crate::files::remove;
 use crate::runs::Host;
-use jb_args::{CatOptions, FormatOptions, Plain, RecoverOptions};
+use jb_args::{CatOptions, FormatOptions, Plain, ProgressLine, RecoverOptions, Settings};
 use jb_disk::{Disk, Unknown};
 use jb_tool::{
-    CommandEnd, cat_file, format_file, perform, recover_file, renumber_file, widen_file,
+    AnswerForm, CommandEnd, cat_file, format_file, perform, recover_file, renumber_file, widen_file,
 };
 
 const NAME: &str = "given.img";
@@ -21,6 +21,7 @@ const NEW: FormatOptions<'static> = FormatOptions {
     max: 0,
     uuid: "000102030405060708090a0b0c0d0e0f",
     wide: false,
+    sparse: false,
 };
 
 const RECOVER: RecoverOptions<'static> = RecoverOptions {
@@ -55,7 +56,7 @@ fn check_done(
     };
     check_at(rt, has == blocks, "the image that is given back:", at);
     let mut out = Vec::new(rt.alloc());
-    let told = done.tell(&mut out);
+    let told = done.tell(AnswerForm::Text, &mut out);
     check_at(rt, told.is_ok() == blocks.is_some(), "the end:", at);
     check_text(rt, &out, wanted, "a command that is done", at)
 }
@@ -66,7 +67,7 @@ fn check_made(rt: &impl Host) {
     check_done(rt, made, ALL, "formatted limit 8\n", 0);
     check_done(rt, format_file(rt, NAME, NEW), None, "", 1);
     let line = "transactions 0 copies 0 revoked 0 next 2\n";
-    let recovered = recover_file(rt, NAME, RECOVER, &mut b"".as_slice());
+    let recovered = recover_file(rt, NAME, RECOVER, ProgressLine::Never, &mut b"".as_slice());
     check_done(rt, recovered, ALL, line, 2)
 }
 
@@ -86,7 +87,8 @@ fn check_again(rt: &impl Host) {
         image: NAME,
         extents: None,
     };
-    let again = perform(rt, widen, &mut b"".as_slice(), &mut out, &mut err);
+    let settings = Settings::new(false, false);
+    let again = perform(rt, widen, settings, &mut b"".as_slice(), &mut out, &mut err);
     check_done(rt, again, ALL, "already wide limit 8\n", 5)
 }
 
@@ -106,7 +108,7 @@ fn check_commands(rt: &impl Host) {
     check_cat(rt, ALL, &[0; 1024], 6);
     remove(rt, NAME);
     check_cat(rt, None, &[], 7);
-    let recovered = recover_file(rt, NAME, RECOVER, &mut b"".as_slice());
+    let recovered = recover_file(rt, NAME, RECOVER, ProgressLine::Never, &mut b"".as_slice());
     check_done(rt, recovered, None, "", 8)
 }
 

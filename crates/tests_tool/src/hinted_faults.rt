@@ -11,7 +11,7 @@ use jb_image::{ExtentsFault, FileSystemFault};
 use jb_map::{MapFault, NodeFault};
 use jb_scan::Summed;
 use jb_super::SuperFault;
-use jb_tool::{CommandFault, LoadDone, LoadReport, Loaded, QueueHandleFault, Refused};
+use jb_tool::{AnswerForm, CommandFault, LoadDone, LoadReport, Loaded, QueueHandleFault, Refused};
 
 /// Each fault of a command, with what the second line says beside the words of its row.
 static FAULTS: [(CommandFault<'static>, &str); 68] = [
@@ -240,7 +240,7 @@ fn said(rt: &impl Host, load: &Load) -> (Vec<u8>, Option<Hint>) {
         image: None,
         end: Ok(LoadReport::Loaded(loaded(refused, commit, checkpoint), 16)),
     };
-    let hint = match done.tell(&mut out, &mut err) {
+    let hint = match done.tell(AnswerForm::Text, &mut out, &mut err) {
         Ok(ended) => ended.hint,
         Err(_) => fail(rt, "a load is told"),
     };

@@ -9,8 +9,11 @@ use jb_args::{Hint, diagnostics, put_hint};
 macro_rules! begins_in {
     (
         $of:ident
-        lines { $($hint:ident, $begins:literal, $rest:literal, $advice:literal $(: $beside:literal)?;)* }
-        options { $($option:ident, $name:literal, $values:literal;)* }
+        lines {
+            $($hint:ident, $status:literal, $begins:literal, $rest:literal,
+              $advice:literal $($more:literal)* $(: $beside:literal)?;)*
+        }
+        options { $($option:ident, $name:literal, $values:literal $($rest_values:literal)*;)* }
     ) => {
         match $of { $(Hint::$hint { .. } => concat!("jb: ", $begins)),* }
     };

@@ -28,6 +28,8 @@ mod programs;
 #[cfg(test)]
 mod runs;
 #[cfg(test)]
+mod settings;
+#[cfg(test)]
 mod small;
 #[cfg(test)]
 mod streams;

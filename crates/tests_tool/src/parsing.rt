@@ -16,7 +16,7 @@ fn put(rt: &impl Host, text: &mut String, word: &str) {
 }
 
 /// Adds these words.
-fn put_words(rt: &impl Host, text: &mut String, words: &[&str]) {
+pub fn put_words(rt: &impl Host, text: &mut String, words: &[&str]) {
     for word in words {
         put(rt, text, word)
     }
@@ -50,7 +50,7 @@ fn put_dump(rt: &impl Host, text: &mut String, file: &str, of: DumpOptions) {
     put_words(rt, text, &["dump", file]);
     put_some(rt, text, of.home);
     put_some(rt, text, of.last);
-    put_flags(rt, text, &[of.superblock, of.summary]);
+    put_flags(rt, text, &[of.superblock, of.summary, of.drawn]);
     put(rt, text, of.journal.unwrap_or("-"));
     put(rt, text, of.extents.unwrap_or("-"));
     put_flags(rt, text, &[of.checksums, of.ring])
@@ -61,7 +61,7 @@ fn put_format(rt: &impl Host, text: &mut String, image: &str, of: FormatOptions)
     put_words(rt, text, &["format", image]);
     put_numbers(rt, text, &[of.bs, of.journal, of.homes, of.max]);
     put(rt, text, of.uuid);
-    put_flags(rt, text, &[of.wide])
+    put_flags(rt, text, &[of.wide, of.sparse])
 }
 
 /// Adds the words and options of `jb cat`, in the order of `CatOptions`.
@@ -118,17 +118,21 @@ fn asked(rt: &impl Host, words: &[&str]) -> String {
     match parse(rt.alloc(), words) {
         Ok(CommandLine::Plain(plain)) => put_plain(rt, &mut text, plain),
         Ok(CommandLine::Load(of)) => put_load(rt, &mut text, of),
+        Ok(CommandLine::Completions { shell }) => {
+            put_words(rt, &mut text, &["completions", shell])
+        }
         Err(_) => fail(rt, "words that are refused"),
     }
     text
 }
 
 /// Command lines, and what they ask for.
-static ROWS: [(&str, &str); 36] = [
+static ROWS: [(&str, &str); 38] = [
     ("cost queue.txt", "cost queue.txt"),
     ("cost -", "cost -"),
     ("cost -- -x", "cost -x"),
     ("plan -", "plan -"),
+    ("completions zsh", "completions zsh"),
     ("check a b", "check a b"),
     ("renumber a.img", "renumber a.img -"),
     ("renumber --extents=1-33 a.img", "renumber a.img 1-33"),
@@ -136,45 +140,61 @@ static ROWS: [(&str, &str); 36] = [
     ("widen a.img --extents @list", "widen a.img @list"),
     (
         "format --uuid 000102030405060708090A0b0c0d0e0f --max=6 --wide a.img --homes 16 --journal 33 --bs 1024",
-        "format a.img 1024 33 16 6 000102030405060708090A0b0c0d0e0f true",
+        "format a.img 1024 33 16 6 000102030405060708090A0b0c0d0e0f true false",
     ),
     (
-        "format a.img --bs +1024 --journal 033 --homes 16",
-        "format a.img 1024 33 16 0 00000000000000000000000000000000 false",
+        "format --sparse a.img --bs +1024 --journal 033 --homes 16",
+        "format a.img 1024 33 16 0 00000000000000000000000000000000 false true",
     ),
-    ("dump a", "dump a - - false false - - false false"),
-    ("dump --home 5 a", "dump a 5 - false false - - false false"),
+    ("dump a", "dump a - - false false false - - false false"),
+    (
+        "dump --home 5 a",
+        "dump a 5 - false false false - - false false",
+    ),
     (
         "dump --journal j a",
-        "dump a - - false false j - false false",
+        "dump a - - false false false j - false false",
     ),
     (
         "dump a --extents=1-33",
-        "dump a - - false false - 1-33 false false",
+        "dump a - - false false false - 1-33 false false",
     ),
     (
         "dump a --last=18446744073709551615",
-        "dump a - 18446744073709551615 false false - - false false",
+        "dump a - 18446744073709551615 false false false - - false false",
     ),
-    ("dump --super a", "dump a - - true false - - false false"),
-    ("dump --summary a", "dump a - - false true - - false false"),
+    (
+        "dump --super a",
+        "dump a - - true false false - - false false",
+    ),
+    (
+        "dump --summary a",
+        "dump a - - false true false - - false false",
+    ),
+    (
+        "dump --draw a --summary",
+        "dump a - - false true true - - false false",
+    ),
     (
         "dump a --summary --last 2",
-        "dump a - 2 false true - - false false",
+        "dump a - 2 false true false - - false false",
     ),
     (
         "dump --last 0 --super a --home=+07",
-        "dump a 7 0 true false - - false false",
+        "dump a 7 0 true false false - - false false",
     ),
     (
         "dump a --checksums --super",
-        "dump a - - true false - - true false",
+        "dump a - - true false false - - true false",
     ),
     (
         "dump --ring a --checksums",
-        "dump a - - false false - - true true",
+        "dump a - - false false false - - true true",
     ),
-    ("dump a --ring", "dump a - - false false - - false true"),
+    (
+        "dump a --ring",
+        "dump a - - false false false - - false true",
+    ),
     ("cat a.img 5", "cat a.img 5 1 false - - false"),
     (
         "cat --hex a.img -n 3 18446744073709551615",
@@ -243,18 +263,20 @@ fn commands_with_their_words_are_taken(rt: HostRuntime) {
 
 /// The short help of `jb`.
 const HELP: &str = "A block journal in jbd2's format\n\nUsage: jb <COMMAND>\n\nCommands:\
-     \n  cost      Prints the log blocks that the queue takes as one group\
-     \n  plan      Prints a least cut of the queue into groups, with its prices\
-     \n  check     Checks a certificate of the queue, whoever made it\
-     \n  dump      Prints the committed transactions of a journal, block by block\
-     \n  cat       Writes home blocks of an image as recovery would leave them\
-     \n  format    Makes an image: a new journal, and home blocks of zeros after it\
-     \n  load      Commits the handles of a queue text to an image, run by threads\
-     \n  recover   Writes home what an image's journal has committed, and empties its log\
-     \n  renumber  Restarts the transaction numbers of a clean journal at 1\
-     \n  widen     Gives a clean journal block numbers of 64 bits\
-     \n  help      Print this message or the help of the given subcommand(s)\n\nOptions:\
-     \n  -h, --help     Print help (see more with '--help')\n  -V, --version  Print version\n";
+     \n  cost         Prints the log blocks that the queue takes as one group\
+     \n  plan         Prints a least cut of the queue into groups, with its prices\
+     \n  check        Checks a certificate of the queue, whoever made it\
+     \n  dump         Prints the committed transactions of a journal, block by block\
+     \n  cat          Writes home blocks of an image as recovery would leave them\
+     \n  format       Makes an image: a new journal, and home blocks of zeros after it\
+     \n  load         Commits the handles of a queue text to an image, run by threads\
+     \n  recover      Writes home what a journal has committed, and empties its log\
+     \n  renumber     Restarts the transaction numbers of a clean journal at 1\
+     \n  widen        Gives a clean journal block numbers of 64 bits\
+     \n  completions  Prints a script by which a shell completes the words of jb\
+     \n  help         Print this message or the help of the given subcommand(s)\n\nOptions:\
+     \n  -h, --help     Print help (see more with '--help')\n  -V, --version  Print version\
+     \n\nSettings and topics: jb help settings, files, locks, statuses, diagnostics\n";
 
 /// Checks the help that is shown where there are no words.
 fn check_short_help(rt: &impl Host) {

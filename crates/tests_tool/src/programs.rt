@@ -2,7 +2,7 @@
 
 use crate::checks::{check_at, check_number, check_text};
 use crate::runs::{End, Host, words_of};
-use jb_tool::{Terminals, run_program};
+use jb_tool::{Settings, Terminals, run_program};
 use std::io::ErrorKind::{self, InvalidData, OutOfMemory};
 
 /// The command line, or why there is none; whether standard input and standard error are terminals; and how the program
@@ -20,7 +20,15 @@ const TOO_FEW: &str =
 
 const LOAD: &str = "load a b --threads 0";
 
-static ROWS: [Row; 11] = [
+const HINTED: &str = "load --hints a b --threads 0";
+
+const QUIET: &str = "load a b --quiet --threads 0 -q";
+
+const LAST: &str = "-q load a b --threads 0 --hints";
+
+const NO_FILE: &str = "cost --status -- --status";
+
+static ROWS: [Row; 17] = [
     (Ok("cost -"), [false, false], FITS),
     (Ok("cost -"), [true, true], FITS),
     (Ok(""), [false, false], FITS),
@@ -28,6 +36,16 @@ static ROWS: [Row; 11] = [
     (Ok("cost ''"), [false, false], (2, "", "jb: cannot read \n")),
     (Ok(LOAD), [true, false], (2, "", "jb: bad option\n")),
     (Ok(LOAD), [false, true], (2, "", TOO_FEW)),
+    (Ok(HINTED), [false, false], (2, "", TOO_FEW)),
+    (Ok(QUIET), [true, true], (2, "", "jb: bad option\n")),
+    (Ok(LAST), [true, false], (2, "", TOO_FEW)),
+    (Ok("--no-progress cost -q -- -"), [true, true], FITS),
+    (Ok("--no-progress"), [false, false], FITS),
+    (
+        Ok(NO_FILE),
+        [false, false],
+        (2, "", "jb: cannot read --status\n"),
+    ),
     (Err(InvalidData), [false, true], (2, "", NO_TEXT)),
     (Err(OutOfMemory), [true, false], (1, "", "jb: Memory\n")),
     (Err(OutOfMemory), [false, true], (1, "", NO_MEMORY)),
@@ -50,7 +68,15 @@ fn ran(
     input: &mut &[u8],
 ) -> Ended {
     let (mut out, mut err) = (Vec::new(rt.alloc()), Vec::new(rt.alloc()));
-    let status = run_program(rt, words, terminals, input, &mut out, &mut err);
+    let status = run_program(
+        rt,
+        words,
+        Settings::new(false, false),
+        terminals,
+        input,
+        &mut out,
+        &mut err,
+    );
     Ended { out, err, status }
 }
 

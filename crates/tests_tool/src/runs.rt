@@ -1,7 +1,7 @@
 //! Runs of the program, and how they end.
 
 use crate::checks::check_text;
-use jb_tool::{ProgramEnd, run};
+use jb_tool::{ProgramEnd, Settings, run};
 use std::fs::File;
 use std::io::Read;
 use std::process::Abort;
@@ -43,7 +43,14 @@ pub fn words_of<'a>(rt: &impl Host, line: &'a str) -> Vec<&'a str> {
 pub fn ran_from<I: Read>(rt: &impl Host, line: &str, input: &mut I) -> Outcome {
     let mut out = Vec::new(rt.alloc());
     let mut err = Vec::new(rt.alloc());
-    let ended = run(rt, &words_of(rt, line), input, &mut out, &mut err);
+    let ended = run(
+        rt,
+        &words_of(rt, line),
+        Settings::new(false, false),
+        input,
+        &mut out,
+        &mut err,
+    );
     Outcome { ended, out, err }
 }
 

@@ -7,7 +7,7 @@ use jb_disk::{Disk, FixedClock, MemoryDisk};
 use jb_format::format;
 use jb_queue::read_lines;
 use jb_recover::recover;
-use jb_tool::{LoadFault, LoadOptions, Loaded, load_on, tell_loaded};
+use jb_tool::{AnswerForm, LoadFault, LoadOptions, Loaded, load_on, tell_loaded};
 use std::alloc::Global;
 use std::marker::Brand;
 use std::process::Abort;
@@ -89,7 +89,7 @@ pub fn load_lent<R: Loads>(
 pub fn check_told(rt: &impl Abort, alloc: Global, loaded: &Loaded, says: (&str, &str), row: usize) {
     let (out, err) = says;
     let (mut told, mut refused) = (Vec::new(alloc), Vec::new(alloc));
-    let ended = tell_loaded(loaded, &mut told, &mut refused);
+    let ended = tell_loaded(AnswerForm::Text, loaded, None, &mut told, &mut refused);
     check_text(rt, &refused, err, "the report of load", row);
     check_text(rt, &told, out, "the report of load", row);
     let status = u8::from(!err.is_empty());

@@ -4,7 +4,7 @@ use crate::checks::{check_at, check_text};
 use crate::files::{remove, write};
 use crate::runs::{Host, check_status, words_of};
 use jb_text::put_parts;
-use jb_tool::run;
+use jb_tool::{Settings, run};
 use std::io::{self, Error, ErrorKind, Read, Write};
 use std::process::Abort;
 
@@ -93,7 +93,14 @@ static LINES: [(&str, [usize; 2], [usize; 2]); 8] = [
 fn check_line(rt: &impl Host, line: &str, writes: [usize; 2], sizes: [usize; 2], row: usize) {
     let (mut out, mut err) = (Counting::new(), Counting::new());
     let mut input = b"".as_slice();
-    run(rt, &words_of(rt, line), &mut input, &mut out, &mut err);
+    run(
+        rt,
+        &words_of(rt, line),
+        Settings::new(false, false),
+        &mut input,
+        &mut out,
+        &mut err,
+    );
     let is_so = [out.writes, err.writes] == writes;
     check_at(rt, is_so, "how many writes a line takes, row", row);
     let is_so = [out.bytes, err.bytes] == sizes;
@@ -146,7 +153,14 @@ fn check_torn_output(rt: &impl Host, line: &str, left: usize, stuck: bool, at: u
     let mut out = Torn { left, stuck };
     let mut err = Vec::new(rt.alloc());
     let mut rest = QUEUE;
-    let ended = run(rt, &words_of(rt, line), &mut rest, &mut out, &mut err);
+    let ended = run(
+        rt,
+        &words_of(rt, line),
+        Settings::new(false, false),
+        &mut rest,
+        &mut out,
+        &mut err,
+    );
     check_status(rt, ended, 1, line, at);
     check_text(rt, &err, "jb: WriteFault\n", line, at)
 }
@@ -185,7 +199,14 @@ fn check_torn_error(rt: &impl Host, of: &Quiet, left: usize, stuck: bool, row: u
     let mut err = Torn { left, stuck };
     let mut told = Vec::new(rt.alloc());
     let mut rest = input;
-    let ended = run(rt, &words_of(rt, line), &mut rest, &mut told, &mut err);
+    let ended = run(
+        rt,
+        &words_of(rt, line),
+        Settings::new(false, false),
+        &mut rest,
+        &mut told,
+        &mut err,
+    );
     check_status(rt, ended, status, line, row);
     check_text(rt, &told, out, line, row)
 }
@@ -216,7 +237,14 @@ fn check_unwritten<I: Read>(rt: &impl Host, input: &mut I, line: &str, at: usize
         stuck: true,
     };
     let mut err = Vec::new(rt.alloc());
-    let ended = run(rt, &["cost", "-"], input, &mut out, &mut err);
+    let ended = run(
+        rt,
+        &["cost", "-"],
+        Settings::new(false, false),
+        input,
+        &mut out,
+        &mut err,
+    );
     check_status(rt, ended, 2, "cost", at);
     check_text(rt, &err, line, "cost", at)
 }

@@ -4,7 +4,7 @@ use crate::checks::{check, check_number, check_text};
 use crate::files::{read, remove, write};
 use crate::runs::{End, Host, Outcome, check_over, check_ran, ran_from};
 use jb_text::{ReadFault, read_within};
-use jb_tool::{Plain, TEXT_LIMIT, refuse_words, run_plain};
+use jb_tool::{Plain, Settings, TEXT_LIMIT, refuse_words, run_plain};
 use std::alloc::Global;
 use std::io::{self, ErrorKind, Read};
 use std::process::Abort;
@@ -114,7 +114,7 @@ static ROWS: [Row; 30] = [
         (2, "", "jb: cannot read no-such.img\n"),
     ),
     ("cost ''", QUEUE, (2, "", "jb: cannot read \n")),
-    ("--version", b"", (0, "jb 0.1.0\n", "")),
+    ("-V", b"", (0, "jb 0.1.0\n", "")),
     (
         "cost",
         b"",
@@ -131,7 +131,14 @@ static ROWS: [Row; 30] = [
 fn ran_plain(rt: &impl Host, plain: Plain, text: &[u8]) -> Outcome {
     let mut rest = text;
     let (mut out, mut err) = (Vec::new(rt.alloc()), Vec::new(rt.alloc()));
-    let ended = run_plain(rt, plain, &mut rest, &mut out, &mut err);
+    let ended = run_plain(
+        rt,
+        plain,
+        Settings::new(false, false),
+        &mut rest,
+        &mut out,
+        &mut err,
+    );
     Outcome { ended, out, err }
 }
 

@@ -3,9 +3,12 @@ ghost use Rattle.std.specs.Prelude.{◌≡◌};
 ghost use Rattle.jb_args.specs.Rows.{app_named, app_of_row};
 
 use super::CommandRow;
-use super::table::{CAT, CHECK, COST, DUMP, FORMAT, LOAD, PLAN, RECOVER, RENUMBER, WIDEN};
+use super::table::{
+    CAT, CHECK, COMPLETIONS, COST, DUMP, FORMAT, LOAD, PLAN, RECOVER, RENUMBER, WIDEN,
+};
+use super::topics::{DIAGNOSTICS, FILES, LOCKS, SETTINGS, STATUSES};
 
-/// A command of `jb`.
+/// A command of `jb`, or a topic of its help.
 #[derive(Clone, Copy)]
 pub(crate) enum CommandName {
     /// `jb cost`.
@@ -28,10 +31,22 @@ pub(crate) enum CommandName {
     Renumber,
     /// `jb widen`.
     Widen,
+    /// `jb completions`.
+    Completions,
+    /// `jb help files`.
+    Files,
+    /// `jb help locks`.
+    Locks,
+    /// `jb help settings`.
+    Settings,
+    /// `jb help statuses`.
+    Statuses,
+    /// `jb help diagnostics`.
+    Diagnostics,
 }
 
 /// The commands in the order of the help.
-pub(super) static COMMANDS: [CommandName; 10] = [
+pub(crate) static COMMANDS: [CommandName; 11] = [
     CommandName::Cost,
     CommandName::Plan,
     CommandName::Check,
@@ -42,10 +57,20 @@ pub(super) static COMMANDS: [CommandName; 10] = [
     CommandName::Recover,
     CommandName::Renumber,
     CommandName::Widen,
+    CommandName::Completions,
+];
+
+/// The topics of the help.
+pub(super) static TOPICS: [CommandName; 5] = [
+    CommandName::Files,
+    CommandName::Locks,
+    CommandName::Settings,
+    CommandName::Statuses,
+    CommandName::Diagnostics,
 ];
 
 /// The row of a command.
-pub(super) fn row_of<'a>(name: CommandName) -> &'a CommandRow<'a>
+pub(crate) fn row_of<'a>(name: CommandName) -> &'a CommandRow<'a>
     ensures { app_of_row result.now ≡ app_named name }
 {
     match name {
@@ -59,5 +84,11 @@ pub(super) fn row_of<'a>(name: CommandName) -> &'a CommandRow<'a>
         CommandName::Recover => &RECOVER,
         CommandName::Renumber => &RENUMBER,
         CommandName::Widen => &WIDEN,
+        CommandName::Completions => &COMPLETIONS,
+        CommandName::Files => &FILES,
+        CommandName::Locks => &LOCKS,
+        CommandName::Settings => &SETTINGS,
+        CommandName::Statuses => &STATUSES,
+        CommandName::Diagnostics => &DIAGNOSTICS,
     }
 }

@@ -1,63 +1,15 @@
 //! The commands, each with its words and options in the order of the help.
 
+use super::shared::{
+    CHECKSUMS, DUMP_EXTENTS, DUMP_JOURNAL, EXTENTS, FILE, IMAGE, JOURNAL, NO_UUID,
+};
 use super::word::{CommandWord, WordKind};
-use super::{CommandRow, texts};
-
-/// The file of a command over one image.
-const IMAGE: CommandWord = CommandWord {
-    name: "IMAGE",
-    kind: WordKind::Word,
-    help: "A journal and the home blocks after it, or an ext2, ext3 or ext4 file system, whose journal is found",
-};
-
-/// The file of a command over one queue text.
-const FILE: CommandWord = CommandWord {
-    name: "FILE",
-    kind: WordKind::Word,
-    help: "A queue text, or - for standard input",
-};
-
-/// The option for the file with the journal.
-const JOURNAL: CommandWord = CommandWord {
-    name: "journal",
-    kind: WordKind::Text("FILE"),
-    help: "The file with the journal; IMAGE has the home blocks alone then",
-};
-
-/// The option for where the journal is within the image.
-const EXTENTS: CommandWord = CommandWord {
-    name: "extents",
-    kind: WordKind::Text("LIST"),
-    help: "Where the journal stands within IMAGE, as debugfs lists its blocks; - or @FILE has it",
-};
-
-/// The same of `jb dump`, whose image is FILE.
-const DUMP_JOURNAL: CommandWord = CommandWord {
-    name: "journal",
-    kind: WordKind::Text("JOURNAL"),
-    help: "The file with the journal; FILE has the home blocks alone then",
-};
-
-/// The same.
-const DUMP_EXTENTS: CommandWord = CommandWord {
-    name: "extents",
-    kind: WordKind::Text("LIST"),
-    help: "Where the journal stands within FILE, as debugfs lists its blocks; - or @FILE has it",
-};
-
-/// The option by which a journal with checksums is taken.
-const CHECKSUMS: CommandWord = CommandWord {
-    name: "checksums",
-    kind: WordKind::Flag,
-    help: "Takes a journal with checksums, too, and judges it by them",
-};
-
-/// What `--uuid` is where it is not given.
-const NO_UUID: &str = "00000000000000000000000000000000";
+use super::{CommandRow, RowKind, texts};
 
 /// `jb cost`.
 pub(super) static COST: CommandRow = CommandRow {
     name: "cost",
+    kind: RowKind::Command,
     about: "Prints the log blocks that the queue takes as one group",
     more: texts::COST,
     words: &[FILE],
@@ -66,6 +18,7 @@ pub(super) static COST: CommandRow = CommandRow {
 /// `jb plan`.
 pub(super) static PLAN: CommandRow = CommandRow {
     name: "plan",
+    kind: RowKind::Command,
     about: "Prints a least cut of the queue into groups, with its prices",
     more: texts::PLAN,
     words: &[FILE],
@@ -74,6 +27,7 @@ pub(super) static PLAN: CommandRow = CommandRow {
 /// `jb check`.
 pub(super) static CHECK: CommandRow = CommandRow {
     name: "check",
+    kind: RowKind::Command,
     about: "Checks a certificate of the queue, whoever made it",
     more: texts::CHECK,
     words: &[
@@ -93,13 +47,14 @@ pub(super) static CHECK: CommandRow = CommandRow {
 /// `jb dump`.
 pub(super) static DUMP: CommandRow = CommandRow {
     name: "dump",
+    kind: RowKind::Command,
     about: "Prints the committed transactions of a journal, block by block",
     more: texts::DUMP,
     words: &[
         CommandWord {
             name: "FILE",
             kind: WordKind::Word,
-            help: "A journal, or an ext2, ext3 or ext4 file system, whose journal is found; - for standard input",
+            help: "A journal, or an ext2, ext3 or ext4 file system, whose journal\nis found; - for standard input",
         },
         CommandWord {
             name: "home",
@@ -114,12 +69,17 @@ pub(super) static DUMP: CommandRow = CommandRow {
         CommandWord {
             name: "super",
             kind: WordKind::Flag,
-            help: "Every field of the superblock alone, also of one that is refused",
+            help: "Every field of the superblock alone, also of one\nthat is refused",
         },
         CommandWord {
             name: "summary",
             kind: WordKind::Flag,
             help: "The journal at a glance, in place of its lines",
+        },
+        CommandWord {
+            name: "draw",
+            kind: WordKind::Flag,
+            help: "Draws the log, and the homes written most;\nfor --summary alone",
         },
         DUMP_JOURNAL,
         DUMP_EXTENTS,
@@ -127,7 +87,7 @@ pub(super) static DUMP: CommandRow = CommandRow {
         CommandWord {
             name: "ring",
             kind: WordKind::Flag,
-            help: "Searches the rest of the log for a lost transaction; for --checksums alone",
+            help: "Searches the rest of the log for a lost transaction;\nfor --checksums alone",
         },
     ],
 };
@@ -135,6 +95,7 @@ pub(super) static DUMP: CommandRow = CommandRow {
 /// `jb cat`.
 pub(super) static CAT: CommandRow = CommandRow {
     name: "cat",
+    kind: RowKind::Command,
     about: "Writes home blocks of an image as recovery would leave them",
     more: texts::CAT,
     words: &[
@@ -163,6 +124,7 @@ pub(super) static CAT: CommandRow = CommandRow {
 /// `jb format`.
 pub(super) static FORMAT: CommandRow = CommandRow {
     name: "format",
+    kind: RowKind::Command,
     about: "Makes an image: a new journal, and home blocks of zeros after it",
     more: texts::FORMAT,
     words: &[
@@ -189,17 +151,22 @@ pub(super) static FORMAT: CommandRow = CommandRow {
         CommandWord {
             name: "max",
             kind: WordKind::NumberOr("N", "0"),
-            help: "The most log blocks of a transaction; 0 for a quarter of the log",
+            help: "The most log blocks of a transaction; 0 for a quarter\nof the log",
         },
         CommandWord {
             name: "uuid",
             kind: WordKind::TextOr("HEX", NO_UUID),
-            help: "The journal's UUID, as 32 hexadecimal digits",
+            help: "The UUID in hex",
         },
         CommandWord {
             name: "wide",
             kind: WordKind::Flag,
             help: "Block numbers of 64 bits",
+        },
+        CommandWord {
+            name: "sparse",
+            kind: WordKind::Flag,
+            help: "Takes no room for a block before it is first written",
         },
     ],
 };
@@ -207,6 +174,7 @@ pub(super) static FORMAT: CommandRow = CommandRow {
 /// `jb load`.
 pub(super) static LOAD: CommandRow = CommandRow {
     name: "load",
+    kind: RowKind::Command,
     about: "Commits the handles of a queue text to an image, run by threads",
     more: texts::LOAD,
     words: &[
@@ -231,7 +199,7 @@ pub(super) static LOAD: CommandRow = CommandRow {
         CommandWord {
             name: "stamp",
             kind: WordKind::NumberOr("SEC", "0"),
-            help: "The time of the commit blocks, in seconds since 1970",
+            help: "The time of the commit blocks, in seconds since\n1970",
         },
         CommandWord {
             name: "checkpoint",
@@ -244,7 +212,8 @@ pub(super) static LOAD: CommandRow = CommandRow {
 /// `jb recover`.
 pub(super) static RECOVER: CommandRow = CommandRow {
     name: "recover",
-    about: "Writes home what an image's journal has committed, and empties its log",
+    kind: RowKind::Command,
+    about: "Writes home what a journal has committed, and empties its log",
     more: texts::RECOVER,
     words: &[
         IMAGE,
@@ -253,7 +222,7 @@ pub(super) static RECOVER: CommandRow = CommandRow {
         CommandWord {
             name: "force",
             kind: WordKind::Flag,
-            help: "Recovers though the journal seems not its file system's own, or mounts are unknown",
+            help: "Recovers though the journal seems not its file\nsystem's own, or mounts are unknown",
         },
         CommandWord {
             name: "dry-run",
@@ -263,7 +232,7 @@ pub(super) static RECOVER: CommandRow = CommandRow {
         CommandWord {
             name: "list",
             kind: WordKind::Flag,
-            help: "With --dry-run: lists the home blocks that would be written",
+            help: "With --dry-run: lists the home blocks that would be\nwritten",
         },
         CHECKSUMS,
     ],
@@ -272,6 +241,7 @@ pub(super) static RECOVER: CommandRow = CommandRow {
 /// `jb renumber`.
 pub(super) static RENUMBER: CommandRow = CommandRow {
     name: "renumber",
+    kind: RowKind::Command,
     about: "Restarts the transaction numbers of a clean journal at 1",
     more: texts::RENUMBER,
     words: &[IMAGE, EXTENTS],
@@ -280,7 +250,21 @@ pub(super) static RENUMBER: CommandRow = CommandRow {
 /// `jb widen`.
 pub(super) static WIDEN: CommandRow = CommandRow {
     name: "widen",
+    kind: RowKind::Command,
     about: "Gives a clean journal block numbers of 64 bits",
     more: texts::WIDEN,
     words: &[IMAGE, EXTENTS],
+};
+
+/// `jb completions`.
+pub(super) static COMPLETIONS: CommandRow = CommandRow {
+    name: "completions",
+    kind: RowKind::Command,
+    about: "Prints a script by which a shell completes the words of jb",
+    more: texts::COMPLETIONS,
+    words: &[CommandWord {
+        name: "SHELL",
+        kind: WordKind::Word,
+        help: "bash, zsh or fish",
+    }],
 };

@@ -16,16 +16,18 @@ use crate::files::recovered::checksums_of;
 use crate::files::searching::dump_opened;
 use crate::files::shut::FileFault;
 use crate::files::texts::unopened;
-use crate::streams::dump_from;
-use jb_args::{DumpOptions, OptionName};
+use crate::progress::ShownProgress;
+use crate::streams::{WatchedReader, dump_from};
+use jb_args::{DumpOptions, OptionName, ProgressLine};
 use jb_block::Memory;
-use jb_disk::Start;
+use jb_disk::{Disk, Start};
 use jb_dump::DumpFilter;
 use jb_super::{Checksums, SuperFault};
 use std::alloc::Global;
 use std::fs::File;
 use std::io::{Read, Seek, Write};
 use std::rt::Files;
+use std::time::Clock;
 
 /// Writes those lines of the text of the journal of the file of this name which the options ask for, and gives status
 /// 0; `-` is standard input. The file may be of any length: it is read for the journal's blocks and no further. A list
@@ -39,13 +41,14 @@ pub(crate) fn dump_named<
     'a,
     S: Start,
     T: Start,
-    R: Files<File = File> + AllocGlobal,
+    R: Files<File = File> + AllocGlobal + Clock,
     I: Read,
     O: Write,
 >(
     rt: &R,
     name: &'a str,
     options: DumpOptions<'a>,
+    shown: ProgressLine,
     input: &mut I,
     out: &mut O,
 ) -> Result<u8, CommandFault<'a>>
@@ -56,17 +59,25 @@ pub(crate) fn dump_named<
     if is_bare(options) {
         return Err(CommandFault::BadOption(OptionName::Ring));
     }
-    dump_chosen::<S, T, R, I, O>(rt, name, options, input, out)
+    dump_chosen::<S, T, R, I, O>(rt, name, options, shown, input, out)
 }
 
 /// The same where its options are good.
 ///
 /// # Errors
 /// Those of `dump_named`, but for a bad option.
-fn dump_chosen<'a, S: Start, T: Start, R: Files<File = File> + AllocGlobal, I: Read, O: Write>(
+fn dump_chosen<
+    'a,
+    S: Start,
+    T: Start,
+    R: Files<File = File> + AllocGlobal + Clock,
+    I: Read,
+    O: Write,
+>(
     rt: &R,
     name: &'a str,
     options: DumpOptions<'a>,
+    shown: ProgressLine,
     input: &mut I,
     out: &mut O,
 ) -> Result<u8, CommandFault<'a>>
@@ -75,11 +86,11 @@ fn dump_chosen<'a, S: Start, T: Start, R: Files<File = File> + AllocGlobal, I: R
     ensures unread { reads_dump name.entry.now (dump_said options.entry) ≡ false → input.new ≡ input.old }
 {
     if is_placed(options) {
-        dump_placed::<S, T, R, I, O>(rt, name, options, input, out)
+        dump_placed::<S, T, R, I, O>(rt, name, options, shown, input, out)
     } else if name == "-" {
         dump_from(rt.alloc(), input, choice_of(options), out)
     } else {
-        dump_file::<S, T, R, I, O>(rt, name, options, input, out)
+        dump_file::<S, T, R, I, O>(rt, name, options, shown, input, out)
     }
 }
 
@@ -89,10 +100,18 @@ fn dump_chosen<'a, S: Start, T: Start, R: Files<File = File> + AllocGlobal, I: R
 /// # Errors
 /// `CommandFault::CannotRead` where the file cannot be opened, `CommandFault::Memory` where memory ran out, and
 /// those of `dump_open`.
-fn dump_file<'a, S: Start, T: Start, R: Files<File = File> + AllocGlobal, I: Read, O: Write>(
+fn dump_file<
+    'a,
+    S: Start,
+    T: Start,
+    R: Files<File = File> + AllocGlobal + Clock,
+    I: Read,
+    O: Write,
+>(
     rt: &R,
     name: &'a str,
     options: DumpOptions<'a>,
+    shown: ProgressLine,
     input: &mut I,
     out: &mut O,
 ) -> Result<u8, CommandFault<'a>>
@@ -101,7 +120,7 @@ fn dump_file<'a, S: Start, T: Start, R: Files<File = File> + AllocGlobal, I: Rea
     ensures unread { reads_list (dump_said options.entry).extents ≡ false → input.new ≡ input.old }
 {
     match File::open(rt, name) {
-        Ok(file) => dump_open::<S, T, R, I, O>(rt, file, name, options, input, out),
+        Ok(file) => dump_open::<S, T, R, I, O>(rt, file, name, options, shown, input, out),
         Err(error) => Err(unopened(name, error)),
     }
 }
@@ -111,11 +130,19 @@ fn dump_file<'a, S: Start, T: Start, R: Files<File = File> + AllocGlobal, I: Rea
 /// # Errors
 /// Those of `dump_from`; where the file begins with no journal, and is a file system, those of `dump_placed`, and
 /// `CommandFault::Memory` where it is not known for want of memory.
-fn dump_open<'a, S: Start, T: Start, R: Files<File = File> + AllocGlobal, I: Read, O: Write>(
+fn dump_open<
+    'a,
+    S: Start,
+    T: Start,
+    R: Files<File = File> + AllocGlobal + Clock,
+    I: Read,
+    O: Write,
+>(
     rt: &R,
     file: File,
     name: &'a str,
     options: DumpOptions<'a>,
+    shown: ProgressLine,
     input: &mut I,
     out: &mut O,
 ) -> Result<u8, CommandFault<'a>>
@@ -123,15 +150,25 @@ fn dump_open<'a, S: Start, T: Start, R: Files<File = File> + AllocGlobal, I: Rea
         (O.contents out.old) (O.contents out.new) result }
     ensures unread { reads_list (dump_said options.entry).extents ≡ false → input.new ≡ input.old }
 {
-    let mut file = file;
-    let end = dump_from(rt.alloc(), &mut file, choice_of(options), out);
+    let progress = ShownProgress::over_bytes(rt, rt, shown, "jb dump", len_of(&file));
+    let mut journal = WatchedReader::of(file, progress);
+    let end = dump_from(rt.alloc(), &mut journal, choice_of(options), out);
+    let mut file = journal.into_inner();
     if !is_unbegun(end) {
         return end;
     }
     match is_system(rt.alloc(), &mut file) {
-        Ok(true) => dump_placed::<S, T, R, I, O>(rt, name, options, input, out),
+        Ok(true) => dump_placed::<S, T, R, I, O>(rt, name, options, shown, input, out),
         Ok(false) => end,
         Err(_) => Err(CommandFault::Memory),
+    }
+}
+
+/// How many bytes a file has; 0 of a pipe, and where the system does not say it.
+fn len_of(file: &File) -> u64 {
+    match file.metadata() {
+        Ok(metadata) => metadata.len(),
+        Err(_) => 0,
     }
 }
 
@@ -140,10 +177,18 @@ fn dump_open<'a, S: Start, T: Start, R: Files<File = File> + AllocGlobal, I: Rea
 ///
 /// # Errors
 /// Those of `open_placed`, and those of `dump_from`.
-fn dump_placed<'a, S: Start, T: Start, R: Files<File = File> + AllocGlobal, I: Read, O: Write>(
+fn dump_placed<
+    'a,
+    S: Start,
+    T: Start,
+    R: Files<File = File> + AllocGlobal + Clock,
+    I: Read,
+    O: Write,
+>(
     rt: &R,
     name: &'a str,
     options: DumpOptions<'a>,
+    shown: ProgressLine,
     input: &mut I,
     out: &mut O,
 ) -> Result<u8, CommandFault<'a>>
@@ -161,7 +206,13 @@ fn dump_placed<'a, S: Start, T: Start, R: Files<File = File> + AllocGlobal, I: R
         sought(options),
         input,
     ) {
-        Ok(opened) => dump_opened(rt.alloc(), opened.disk, options, out),
+        Ok(opened) => {
+            let disk = opened.disk;
+            let journal = disk.blocks().saturating_sub(opened.homes);
+            let bytes = journal.saturating_mul(u64::from(disk.block_size().bytes()));
+            let progress = ShownProgress::over_bytes(rt, rt, shown, "jb dump", bytes);
+            dump_opened(rt.alloc(), disk, options, progress, out)
+        }
         Err(fault) => Err(fault),
     }
 }
@@ -175,6 +226,7 @@ pub(crate) fn choice_of(options: DumpOptions<'_>) -> DumpFilter
         last: options.last,
         superblock: options.superblock,
         summary: options.summary,
+        drawn: options.drawn,
         checksums: options.checksums,
     }
 }

@@ -27,9 +27,9 @@ const EXISTS: i32 = 17;
 /// # Errors
 /// `CommandFault::BadOption` where an option is bad, and `CommandFault::Geometry` where a journal may not have this
 /// many blocks, before any file is looked at; `CommandFault::CannotMake` where the file is there already, another
-/// process makes it, another file has its name with `.jb-unfinished` after it, or the system refuses it;
-/// `CommandFault::NoLinks` where its file system has no links; `CommandFault::Memory` where memory ran out;
-/// `CommandFault::DeviceFault` where the journal was not written. There is no new file then.
+/// process makes it, another file has its name with `.jb-unfinished` after it, or the system refuses it, as where the
+/// disk has too little room; `CommandFault::NoLinks` where its file system has no links; `CommandFault::Memory` where
+/// memory ran out; `CommandFault::DeviceFault` where the journal was not written. There is no new file then.
 pub fn format_file<'a, S: Start, T: Start, R: Files<File = File> + AllocGlobal>(
     rt: &R,
     image: &'a str,

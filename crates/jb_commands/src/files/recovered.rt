@@ -2,19 +2,24 @@
 ghost use Rattle.std.specs.Prelude.{◌≡◌, false, option_map};
 ghost use Rattle.jb_image.specs.Files.{as_disks};
 ghost use Rattle.jb_args.specs.PlainCommand.{recover_said};
-ghost use Rattle.jb_commands.specs.Foresee.{foreseen_end as foreseen_so, own_checked};
+ghost use Rattle.jb_commands.specs.Foresee.{foreseen_end as foreseen_so};
 ghost use Rattle.jb_commands.specs.ListText.{reads_list};
 ghost use Rattle.jb_commands.specs.JournalPlace.{EndsOfRecover, is_beside as stands_beside, sums_of, use_of as use_so};
-ghost use Rattle.jb_commands.specs.JournalPlace.{ChecksOwn, JudgesBeside, JudgesOwn, RecoversImage, RecoversOpened};
+ghost use Rattle.jb_commands.specs.JournalPlace.{DoesRecover, ForeseesImage, JudgesBeside, RecoversOpened};
 ghost use Rattle.jb_commands.specs.OpenRefusals.{opening_for};
+ghost use Rattle.jb_commands.specs.Watched.{watched};
 
 use crate::command_end::CommandEnd;
 use crate::fault::CommandFault;
+use crate::files::opened::OpenedImage;
 use crate::files::opening::Opening;
 use crate::files::placed::open_placed;
+use crate::files::recovering::recover_image;
+use crate::files::watched::foresee_watched;
+use crate::progress::ShownProgress;
 use crate::report::Report;
-use crate::streams::{foresee_by, foresee_unread_by, judge_on, recover_on};
-use jb_args::{OptionName, RecoverOptions};
+use crate::streams::{WatchedDisk, judge_on};
+use jb_args::{OptionName, ProgressLine, RecoverOptions};
 use jb_disk::{Disk, Start};
 use jb_ext::MapSource;
 use jb_image::{ExtentsFault, ImageDisk, JournalUse};
@@ -24,6 +29,7 @@ use std::alloc::Global;
 use std::fs::File;
 use std::io::Read;
 use std::rt::Files;
+use std::time::Clock;
 
 /// Recovers the journal of the image of this name; with `--dry-run` only reports what a recovery would do. Where the
 /// journal is not at its front, the image may be a file system, which has to be the journal's own. A list of extents
@@ -32,10 +38,11 @@ use std::rt::Files;
 /// # Errors
 /// `CommandFault::BadOption` where `--list` is given without `--dry-run`; those of `open_placed` and of `judge_on`, and
 /// those of `recover_on`; `CommandFault::Extents` where a copy is for a home block that is one of the journal's own.
-pub fn recover_file<'a, S: Start, T: Start, R: Files<File = File> + AllocGlobal, I: Read>(
+pub fn recover_file<'a, S: Start, T: Start, R: Files<File = File> + AllocGlobal + Clock, I: Read>(
     rt: &R,
     image: &'a str,
     options: RecoverOptions<'a>,
+    shown: ProgressLine,
     input: &mut I,
 ) -> CommandEnd<'a, S, T>
     /// `recover` over files: the image was not opened, or, if its files are honest, it was recovered, also after a
@@ -55,7 +62,7 @@ pub fn recover_file<'a, S: Start, T: Start, R: Files<File = File> + AllocGlobal,
     ///
     /// `recover` over files without `--journal` or `--extents`: whether a file system's own journal was found by its
     /// inode or by the superblock's copy of its map is as the search has it, and the line names the copy; with one of
-    /// these options it never does ([`recovered_line`](crates/jb_commands/specs/Recover.antt)).
+    /// these options it never does ([`recovered_facts`](crates/jb_commands/specs/Recover.antt)).
     ensures ends { EndsOfRecover image.entry.now (recover_said options.entry) (I.remaining input.old) result.image
         result.end }
     ensures unread { reads_list (recover_said options.entry).extents ≡ false → input.new ≡ input.old }
@@ -76,12 +83,14 @@ pub fn recover_file<'a, S: Start, T: Start, R: Files<File = File> + AllocGlobal,
         checksums_of(options.checksums),
         input,
     ) {
-        Ok(mut opened) => {
-            let (homes, found) = (opened.homes, opened.found);
-            let end = recover_opened(rt.alloc(), &mut opened.disk, homes, found, options);
+        Ok(opened) => {
+            let OpenedImage { disk, homes, found } = opened;
+            let journal = disk.blocks().saturating_sub(homes);
+            let progress = ShownProgress::over_log(rt, rt, shown, "jb recover", journal);
+            let done = recover_opened(rt.alloc(), disk, homes, found, options, progress);
             CommandEnd {
-                image: Some(opened.disk),
-                end,
+                image: Some(done.0),
+                end: done.1,
             }
         }
         Err(fault) => CommandEnd {
@@ -104,27 +113,50 @@ fn opening_of(dry_run: bool, force: bool) -> Opening
     }
 }
 
-/// The same of an image that is open, with this many home blocks.
-fn recover_opened<'a, D: Disk, E: Disk>(
+/// The same of an image that is open, with this many home blocks. Gives it back, too.
+fn recover_opened<'a, D: Disk, E: Disk, K: Clock>(
     alloc: Global,
-    disk: &mut ImageDisk<D, E>,
+    disk: ImageDisk<D, E>,
     homes: u64,
     found: Option<MapSource>,
     options: RecoverOptions<'_>,
-) -> Result<Report, CommandFault<'a>>
-    ensures recovers { RecoversOpened (as_disks D.Disk E.Disk) (recover_said options.entry) homes found disk.old
-        disk.new result }
+    progress: ShownProgress<'_, K>,
+) -> (ImageDisk<D, E>, Result<Report, CommandFault<'a>>)
+    ensures recovers { RecoversOpened (as_disks D.Disk E.Disk) (recover_said options.entry) homes found disk result.0
+        result.1 }
 {
+    let mut disk = disk;
     let beside = is_beside(options.journal, disk.is_within());
     let used = use_of(options.journal);
     let sums = checksums_of(options.checksums);
-    match judge_beside(disk, beside, used, options.force, sums) {
+    match judge_beside(&mut disk, beside, used, options.force, sums) {
         Ok(()) => {}
-        Err(fault) => return Err(fault),
+        Err(fault) => return (disk, Err(fault)),
     }
-    if options.dry_run {
-        let answer = foresee_by(alloc, disk, sums);
-        foreseen_end(disk, homes, found, options.list, answer)
+    let mut watched = WatchedDisk::of(disk, progress);
+    let (dry_run, list) = (options.dry_run, options.list);
+    let end = recover_or_foresee(alloc, &mut watched, homes, found, dry_run, list, sums);
+    (watched.into_inner(), end)
+}
+
+/// Recovers an image, or only says what a recovery would do.
+///
+/// # Errors
+/// Those of `recover_image`.
+fn recover_or_foresee<'a, D: Disk, E: Disk, K: Clock>(
+    alloc: Global,
+    disk: &mut WatchedDisk<'_, ImageDisk<D, E>, K>,
+    homes: u64,
+    found: Option<MapSource>,
+    dry_run: bool,
+    list: bool,
+    sums: Checksums,
+) -> Result<Report, CommandFault<'a>>
+    ensures does { DoesRecover (as_disks D.Disk E.Disk) sums dry_run list homes found (watched disk.old)
+        (watched disk.new) result }
+{
+    if dry_run {
+        foresee_image(alloc, disk, homes, found, list, sums)
     } else {
         recover_image(alloc, disk, homes, found, sums)
     }
@@ -181,6 +213,25 @@ pub(crate) fn judge_beside<'a, D: Disk>(
     }
 }
 
+/// Says what a recovery of an image would do.
+///
+/// # Errors
+/// Those of `recover_image`.
+fn foresee_image<'a, D: Disk, E: Disk, K: Clock>(
+    alloc: Global,
+    disk: &mut WatchedDisk<'_, ImageDisk<D, E>, K>,
+    homes: u64,
+    found: Option<MapSource>,
+    list: bool,
+    sums: Checksums,
+) -> Result<Report, CommandFault<'a>>
+    ensures foresees { ForeseesImage (as_disks D.Disk E.Disk) sums homes found list (watched disk.old)
+        (watched disk.new) result }
+{
+    let answer = foresee_watched(alloc, disk, sums);
+    foreseen_end(disk.inner(), homes, found, list, answer)
+}
+
 /// What was foreseen of an image, as the command's end.
 fn foreseen_end<'a, D: Disk, E: Disk>(
     disk: &ImageDisk<D, E>,
@@ -194,78 +245,6 @@ fn foreseen_end<'a, D: Disk, E: Disk>(
     match answer {
         Ok(told) => match disk.first_own(told.homes.as_slice()) {
             None => Ok(Report::Foreseen(told, list, found)),
-            Some(home) => Err(CommandFault::Extents(ExtentsFault::Home(home))),
-        },
-        Err(fault) => Err(CommandFault::of_recovery(fault, Some(homes))),
-    }
-}
-
-/// Recovers an image. Where its journal is within its home blocks, it is foreseen first whether no copy is for one
-/// of those.
-///
-/// # Errors
-/// Those of `recover_on`, and `CommandFault::Extents` for such a copy: nothing is written then.
-fn recover_image<'a, D: Disk, E: Disk>(
-    alloc: Global,
-    disk: &mut ImageDisk<D, E>,
-    homes: u64,
-    found: Option<MapSource>,
-    sums: Checksums,
-) -> Result<Report, CommandFault<'a>>
-    ensures recovers { RecoversImage (as_disks D.Disk E.Disk) sums homes found disk.old disk.new result }
-{
-    match check_own(alloc, disk, homes, sums) {
-        Ok(()) => recover_on(alloc, disk, Some(homes), found, sums),
-        Err(fault) => Err(fault),
-    }
-}
-
-/// Whether a recovery of an image may write: no copy is for a home block that is the journal's own, where that is
-/// within the home blocks. The data of copies is read only where one is; else the recovery itself judges it.
-fn check_own<'a, D: Disk, E: Disk>(
-    alloc: Global,
-    disk: &mut ImageDisk<D, E>,
-    homes: u64,
-    sums: Checksums,
-) -> Result<(), CommandFault<'a>>
-    ensures checks { ChecksOwn (as_disks D.Disk E.Disk) sums homes disk.old disk.new result }
-{
-    if !disk.is_within() {
-        return Ok(());
-    }
-    match foresee_unread_by(alloc, disk, sums) {
-        Ok(told) => match disk.first_own(told.homes.as_slice()) {
-            None => Ok(()),
-            Some(_) => judge_own(alloc, disk, homes, sums),
-        },
-        Err(fault) => Err(CommandFault::of_recovery(fault, Some(homes))),
-    }
-}
-
-/// The same by all that a recovery judges, which may refuse something before such a copy.
-fn judge_own<'a, D: Disk, E: Disk>(
-    alloc: Global,
-    disk: &mut ImageDisk<D, E>,
-    homes: u64,
-    sums: Checksums,
-) -> Result<(), CommandFault<'a>>
-    ensures judges { JudgesOwn (as_disks D.Disk E.Disk) sums homes disk.old disk.new result }
-{
-    let answer = foresee_by(alloc, disk, sums);
-    own_end(disk, homes, answer)
-}
-
-/// Whether a recovery of an image may write, by what was foreseen.
-fn own_end<'a, D: Disk, E: Disk>(
-    disk: &ImageDisk<D, E>,
-    homes: u64,
-    answer: Result<Foreseen, CheckedFault>,
-) -> Result<(), CommandFault<'a>>
-    ensures { result ≡ own_checked disk.now homes answer }
-{
-    match answer {
-        Ok(told) => match disk.first_own(told.homes.as_slice()) {
-            None => Ok(()),
             Some(home) => Err(CommandFault::Extents(ExtentsFault::Home(home))),
         },
         Err(fault) => Err(CommandFault::of_recovery(fault, Some(homes))),

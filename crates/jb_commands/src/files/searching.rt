@@ -6,32 +6,35 @@ ghost use Rattle.jb_commands.specs.Searched.{DumpsDisk, DumpsSearched, end_unles
 
 use crate::fault::CommandFault;
 use crate::files::journals::choice_of;
-use crate::streams::{DiskReader, dump_from};
+use crate::progress::ShownProgress;
+use crate::streams::{DiskReader, WatchedReader, dump_from};
 use jb_args::DumpOptions;
 use jb_disk::Disk;
 use jb_dump::DumpFilter;
 use jb_recover::{Lost, find_lost};
 use std::alloc::Global;
 use std::io::Write;
+use std::time::Clock;
 
 /// Writes those lines of the text of the journal at the front of a disk which the options ask for; where its ring is
 /// searched, a transaction that the log has lost is reported after them.
 ///
 /// # Errors
 /// Those of `dump_from`, and of `dump_searched`.
-pub(crate) fn dump_opened<'a, D: Disk + Drop, O: Write>(
+pub(crate) fn dump_opened<'a, D: Disk + Drop, K: Clock, O: Write>(
     alloc: Global,
     disk: D,
     options: DumpOptions<'a>,
+    progress: ShownProgress<'_, K>,
     out: &mut O,
 ) -> Result<u8, CommandFault<'a>>
     ensures dumps { DumpsDisk D.Disk (dump_said options.entry) disk (O.contents out.old) (O.contents out.new)
         result }
 {
     if is_searched(options) {
-        dump_searched(alloc, disk, choice_of(options), out)
+        dump_searched(alloc, disk, choice_of(options), progress, out)
     } else {
-        dump_disk(alloc, disk, choice_of(options), out)
+        dump_disk(alloc, disk, choice_of(options), progress, out)
     }
 }
 
@@ -40,17 +43,18 @@ pub(crate) fn dump_opened<'a, D: Disk + Drop, O: Write>(
 /// # Errors
 /// Those of [`find_lost`], before anything is written, and those of `dump_from`; `CommandFault::Lost` and
 /// `CommandFault::BadChecksum` where a transaction is lost, once all is written.
-fn dump_searched<'a, D: Disk + Drop, O: Write>(
+fn dump_searched<'a, D: Disk + Drop, K: Clock, O: Write>(
     alloc: Global,
     disk: D,
     filter: DumpFilter,
+    progress: ShownProgress<'_, K>,
     out: &mut O,
 ) -> Result<u8, CommandFault<'a>>
     ensures dumps { DumpsSearched D.Disk filter disk (O.contents out.old) (O.contents out.new) result }
 {
     let mut disk = disk;
     match find_lost(&mut disk) {
-        Ok(lost) => unless_lost(lost, dump_disk(alloc, disk, filter, out)),
+        Ok(lost) => unless_lost(lost, dump_disk(alloc, disk, filter, progress, out)),
         Err(fault) => Err(CommandFault::of_peek(fault, None)),
     }
 }
@@ -82,16 +86,19 @@ fn lost_fault<'a>(lost: Lost) -> CommandFault<'a>
 }
 
 /// Writes those lines of the text of the journal at the front of a disk which a filter takes.
-fn dump_disk<'a, D: Disk + Drop, O: Write>(
+fn dump_disk<'a, D: Disk + Drop, K: Clock, O: Write>(
     alloc: Global,
     disk: D,
     filter: DumpFilter,
+    progress: ShownProgress<'_, K>,
     out: &mut O,
 ) -> Result<u8, CommandFault<'a>>
     ensures dumps { DumpsOn filter None None (O.contents out.old) (O.contents out.new) result }
 {
-    let mut journal = DiskReader::of(disk);
-    dump_from(alloc, &mut journal, filter, out)
+    let mut journal = WatchedReader::of(DiskReader::of(disk), progress);
+    let end = dump_from(alloc, &mut journal, filter, out);
+    let _closed = journal.into_inner();
+    end
 }
 
 /// Whether the rest of the log is searched.

@@ -1,7 +1,8 @@
 ghost use Rattle.std.specs.Prelude.{◌≡◌};
 ghost use Rattle.jb_format.specs.Renumber.{IsRenumbering, Renumbers, RenumbersAs};
 ghost use Rattle.jb_format.specs.Widen.{IsWidened, Widens, WidensAs};
-ghost use Rattle.jb_commands.specs.Change.{ChangesOn, change_end, renumbered_line, widened_line};
+ghost use Rattle.jb_commands.specs.AnswerForms.{text_in};
+ghost use Rattle.jb_commands.specs.Change.{ChangesOn, change_end, renumbered_facts, widened_facts};
 ghost use Rattle.jb_commands.specs.Outputs.{TellsLine, line_end};
 ghost use Rattle.jb_commands.specs.declared.report.Report.TheVariants.{Renumbered as ReportsRenumbered};
 ghost use Rattle.jb_commands.specs.declared.report.Report.TheVariants.{Widened as ReportsWidened};
@@ -9,10 +10,11 @@ ghost use Rattle.jb_commands.specs.declared.report.Report.TheVariants.{Widened a
 use crate::fault::CommandFault;
 use crate::program_end::ProgramEnd;
 use crate::report::Report;
-use crate::streams::telling::tell_line;
-use itoa::Buffer;
+use crate::streams::telling::tell_fields;
+use jb_args::AnswerForm;
 use jb_disk::Disk;
 use jb_format::{ChangeFault, Renumbered, Widened, renumber, widen};
+use jb_json::Field;
 use jb_text::WriteFault;
 use std::io::Write;
 
@@ -65,28 +67,35 @@ fn widening_end<'a>(answer: Result<Widened, ChangeFault>) -> Result<Report, Comm
     }
 }
 
-/// Writes the line of a renumbering.
+/// Writes what a renumbering reports.
 pub(crate) fn tell_renumbered<O: Write>(
+    form: AnswerForm,
     done: Renumbered,
     out: &mut O,
 ) -> Result<ProgramEnd, WriteFault>
-    ensures { TellsLine (renumbered_line done) (O.contents out.old) (O.contents out.new) (line_end result) }
+    ensures { TellsLine (text_in form (renumbered_facts done)) (O.contents out.old) (O.contents out.new)
+        (line_end result) }
 {
-    let mut blocks = Buffer::new();
-    let mut next = Buffer::new();
-    let blocks = blocks.format(done.blocks);
-    let next = next.format(done.next);
-    tell_line(out, &["renumbered blocks ", blocks, " next ", next, "\n"])
+    let fields = [
+        Field::Marked("renumbered", true),
+        Field::Counted("blocks", u64::from(done.blocks)),
+        Field::Counted("next", done.next),
+    ];
+    tell_fields(form, &fields, out)
 }
 
-/// Writes the line of a widening.
-pub(crate) fn tell_widened<O: Write>(done: Widened, out: &mut O) -> Result<ProgramEnd, WriteFault>
-    ensures { TellsLine (widened_line done) (O.contents out.old) (O.contents out.new) (line_end result) }
+/// Writes what a widening reports.
+pub(crate) fn tell_widened<O: Write>(
+    form: AnswerForm,
+    done: Widened,
+    out: &mut O,
+) -> Result<ProgramEnd, WriteFault>
+    ensures { TellsLine (text_in form (widened_facts done)) (O.contents out.old) (O.contents out.new)
+        (line_end result) }
 {
-    let mut digits = Buffer::new();
-    let limit = digits.format(done.limit);
-    if done.changed {
-        return tell_line(out, &["widened limit ", limit, "\n"]);
-    }
-    tell_line(out, &["already wide limit ", limit, "\n"])
+    let fields = [
+        Field::Chosen("widened", done.changed, "widened", "already wide"),
+        Field::Counted("limit", u64::from(done.limit)),
+    ];
+    tell_fields(form, &fields, out)
 }

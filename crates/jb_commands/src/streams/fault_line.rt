@@ -1,7 +1,10 @@
-//! The line of each `CommandFault`.
-ghost use Rattle.std.specs.Prelude.{◌≡◌, option_map};
-ghost use Rattle.jb_text.specs.Puts.{PutsPart};
+//! The line of each `CommandFault`, and the same in JSON.
+ghost use Rattle.std.specs.Prelude.{◌≡◌, map, option_map};
+ghost use Rattle.jb_text.specs.Puts.{Puts, PutsPart};
+ghost use Rattle.jb_text.specs.TextParts.{spelled};
+ghost use Rattle.jb_json.specs.Objects.{json_line};
 ghost use Rattle.jb_commands.specs.FaultLines.{parts_of};
+ghost use Rattle.jb_commands.specs.FaultReports.{facts_with, told_facts};
 ghost use Rattle.jb_commands.specs.Faults.{sum_words};
 ghost use Rattle.jb_commands.specs.Lines.{line_naming};
 
@@ -9,11 +12,15 @@ use crate::fault::CommandFault;
 use crate::fault_table::{name_after, words_of};
 use crate::names::TwoFiles;
 use crate::streams::putting::put_line;
+use arrayvec::ArrayVec;
 use itoa::Buffer;
+use jb_args::{SYSTEM_TEXT, hint_parts};
+use jb_json::{Field, put_json};
 use jb_scan::Summed;
+use jb_text::WriteFault;
 use std::io::Write;
 
-/// The numbers of a line, which are after its words.
+/// The numbers of a fault, which are after its name.
 #[derive(Clone, Copy)]
 pub(crate) enum Numbers {
     None,
@@ -22,7 +29,10 @@ pub(crate) enum Numbers {
 }
 
 impl<'a> CommandFault<'a> {
+    ghost use Rattle.std.specs.Prelude.{ℕ, List};
     ghost use Rattle.jb_text.specs.Puts.{PutsPart};
+    ghost use Rattle.jb_json.specs.Objects.{json_line};
+    ghost use Rattle.jb_commands.specs.FaultReports.{fault_facts};
     ghost use Rattle.jb_commands.specs.Faults.{line_of};
     ghost use Rattle.jb_commands.specs.Lines.{names_said};
 
@@ -37,17 +47,31 @@ impl<'a> CommandFault<'a> {
         let (words, numbers) = words_of(self);
         put_numbers(err, words, numbers, name_after(self, files));
     }
+
+    /// Writes the same as a JSON object, without taking memory, with what to do in it; a fault of the writer is
+    /// ignored. The name of the file is in it as it is.
+    pub fn tell_json<E: Write>(self, files: Option<TwoFiles<'_>>, err: &mut E)
+        /// The JSON of each fault: the name, the numbers and the file of its line, and what its second line says.
+        ensures { (system : List ℕ) × PutsPart (E.contents err.old) (E.contents err.new)
+            (json_line (fault_facts (names_said files.entry) system self.entry)) }
+    {
+        let (words, numbers) = words_of(self);
+        let mut text: ArrayVec<u8, SYSTEM_TEXT> = ArrayVec::new();
+        let mut digits = Buffer::new();
+        let hint = hint_parts(self.hint(), &mut text, &mut digits);
+        let _ignored = put_fault(err, words, numbers, name_after(self, files), &hint);
+    }
 }
 
-/// The words of the line of a block with a wrong checksum.
+/// The name of the fault of a block with a wrong checksum.
 pub(crate) fn words_of_sum(what: Summed) -> &'static str
     ensures { result.now ≡ sum_words what }
 {
     match what {
-        Summed::Descriptor => "jb: BadChecksum descriptor ",
-        Summed::Revoke => "jb: BadChecksum revoke ",
-        Summed::Commit => "jb: BadChecksum commit ",
-        Summed::Data => "jb: BadChecksum data ",
+        Summed::Descriptor => "BadChecksum descriptor",
+        Summed::Revoke => "BadChecksum revoke",
+        Summed::Commit => "BadChecksum commit",
+        Summed::Data => "BadChecksum data",
     }
 }
 
@@ -59,11 +83,73 @@ fn put_numbers<W: Write>(writer: &mut W, words: &str, numbers: Numbers, name: Op
     let mut first = Buffer::new();
     let mut second = Buffer::new();
     match numbers {
-        Numbers::None => put_line(writer, &[words], name),
-        Numbers::One(number) => put_line(writer, &[words, first.format(number)], name),
+        Numbers::None => put_line(writer, &["jb: ", words], name),
+        Numbers::One(number) => {
+            put_line(writer, &["jb: ", words, " ", first.format(number)], name);
+        }
         Numbers::Two(one, two) => {
             let one = first.format(one);
-            put_line(writer, &[words, one, " ", second.format(two)], name);
+            put_line(
+                writer,
+                &["jb: ", words, " ", one, " ", second.format(two)],
+                name,
+            );
         }
     }
+}
+
+/// Writes the JSON of a fault with this name, these numbers, this file and this advice.
+///
+/// # Errors
+/// `WriteFault` where the writer took only the beginning of it.
+fn put_fault<W: Write>(
+    writer: &mut W,
+    words: &str,
+    numbers: Numbers,
+    file: Option<&str>,
+    hint: &[&str],
+) -> Result<(), WriteFault>
+    ensures puts { Puts (W.contents writer.old) (W.contents writer.new)
+        (json_line (told_facts words.now numbers (option_map (λ name. name.now) file.entry)
+        (spelled (map (λ part. part.now) hint.now)))) result }
+{
+    let mut first = Buffer::new();
+    let mut second = Buffer::new();
+    match numbers {
+        Numbers::None => put_told(writer, words, &[], &[words], file, hint),
+        Numbers::One(number) => {
+            let reason = [words, " ", first.format(number)];
+            put_told(writer, words, &[number], &reason, file, hint)
+        }
+        Numbers::Two(one, two) => {
+            let reason = [words, " ", first.format(one), " ", second.format(two)];
+            put_told(writer, words, &[one, two], &reason, file, hint)
+        }
+    }
+}
+
+/// Writes the JSON of a fault with its numbers as they are, with what is said of it and what to do.
+///
+/// # Errors
+/// `WriteFault` where the writer took only the beginning of it.
+pub(crate) fn put_told<W: Write>(
+    writer: &mut W,
+    words: &str,
+    numbers: &[u64],
+    reason: &[&str],
+    file: Option<&str>,
+    hint: &[&str],
+) -> Result<(), WriteFault>
+    ensures puts { Puts (W.contents writer.old) (W.contents writer.new)
+        (json_line (facts_with words.now numbers.now (spelled (map (λ part. part.now) reason.now))
+        (option_map (λ name. name.now) file.entry) (spelled (map (λ part. part.now) hint.now)))) result }
+{
+    let fields = [
+        Field::Named("fault", Some(words)),
+        Field::Listed("numbers", "", numbers),
+        Field::Named("file", file),
+        Field::Worded("reason", reason),
+        Field::Worded("hint", hint),
+    ];
+    put_json(writer, &fields)
 }

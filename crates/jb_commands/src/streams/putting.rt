@@ -2,10 +2,9 @@
 ghost use Rattle.std.specs.Prelude.{◌≡◌, ◌<◌, ◌++◌, IfSome, length, map, option_map};
 ghost use Rattle.jb_text.specs.TextParts.{spelled};
 ghost use Rattle.jb_text.specs.Puts.{Puts, PutsPart};
-ghost use Rattle.jb_commands.specs.Lines.{after_words, is_control_at, is_second as is_second_byte, line_naming};
-ghost use Rattle.jb_commands.specs.Lines.{shown_at};
-ghost use Rattle.jb_commands.specs.Lines.{shown_name};
+ghost use Rattle.jb_commands.specs.Lines.{after_words, line_naming, shown_at, shown_name};
 
+use crate::streams::hidden::is_hidden;
 use arrayvec::ArrayVec;
 use jb_text::{WriteFault, put, put_parts};
 use std::io::Write;
@@ -119,13 +118,13 @@ fn put_shown<W: Write>(writer: &mut W, name: &[u8]) -> Result<(), WriteFault>
     Ok(())
 }
 
-/// The byte at a place of a name as it is shown: of a control character as `\x` and two hexadecimal digits.
+/// The byte at a place of a name as it is shown: of a character that is not shown as `\x` and two hexadecimal digits.
 fn shown(name: &[u8], at: usize) -> ArrayVec<u8, 4>
     requires { at < length name.now }
     ensures { result.items ≡ shown_at name.now at }
 {
     let mut text = ArrayVec::new();
-    if !is_control(name, at) {
+    if !is_hidden(name, at) {
         text.push(name[at]);
         return text;
     }
@@ -136,24 +135,4 @@ fn shown(name: &[u8], at: usize) -> ArrayVec<u8, 4>
     text.push(digits[0]);
     text.push(digits[1]);
     text
-}
-
-/// Whether the byte at a place of a name belongs to a control character: it is one, or one of the two bytes of one,
-/// which are 194 and one from 128 to 159.
-fn is_control(name: &[u8], at: usize) -> bool
-    requires { at < length name.now }
-    ensures { result ≡ is_control_at name.now at }
-{
-    match name[at] {
-        0..=31 | 127 => true,
-        194 => at + 1 < name.len() && is_second(name[at + 1]),
-        byte => is_second(byte) && at > 0 && name[at - 1] == 194,
-    }
-}
-
-/// Whether a byte after 194 makes a control character with it.
-fn is_second(byte: u8) -> bool
-    ensures { result ≡ is_second_byte byte }
-{
-    matches!(byte, 128..=159)
 }

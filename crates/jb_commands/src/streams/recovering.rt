@@ -1,15 +1,18 @@
-ghost use Rattle.std.specs.Prelude.{◌≡◌};
-ghost use Rattle.jb_commands.specs.Recover.{RecoversOn, found_word, recovered_line, recovery_end as ends_so};
+ghost use Rattle.std.specs.Prelude.{◌≡◌, ◌∷◌, ◌++◌, [], codes, if◌then◌else◌};
+ghost use Rattle.jb_json.specs.Facts.{Listed};
+ghost use Rattle.jb_commands.specs.AnswerForms.{text_in};
+ghost use Rattle.jb_commands.specs.Recover.{RecoversOn, is_backup as is_so, recovered_facts, recovery_end as ends_so};
 ghost use Rattle.jb_commands.specs.Outputs.{TellsLine, line_end};
 
 use crate::fault::CommandFault;
 use crate::program_end::ProgramEnd;
 use crate::report::Report;
 use crate::streams::checking::recover_by;
-use crate::streams::telling::tell_line;
-use itoa::Buffer;
+use crate::streams::telling::tell_fields;
+use jb_args::AnswerForm;
 use jb_disk::Disk;
 use jb_ext::MapSource;
+use jb_json::Field;
 use jb_recover::{CheckedFault, Recovered};
 use jb_super::Checksums;
 use jb_text::WriteFault;
@@ -54,39 +57,53 @@ fn recovery_end<'a>(
     }
 }
 
-/// Writes the line of a recovery, which says it where the journal was found by the superblock's copy of its map.
+/// Writes what a recovery reports.
 pub(crate) fn tell_recovered<O: Write>(
+    form: AnswerForm,
     done: Recovered,
     found: Option<MapSource>,
     out: &mut O,
 ) -> Result<ProgramEnd, WriteFault>
-    ensures { TellsLine (recovered_line found done) (O.contents out.old) (O.contents out.new) (line_end result) }
+    ensures { TellsLine (text_in form (recovered_facts found done)) (O.contents out.old) (O.contents out.new)
+        (line_end result) }
 {
-    let mut transactions = Buffer::new();
-    let mut copies = Buffer::new();
-    let mut revoked = Buffer::new();
-    let mut next = Buffer::new();
-    let line = [
-        "transactions ",
-        transactions.format(done.transactions),
-        " copies ",
-        copies.format(done.copies),
-        " revoked ",
-        revoked.format(done.revoked),
-        " next ",
-        next.format(done.next),
-        found_word(found),
-        "\n",
-    ];
-    tell_line(out, &line)
+    tell_counts(form, done, found, &[], false, out)
 }
 
-/// The word for a journal that was found by the superblock's copy of its map.
-fn found_word(found: Option<MapSource>) -> &'static str
-    ensures { result.now ≡ found_word found }
+/// Writes the counts of a recovery, and whether the journal was found by the superblock's copy of its map; where they
+/// are listed, also these home blocks.
+pub(crate) fn tell_counts<O: Write>(
+    form: AnswerForm,
+    done: Recovered,
+    found: Option<MapSource>,
+    homes: &[u64],
+    listed: bool,
+    out: &mut O,
+) -> Result<ProgramEnd, WriteFault>
+    ensures { TellsLine (text_in form (recovered_facts found done
+        ++ (if listed then Listed (codes "homes") (codes "home") homes.now ∷ [] else [])))
+        (O.contents out.old) (O.contents out.new) (line_end result) }
+{
+    let fields = [
+        Field::Counted("transactions", u64::from(done.transactions)),
+        Field::Counted("copies", u64::from(done.copies)),
+        Field::Counted("revoked", u64::from(done.revoked)),
+        Field::Counted("next", done.next),
+        Field::Marked("backup", is_backup(found)),
+        Field::Listed("homes", "home", homes),
+    ];
+    if listed {
+        return tell_fields(form, &fields, out);
+    }
+    tell_fields(form, &fields[..5], out)
+}
+
+/// Whether a journal was found by the superblock's copy of its map.
+fn is_backup(found: Option<MapSource>) -> bool
+    ensures { result ≡ is_so found }
 {
     match found {
-        Some(MapSource::Backup) => " backup",
-        Some(MapSource::Inode) | None => "",
+        Some(MapSource::Backup) => true,
+        Some(MapSource::Inode) | None => false,
     }
 }

@@ -11,7 +11,7 @@ returns-in_ok-verdict-in-Ok c =
     let verdict = c.in_ok-verdict-in-Ok.verdict in
     let read = rw c.as_slice.ensures.value at c.in-Ok.ensures.ok in
     record {
-      said = if_ok_then (λ answer. said answer ≡ verdict_text verdict) (λ answer. SaysCheck queue c.args.claim.now (said answer))
+      said = if_ok_then (λ answer. said answer ≡ verdict_text c.args.form verdict) (λ answer. SaysCheck c.args.form queue c.args.claim.now (said answer))
           c.verdict_told.result c.verdict_told.ensures.said
           (λ answer told. rw read (c.in-Ok.cert, verdict, refl, c.in_ok-verdict-in-Ok.ensures, told));
     }

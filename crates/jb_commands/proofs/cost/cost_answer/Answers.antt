@@ -15,14 +15,14 @@ returns-in_ok-cost-in-Ok c =
     let whole : c.in_ok-cost-in-Ok.cost ≡ queue_cost (value_of queue) =
     rw (c.of-geometry.ensures.tags, c.of-geometry.ensures.entries) at (rw c.as_slice.ensures.value at grouped) in
     record {
-      said = if_ok_then (λ answer. said answer ≡ cost_line c.in_ok-cost-in-Ok.cost queue.limit) (λ answer. cost_said c.args.text.now ≡ Some (said answer)) c.cost_told.result c.cost_told.ensures.said
-          (λ answer told. ap cost_told c.in-Ok.ensures.ok ∙ ap Some (ap (λ n. cost_line n queue.limit) (sym whole) ∙ sym told));
+      said = if_ok_then (λ answer. said answer ≡ cost_line c.args.form c.in_ok-cost-in-Ok.cost queue.limit) (λ answer. cost_said c.args.form c.args.text.now ≡ Some (said answer)) c.cost_told.result c.cost_told.ensures.said
+          (λ answer told. ap (cost_told c.args.form) c.in-Ok.ensures.ok ∙ ap Some (ap (λ n. cost_line c.args.form n queue.limit) (sym whole) ∙ sym told));
     }
 
 pub returns-in-Err : goal.returns-in-Err
 returns-in-Err c =
     let fault = c.in-Err.fault in
     record {
-      said = if_ok_then (λ answer. queue_fault fault ≡ Some (said answer)) (λ answer. cost_said c.args.text.now ≡ Some (said answer)) c.fault_answer.result c.fault_answer.ensures.said
-          (λ answer told. rw (named_by (queue_of c.args.text.now) fault.line fault.cause (said answer) c.in-Err.ensures.err told) told);
+      said = if_ok_then (λ answer. queue_fault c.args.form fault ≡ Some (said answer)) (λ answer. cost_said c.args.form c.args.text.now ≡ Some (said answer)) c.fault_answer.result c.fault_answer.ensures.said
+          (λ answer told. rw (named_by c.args.form (queue_of c.args.text.now) fault.line fault.cause (said answer) c.in-Err.ensures.err told) told);
     }

@@ -13,7 +13,7 @@ returns-in-Ok g c =
     let text = c.args.text.now in
     let queue = value_of c.in-Ok.queue in
     record {
-      ends = ends_of_more (SaysCheck queue) (CheckSays text) c.args.cert.now _ _ c.check_file.result
+      ends = ends_of_more (SaysCheck c.args.form queue) (CheckSays c.args.form text) c.args.cert.now _ _ c.check_file.result
           (λ claim words says. rw c.in-Ok.ensures.ok says) c.check_file.ensures.ends;
     }
 
@@ -22,8 +22,8 @@ returns-in-Err g c =
     let text = c.args.text.now in
     let fault = c.in-Err.fault in
     record {
-      ends = ends_of_claim (CheckSays text) c.args.cert.now [] _ _ c.fault_answer.result c.told.result (tt, omega arith)
-          (if_ok_then (λ answer. queue_fault fault ≡ Some (said answer)) (λ answer. CheckSays text [] (said answer)) c.fault_answer.result c.fault_answer.ensures.said
-          (λ answer told. rw (named_by (queue_of text) fault.line fault.cause (said answer) c.in-Err.ensures.err told) told))
+      ends = ends_of_claim (CheckSays c.args.form text) c.args.cert.now [] _ _ c.fault_answer.result c.told.result (tt, omega arith)
+          (if_ok_then (λ answer. queue_fault c.args.form fault ≡ Some (said answer)) (λ answer. CheckSays c.args.form text [] (said answer)) c.fault_answer.result c.fault_answer.ensures.said
+          (λ answer told. rw (named_by c.args.form (queue_of text) fault.line fault.cause (said answer) c.in-Err.ensures.err told) told))
           c.told.ensures.tells c.told.ensures.none;
     }

@@ -11,7 +11,7 @@ pub returns-in-Check-clause-ends : goal.returns-in-Check-clause-ends
 returns-in-Check-clause-ends g c = rw c.in-Check.is (c.perform_check.result, c.perform_check.ensures.ends, c.said-in-Check.ensures.image, c.said-in-Check.ensures.end)
 
 pub returns-in-Dump-clause-ends : goal.returns-in-Dump-clause-ends
-returns-in-Dump-clause-ends g c = rw c.in-Dump.is ((c.dump_named.result, (g.I.Read.remaining c.dump_named.new.input, c.dump_named.ensures.ends), c.status.ensures.image, c.status.ensures.end), refl)
+returns-in-Dump-clause-ends g c = rw c.in-Dump.is ((c.dump_in.result, c.dump_in.ensures.ends, c.status.ensures.image, c.status.ensures.end), refl)
 
 pub returns-in-Format-clause-ends : goal.returns-in-Format-clause-ends
 returns-in-Format-clause-ends g c = rw c.in-Format.is (c.format_file.ensures.ends, refl)
@@ -40,7 +40,7 @@ pub returns-in-Check-clause-unread : goal.returns-in-Check-clause-unread
 returns-in-Check-clause-unread g c = λ _. refl
 
 pub returns-in-Dump-clause-unread : goal.returns-in-Dump-clause-unread
-returns-in-Dump-clause-unread g c = rw c.in-Dump.is c.dump_named.ensures.unread
+returns-in-Dump-clause-unread g c = rw c.in-Dump.is c.dump_in.ensures.unread
 
 pub returns-in-Format-clause-unread : goal.returns-in-Format-clause-unread
 returns-in-Format-clause-unread g c = λ _. refl

@@ -4,5 +4,5 @@ use Rattle.jb_commands.proofs.running.perform_check.Goals as goal
 
 pub returns-in-Ok : goal.returns-in-Ok
 returns-in-Ok g c = record {
-  ends = ends_of_two CheckSays c.args.file.now c.args.cert.now c.in-Ok.text.items _ _ c.check_texts.result c.in-Ok.ensures.text (rw c.as_slice.ensures.value at c.check_texts.ensures.ends);
+  ends = ends_of_two (CheckSays c.args.form) c.args.file.now c.args.cert.now c.in-Ok.text.items _ _ c.check_texts.result c.in-Ok.ensures.text (rw c.as_slice.ensures.value at c.check_texts.ensures.ends);
 }

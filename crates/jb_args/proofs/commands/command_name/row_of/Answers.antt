@@ -31,3 +31,21 @@ returns-in-Renumber c = ap app_named (sym c.in-Renumber.is)
 
 pub returns-in-Widen : goal.returns-in-Widen
 returns-in-Widen c = ap app_named (sym c.in-Widen.is)
+
+pub returns-in-Completions : goal.returns-in-Completions
+returns-in-Completions c = ap app_named (sym c.in-Completions.is)
+
+pub returns-in-Files : goal.returns-in-Files
+returns-in-Files c = ap app_named (sym c.in-Files.is)
+
+pub returns-in-Locks : goal.returns-in-Locks
+returns-in-Locks c = ap app_named (sym c.in-Locks.is)
+
+pub returns-in-Settings : goal.returns-in-Settings
+returns-in-Settings c = ap app_named (sym c.in-Settings.is)
+
+pub returns-in-Statuses : goal.returns-in-Statuses
+returns-in-Statuses c = ap app_named (sym c.in-Statuses.is)
+
+pub returns-in-Diagnostics : goal.returns-in-Diagnostics
+returns-in-Diagnostics c = ap app_named (sym c.in-Diagnostics.is)

@@ -1,4 +1,4 @@
 use Rattle.jb_commands.proofs.streams.changing.tell_renumbered.Goals as goal
 
 pub returns : goal.returns
-returns g c = rw (c.format-blocks.ensures.text, c.format-next.ensures.text) at c.tell_line.ensures
+returns g c = rw c.from.ensures at c.tell_fields.ensures

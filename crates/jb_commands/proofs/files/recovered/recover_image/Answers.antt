@@ -1,8 +1,0 @@
-use Rattle.std.proofs.Common.{refl, Ok, Err}
-use Rattle.jb_commands.proofs.files.recovered.recover_image.Goals as goal
-
-pub returns-in-Ok : goal.returns-in-Ok
-returns-in-Ok g c = record { recovers = (c.check_own.new.disk, Ok tt, c.in-Ok.ensures.checks, c.recover_on.ensures.recovers) }
-
-pub returns-in-Err : goal.returns-in-Err
-returns-in-Err g c = record { recovers = (c.check_own.new.disk, Err c.in-Err.fault, c.in-Err.ensures.checks, (refl, refl)) }

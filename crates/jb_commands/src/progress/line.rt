@@ -1,0 +1,173 @@
+//! The line on a terminal.
+
+use crate::progress::Course;
+use crate::progress::advance::Advance;
+use itoa::Buffer;
+use jb_text::{put, put_parts};
+use std::fs::File;
+use std::time::{Clock, Instant};
+
+/// What erases a line.
+const ERASE: &str = "\r\x1b[K";
+
+/// How many milliseconds a command runs before a line is shown.
+const FIRST: u64 = 1000;
+
+/// How many milliseconds it stands before it is written anew.
+const BETWEEN: u64 = 200;
+
+/// How many calls there are between two looks at the clock.
+const CALLS_A_LOOK: u32 = 256;
+
+/// A line on a terminal, which says how far a command has come.
+#[derive(Drop)]
+pub(crate) struct TerminalLine {
+    terminal: File,
+    /// What the command does.
+    what: &'static str,
+    /// When it was begun.
+    begun: Instant,
+    /// When the line is to be written, in milliseconds from there.
+    due: u64,
+    /// Whether it stands.
+    stands: bool,
+    /// How many calls there were since the last look at the clock.
+    calls: u32,
+    course: Course,
+}
+
+impl TerminalLine {
+    /// A line that is not written yet, where there is a terminal and a clock.
+    pub(crate) fn new<K: Clock>(
+        terminal: Option<File>,
+        clock: &K,
+        what: &'static str,
+        course: Course,
+    ) -> Option<TerminalLine> {
+        let terminal = terminal?;
+        let begun = Instant::now(clock).ok()?;
+        Some(TerminalLine {
+            terminal,
+            what,
+            begun,
+            due: FIRST,
+            stands: false,
+            calls: 0,
+            course,
+        })
+    }
+
+    /// The block at a place is read or written.
+    pub(crate) fn meet<K: Clock>(&mut self, clock: &K, place: u64) {
+        if let Course::Log(pass) = &mut self.course {
+            pass.meet(place)
+        }
+        self.call(clock)
+    }
+
+    /// So many bytes more are read.
+    pub(crate) fn read<K: Clock>(&mut self, clock: &K, bytes: u64) {
+        if let Course::Bytes(advance) = &mut self.course {
+            advance.at = advance.at.saturating_add(bytes)
+        }
+        self.call(clock)
+    }
+
+    /// Once in a while the clock is looked at.
+    fn call<K: Clock>(&mut self, clock: &K) {
+        self.calls = self.calls.saturating_add(1);
+        if self.calls >= CALLS_A_LOOK {
+            self.calls = 0;
+            self.look(clock)
+        }
+    }
+
+    /// Writes the line where it is due.
+    fn look<K: Clock>(&mut self, clock: &K) {
+        let Ok(elapsed) = self.begun.elapsed(clock) else {
+            return;
+        };
+        let now = elapsed
+            .as_secs()
+            .saturating_mul(1000)
+            .saturating_add(u64::from(elapsed.subsec_millis()));
+        self.see(now);
+        if now >= self.due {
+            self.due = now.saturating_add(BETWEEN);
+            self.show(now)
+        }
+    }
+
+    /// It is this time, in milliseconds.
+    fn see(&mut self, now: u64) {
+        match &mut self.course {
+            Course::Log(pass) => pass.blocks.see(now),
+            Course::Bytes(advance) => advance.see(now),
+        }
+    }
+
+    /// Writes the line.
+    fn show(&mut self, now: u64) {
+        self.stands = true;
+        let course = self.course;
+        match course {
+            Course::Log(pass) => self.show_pass(pass.number, pass.blocks, now),
+            Course::Bytes(advance) => self.show_bytes(advance, now),
+        }
+    }
+
+    /// Writes it of a pass over a log. A fault of the terminal is ignored.
+    fn show_pass(&mut self, number: u64, blocks: Advance, now: u64) {
+        let (mut pass, mut at, mut of) = (Buffer::new(), Buffer::new(), Buffer::new());
+        let (mut percent, mut left) = (Buffer::new(), Buffer::new());
+        let parts = [
+            "\r",
+            self.what,
+            ": pass ",
+            pass.format(number),
+            ", block ",
+            at.format(blocks.at),
+            " of ",
+            of.format(blocks.of),
+            ", ",
+            percent.format(blocks.percent()),
+            "%, ",
+            left.format(blocks.seconds_left(now)),
+            " s left\x1b[K",
+        ];
+        let _ignored = put_parts(&mut self.terminal, &parts);
+    }
+
+    /// Writes it of bytes that are read, in KiB.
+    fn show_bytes(&mut self, bytes: Advance, now: u64) {
+        let (mut at, mut of) = (Buffer::new(), Buffer::new());
+        let (mut percent, mut left) = (Buffer::new(), Buffer::new());
+        let parts = [
+            "\r",
+            self.what,
+            ": ",
+            at.format(bytes.at / 1024),
+            " of ",
+            of.format(bytes.of / 1024),
+            " KiB, ",
+            percent.format(bytes.percent()),
+            "%, ",
+            left.format(bytes.seconds_left(now)),
+            " s left\x1b[K",
+        ];
+        let _ignored = put_parts(&mut self.terminal, &parts);
+    }
+
+    /// Erases the line where it stands.
+    pub(crate) fn erase(self) {
+        let TerminalLine {
+            terminal,
+            stands,
+            ..
+        } = self;
+        if stands {
+            let mut terminal = terminal;
+            let _ignored = put(&mut terminal, ERASE.as_bytes());
+        }
+    }
+}
