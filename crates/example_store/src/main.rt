@@ -72,7 +72,7 @@ fn serve<S: Start + Send, R: Files<File = File> + AllocGlobal + Threads + Wait +
 }
 
 /// What the worker answered, once all that it changed is committed.
-fn durable_answers<D: Drop>(ran: Ran<Served, D>) -> Result<Vec<Served>, JournalFault>
+fn durable_answers<D: Disk + Drop>(ran: Ran<Served, D>) -> Result<Vec<Served>, JournalFault>
     ensures { IfOk result (λ answers. AllSettled ran × (answers ≡ ran.answers)) }
 {
     let (_disk, answers) = ran.durable()?;
@@ -80,7 +80,7 @@ fn durable_answers<D: Drop>(ran: Ran<Served, D>) -> Result<Vec<Served>, JournalF
 }
 
 /// How the worker ended.
-fn answered<D: Drop>(ran: Ran<Served, D>) -> Result<(), Failed>
+fn answered<D: Disk + Drop>(ran: Ran<Served, D>) -> Result<(), Failed>
     ensures { OnOk result (EndedWell ran) }
 {
     let mut answers = durable_answers(ran)?;

@@ -8,6 +8,8 @@ ghost use Rattle.jb_desk.specs.declared.fault.WaitFault.TheVariants.{Taken};
 ghost use Rattle.jb_handle.specs.Word.{WordMap};
 ghost use Rattle.jb_journal.specs.Change.{AnswersChange};
 
+mod timed;
+
 use crate::change::change_at;
 use crate::counted::CountedSeat;
 use crate::fault::HandleFault;

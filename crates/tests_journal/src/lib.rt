@@ -22,6 +22,8 @@ mod lost;
 #[cfg(test)]
 mod makings;
 #[cfg(test)]
+mod reasons;
+#[cfg(test)]
 mod recoveries;
 #[cfg(test)]
 mod seeing;
