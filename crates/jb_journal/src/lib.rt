@@ -25,7 +25,7 @@ mod threads;
 mod worker;
 mod working;
 
-pub use client::Client;
+pub use client::{Client, Figures};
 pub use clock::SystemClock;
 pub use fault::{HandleFault, HomeFault, NotDurable, RunFault};
 pub use image::{open, open_holding, open_or_create, open_or_create_holding, read_home};
