@@ -8,8 +8,8 @@ ghost use Rattle.jb_desk.specs.declared.fault.WaitFault.TheVariants.{Taken};
 ghost use Rattle.jb_handle.specs.Word.{WordMap};
 ghost use Rattle.jb_journal.specs.Change.{AnswersChange};
 
+mod durable;
 mod figures;
-mod timed;
 
 use crate::change::change_at;
 use crate::counted::CountedSeat;

@@ -1,5 +1,5 @@
 //! Why a handle is not stopped, a home not read, and a journal not run.
-use crate::remedy::Remedy;
+use crate::remedy::{Remedy, ToWorker};
 use jb_deck::OpenFault;
 use jb_desk::BeginFault;
 use jb_disk::Failure;
@@ -12,7 +12,7 @@ use thiserror::Error;
 #[error_bound(E: fmt::Display)]
 pub enum HandleFault<E> {
     /// It was not begun, for this.
-    #[error(transparent)]
+    #[error("{}", ToWorker {has_failed: *.0 == BeginFault::Aborted, fault: .0})]
     Begin(BeginFault),
     /// What changes it gave this answer.
     #[error(transparent)]

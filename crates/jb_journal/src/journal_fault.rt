@@ -1,6 +1,6 @@
 //! What may go wrong in any call of the journal.
 use crate::fault::{HandleFault, HomeFault, NotDurable, RunFault};
-use crate::remedy::Remedy;
+use crate::remedy::{Remedy, ToWorker};
 use jb_block::Memory;
 use jb_deck::ReadHomeFault;
 use jb_desk::WaitFault;
@@ -49,10 +49,10 @@ pub enum JournalFault {
     #[error(transparent)]
     Touch(#[from] TouchFault),
     /// A handle was not committed.
-    #[error(transparent)]
+    #[error("{}", ToWorker {has_failed: *.0 == WaitFault::Aborted, fault: .0})]
     Wait(#[from] WaitFault),
     /// A home block was not read by a worker.
-    #[error(transparent)]
+    #[error("{}", ToWorker {has_failed: *.0 == ReadHomeFault::Aborted, fault: .0})]
     Read(#[from] ReadHomeFault),
     /// A home block was not read from a journal that is not open.
     #[error(transparent)]

@@ -34,8 +34,8 @@ pub use jb_block::{BlockSize, Memory, Stamp, Width};
 pub use jb_deck::{Entry, OpenFault, ReadHomeFault};
 pub use jb_desk::{BeginFault, Delay, Ended, Origin, WaitFault};
 pub use jb_disk::{
-    Cause, Clock, Disk, FailedCall, Failure, Fault, FileDisk, FixedClock, MemoryDisk, Reason, Start,
-    SystemFault, Unknown,
+    Clock, Disk, FailedCall, Failure, FailureCause, FailureReason, Fault, FileDisk, FixedClock,
+    MemoryDisk, Start, SystemFault, Unknown,
 };
 pub use jb_format::{ChangeFault, FormatFault, Renumbered, Widened, format, renumber, widen};
 pub use jb_handle::{Handle, Payload, Shape, TouchFault, Word, Words};

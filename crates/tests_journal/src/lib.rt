@@ -10,6 +10,8 @@ mod delays;
 #[cfg(test)]
 mod ends;
 #[cfg(test)]
+mod figures;
+#[cfg(test)]
 mod files;
 #[cfg(test)]
 mod image_runs;
@@ -29,8 +31,6 @@ mod recoveries;
 mod seeing;
 #[cfg(test)]
 mod telling;
-#[cfg(test)]
-mod timed;
 #[cfg(test)]
 mod trails;
 #[cfg(test)]

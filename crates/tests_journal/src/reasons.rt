@@ -4,70 +4,71 @@ use crate::files::{NAME, fresh};
 use crate::journals::{by, formatted};
 use crate::workers::{PAIRS, run_on};
 use jb_journal::{
-    BlockSize, Disk, FailedCall, Failure, FileDisk, JournalFault, NotDurable, Reason, SystemFault,
+    BlockSize, Disk, FailedCall, Failure, FailureReason, FileDisk, JournalFault, NotDurable,
+    SystemFault,
 };
 use std::fs::OpenOptions;
 use tests_support::{Bench, Must, check, check_at, write_blocks};
 
 /// A call that failed for this reason, and all that is told of it.
-type Row = (FailedCall, Reason, &'static str);
+type Row = (FailedCall, FailureReason, &'static str);
 
 /// A call for which the file was not opened is refused so (`EBADF`).
-const UNOPENED: Reason = Reason::System(SystemFault { code: Some(9) });
+const UNOPENED: FailureReason = FailureReason::System(SystemFault { code: Some(9) });
 
 /// What is told of each cause.
 static ROWS: [Row; 11] = [
     (
         FailedCall::Write(17),
-        Reason::System(SystemFault { code: Some(28) }),
+        FailureReason::System(SystemFault { code: Some(28) }),
         "the disk failed: write at block 17: No space left on device (os error 28); make room on its file system, \
          then start the program anew: it recovers the journal",
     ),
     (
         FailedCall::Sync,
-        Reason::System(SystemFault { code: Some(122) }),
+        FailureReason::System(SystemFault { code: Some(122) }),
         "the disk failed: sync: Disk quota exceeded (os error 122); make room within its quota, or have it raised, \
          then start the program anew: it recovers the journal",
     ),
     (
         FailedCall::Write(0),
-        Reason::System(SystemFault { code: Some(27) }),
+        FailureReason::System(SystemFault { code: Some(27) }),
         "the disk failed: write at block 0: File too large (os error 27); have the limit of a file's size raised \
          (ulimit -f), then start the program anew: it recovers the journal",
     ),
     (
         FailedCall::Read(3),
-        Reason::System(SystemFault { code: Some(5) }),
+        FailureReason::System(SystemFault { code: Some(5) }),
         "the disk failed: read at block 3: Input/output error (os error 5); look at the system's log, and copy the \
          image to another device if this one fails, then start the program anew: it recovers the journal",
     ),
     (
         FailedCall::Write(1),
-        Reason::System(SystemFault { code: Some(1) }),
+        FailureReason::System(SystemFault { code: Some(1) }),
         "the disk failed: write at block 1: Operation not permitted (os error 1); see to its permission, and to \
          whether its file system may be written, then start the program anew: it recovers the journal",
     ),
     (
         FailedCall::Write(1),
-        Reason::System(SystemFault { code: Some(13) }),
+        FailureReason::System(SystemFault { code: Some(13) }),
         "the disk failed: write at block 1: Permission denied (os error 13); see to its permission, and to whether \
          its file system may be written, then start the program anew: it recovers the journal",
     ),
     (
         FailedCall::Write(1),
-        Reason::System(SystemFault { code: Some(30) }),
+        FailureReason::System(SystemFault { code: Some(30) }),
         "the disk failed: write at block 1: Read-only file system (os error 30); see to its permission, and to \
          whether its file system may be written, then start the program anew: it recovers the journal",
     ),
     (
         FailedCall::Read(40),
-        Reason::Short,
+        FailureReason::Short,
         "the disk failed: read at block 40: fewer bytes were moved than asked for; the file is shorter than it was: \
          put back a copy of it, then start the program anew: it recovers the journal",
     ),
     (
         FailedCall::Write(40),
-        Reason::Short,
+        FailureReason::Short,
         "the disk failed: write at block 40: fewer bytes were moved than asked for; make room on its file system or \
          within its quota, then start the program anew: it recovers the journal",
     ),
@@ -79,7 +80,7 @@ static ROWS: [Row; 11] = [
     ),
     (
         FailedCall::Sync,
-        Reason::System(SystemFault { code: None }),
+        FailureReason::System(SystemFault { code: None }),
         "the disk failed: sync: the system gives no reason; look at the system's log, then start the program anew: it \
          recovers the journal",
     ),
@@ -105,7 +106,10 @@ fn made<R: FileHost>(rt: &R, is_read: bool, is_written: bool) -> FileDisk {
     let test = By(rt, rt.alloc());
     let mut disk = formatted(&test, BlockSize::OneKib);
     write_blocks(&test, rt, &mut disk, NAME, 0, 49);
-    let file = OpenOptions::new().read(is_read).write(is_written).open(rt, NAME);
+    let file = OpenOptions::new()
+        .read(is_read)
+        .write(is_written)
+        .open(rt, NAME);
     let file = file.must(&test, "the file is not opened");
     FileDisk::of(file, BlockSize::OneKib).must(&test, "the file is no disk")
 }

@@ -11,17 +11,15 @@ use jb_journal::{
 use std::sync::Wait;
 use std::sync::ledger::Ledger;
 use std::time;
-use std::time::Duration;
 use tests_support::{Must, Test, check};
 
 /// What a worker found that took the trail: how many entries it took, the ticket after theirs, and what is answered of
-/// the first ticket then, also where it is not waited for.
+/// the first ticket then.
 #[derive(Clone, Copy)]
 struct Taken {
     entries: usize,
     past: u64,
     first: Result<u32, WaitFault>,
-    at_once: Result<Option<u32>, WaitFault>,
 }
 
 /// A worker writes a home this many times, waits each time, and takes the trail.
@@ -59,7 +57,6 @@ impl Worker<Taken> for Long {
             entries,
             past,
             first: client.wait(0),
-            at_once: client.wait_for(0, Duration::ZERO),
         }
     }
 }
@@ -69,7 +66,7 @@ fn check_found(test: &impl Test, taken: &Taken) {
     // the 32 blocks of the log have room for ten transactions of one home; all before them are home
     check(test, taken.entries == 50, "how many entries are taken");
     check(test, taken.past == 50, "the ticket after the taken ones");
-    let is_taken = taken.first == Err(WaitFault::Taken) && taken.at_once == Err(WaitFault::Taken);
+    let is_taken = taken.first == Err(WaitFault::Taken);
     check(test, is_taken, "the first ticket");
 }
 
