@@ -44,23 +44,23 @@ pub record WasRefused {S : Type 0} (start : Starts S) (size : BlockSize) (fault 
 
 -- why an image was not opened whose recovery had this fault, and whose disk tells this of the last call that failed:
 -- that call, where one of the recovery has failed and the disk tells it
-abbrev pub recover_fault : RecoverFault → Option Failure → JournalFault
-recover_fault recovering.DeviceFault None = Recover recovering.DeviceFault
-recover_fault recovering.DeviceFault (Some failure) = Device failure
-recover_fault (recovering.Super fault) told = Recover (recovering.Super fault)
-recover_fault (recovering.BadRevoke at) told = Recover (recovering.BadRevoke at)
-recover_fault (recovering.HomeOutOfRange home number) told = Recover (recovering.HomeOutOfRange home number)
-recover_fault recovering.Memory told = Recover recovering.Memory
+abbrev pub unrecovered_by : RecoverFault → Option Failure → JournalFault
+unrecovered_by recovering.DeviceFault None = Recover recovering.DeviceFault
+unrecovered_by recovering.DeviceFault (Some failure) = Device failure
+unrecovered_by (recovering.Super fault) told = Recover (recovering.Super fault)
+unrecovered_by (recovering.BadRevoke at) told = Recover (recovering.BadRevoke at)
+unrecovered_by (recovering.HomeOutOfRange home number) told = Recover (recovering.HomeOutOfRange home number)
+unrecovered_by recovering.Memory told = Recover recovering.Memory
 
 -- why an image was not opened whose last home was not read for this, and whose disk tells this of the last call that
 -- failed: that there is no such home, or that call, where the read has failed by one and the disk tells it
-abbrev pub home_fault : HomeFault → Option Failure → JournalFault
-home_fault Length told = ReadHome Length
-home_fault (Peek reading.DeviceFault) None = ReadHome (Peek reading.DeviceFault)
-home_fault (Peek reading.DeviceFault) (Some failure) = Device failure
-home_fault (Peek (reading.Super fault)) told = ReadHome (Peek (reading.Super fault))
-home_fault (Peek (reading.BadRevoke at)) told = ReadHome (Peek (reading.BadRevoke at))
-home_fault (Peek (reading.HomeOutOfRange home)) told = FewerHomes
+abbrev pub unread_by : HomeFault → Option Failure → JournalFault
+unread_by Length told = ReadHome Length
+unread_by (Peek reading.DeviceFault) None = ReadHome (Peek reading.DeviceFault)
+unread_by (Peek reading.DeviceFault) (Some failure) = Device failure
+unread_by (Peek (reading.Super fault)) told = ReadHome (Peek (reading.Super fault))
+unread_by (Peek (reading.BadRevoke at)) told = ReadHome (Peek (reading.BadRevoke at))
+unread_by (Peek (reading.HomeOutOfRange home)) told = FewerHomes
 
 -- a call of a file that was recovered has failed, in a read of a home of it, and the file tells this of it
 pub record HasFailedRead {S : Type 0} (start : Starts S) (size : BlockSize) (failure : Failure) : Type 0 where

@@ -7,7 +7,7 @@ ghost use Rattle.jb_disk.specs.KeptOn.{KeptOn};
 ghost use Rattle.jb_disk.specs.Time.{Goes};
 ghost use Rattle.jb_recover.specs.Peeks.{IsRecoveredHome};
 ghost use Rattle.jb_journal.specs.Homes.{HomeFaults, ReadsWhole};
-ghost use Rattle.jb_journal.specs.OpenFile.{WasRecoveredOrMade, RefusesImage, WasRecovered, home_fault, recover_fault};
+ghost use Rattle.jb_journal.specs.OpenFile.{WasRecoveredOrMade, RefusesImage, WasRecovered, unread_by, unrecovered_by};
 ghost use Rattle.jb_journal.specs.declared.fault.HomeFault.TheVariants.{Length};
 
 use crate::fault::HomeFault;
@@ -67,7 +67,7 @@ pub fn open_holding<S: Start, R: Files<File = File> + AllocGlobal>(
 
 /// Why an image was not opened whose recovery ended so, of which its disk tells this.
 fn unrecovered(fault: RecoverFault, told: Option<Failure>) -> JournalFault
-    ensures { result ≡ recover_fault fault told }
+    ensures { result ≡ unrecovered_by fault told }
 {
     match (fault, told) {
         (RecoverFault::DeviceFault, Some(failure)) => JournalFault::Device(failure),
@@ -77,7 +77,7 @@ fn unrecovered(fault: RecoverFault, told: Option<Failure>) -> JournalFault
 
 /// Why an image was not opened of which no home was read for this, where its disk tells this.
 fn unread(fault: HomeFault, told: Option<Failure>) -> JournalFault
-    ensures { result ≡ home_fault fault told }
+    ensures { result ≡ unread_by fault told }
 {
     match (fault, told) {
         (HomeFault::Peek(PeekFault::HomeOutOfRange(_)), _) => JournalFault::FewerHomes,

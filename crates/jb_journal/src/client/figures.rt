@@ -51,8 +51,8 @@ impl<'a, D: Disk, C: Clock, R: Wait + time::Clock, H: Origin, N: Ledger> Client<
     }
 }
 
-/// How many blocks of the log are in use; `None` where the journal has failed. A round of a checkpointer at a level that
-/// no log comes to writes nothing home, and tells that.
+/// How many blocks of the log are in use; `None` where the journal has failed. A round of a checkpointer at a level
+/// that no log comes to writes nothing home, and tells that.
 fn log_in_use<D: Disk, C: Clock, R: Wait, H: Origin, N: Ledger>(
     rt: &R,
     desk: &Desk<D, C, H, N>,
