@@ -48,8 +48,8 @@ pub enum RunFault {
     Accounts,
 }
 
-/// Why what a run leaves is not durable. Where the journal has failed, `failure` is what its disk tells of the call that
-/// it has failed by: the program is to end, that is to be seen to, and the program started anew recovers the journal.
+/// Why what a run leaves is not durable. Where the journal has failed, `failure` is what its disk tells of the call
+/// that failed: the program is to end, that is to be seen to, and the program started anew recovers the journal.
 #[derive(Clone, Copy, Debug, PartialEq, Eq, Error)]
 pub enum NotDurable {
     /// Handles that stopped were not all settled: the others may be lost.
