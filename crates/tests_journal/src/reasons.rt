@@ -4,8 +4,8 @@ use crate::files::{NAME, fresh};
 use crate::journals::{by, formatted};
 use crate::workers::{PAIRS, run_on};
 use jb_journal::{
-    BlockSize, Disk, FailedCall, Failure, FailureReason, FileDisk, JournalFault, NotDurable,
-    SystemFault,
+    BeginFault, BlockSize, Disk, FailedCall, Failure, FailureReason, FileDisk, HandleFault,
+    JournalFault, NotDurable, ReadHomeFault, SystemFault, WaitFault,
 };
 use std::fs::OpenOptions;
 use tests_support::{Bench, Must, check, check_at, write_blocks};
@@ -86,18 +86,57 @@ static ROWS: [Row; 11] = [
     ),
 ];
 
-/// Checks what is told of a call that failed.
-fn check_row(test: &impl Bench, row: &Row, at: u64) {
-    let (call, reason, text) = *row;
-    let fault = JournalFault::Device(Failure { call, reason });
+/// What a worker is told once the journal has failed.
+const FAILED: &str = "the journal has failed; the end of the run says why, and what to do";
+
+/// What a worker is told of a fault.
+static WORKERS: [(JournalFault, &str); 5] = [
+    (JournalFault::Wait(WaitFault::Aborted), FAILED),
+    (JournalFault::Read(ReadHomeFault::Aborted), FAILED),
+    (JournalFault::Change(HandleFault::Aborted), FAILED),
+    (
+        JournalFault::Change(HandleFault::Begin(BeginFault::Aborted)),
+        FAILED,
+    ),
+    (
+        JournalFault::Wait(WaitFault::Unknown),
+        "no handle has the ticket",
+    ),
+];
+
+/// Checks what is told of a fault.
+fn check_text(test: &impl Bench, fault: JournalFault, text: &str, at: u64) {
     let told = format!(in test.alloc(); "{fault}").must(test, "memory");
     check_at(test, told.as_str() == text, "the text of row", at);
 }
 
-fn check_rows(test: &impl Bench) {
+/// Checks what is told of a call that failed.
+fn check_row(test: &impl Bench, row: &Row, at: u64) {
+    let (call, reason, text) = *row;
+    check_text(
+        test,
+        JournalFault::Device(Failure { call, reason }),
+        text,
+        at,
+    )
+}
+
+fn check_causes(test: &impl Bench) {
     for (at, row) in ROWS.iter().enumerate() {
         check_row(test, row, at as u64);
     }
+}
+
+/// Checks what a worker is told; the rows are numbered from 100 on.
+fn check_workers(test: &impl Bench) {
+    for (at, (fault, text)) in WORKERS.iter().enumerate() {
+        check_text(test, *fault, text, (at as u64).saturating_add(100));
+    }
+}
+
+fn check_texts(test: &impl Bench) {
+    check_causes(test);
+    check_workers(test)
 }
 
 /// A new journal in a file, which is opened so.
@@ -151,7 +190,7 @@ fn check_runs<R: ImageHost>(rt: &R) {
 
 #[test]
 fn what_to_do_is_told_of_each_cause(rt: HostRuntime) {
-    check_rows(&By(&rt, rt.alloc()))
+    check_texts(&By(&rt, rt.alloc()))
 }
 
 #[test]
