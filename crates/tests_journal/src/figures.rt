@@ -21,9 +21,16 @@ struct Looking {
     turns: u32,
 }
 
-/// What it found: whether the handle was durable before it stopped, and whether at the end; whether one that nobody has
-/// was; and the figures then.
-type Found = (bool, bool, bool, Figures);
+/// What it found.
+#[derive(Clone, Copy)]
+struct Found {
+    /// whether the handle was durable before it stopped, and whether at the end
+    is_durable: (bool, bool),
+    /// whether one that nobody has was
+    of_nobody: bool,
+    /// the figures at the end
+    figures: Figures,
+}
 
 impl Worker<Option<Found>> for Looking {
     fn work<'a, D: Disk, C: Clock, R: Wait + time::Clock, H: Origin, N: Ledger>(
@@ -47,12 +54,11 @@ impl Worker<Option<Found>> for Looking {
             thread::sleep(rt, Duration::from_millis(1));
         }
         let of_nobody = client.is_durable(9);
-        Some((
-            before,
-            client.is_durable(ticket),
+        Some(Found {
+            is_durable: (before, client.is_durable(ticket)),
             of_nobody,
-            client.figures(),
-        ))
+            figures: client.figures(),
+        })
     }
 }
 
@@ -65,8 +71,9 @@ struct Row {
     calls: u64,
     /// how often the worker looks
     turns: u32,
-    /// what it finds
-    found: Found,
+    /// whether the handle is durable at the end, and the figures then
+    is_durable: bool,
+    figures: Figures,
 }
 
 static ROWS: [Row; 3] = [
@@ -75,32 +82,24 @@ static ROWS: [Row; 3] = [
         commits: Commits::Meanwhile,
         calls: 1000,
         turns: 10000,
-        found: (
-            false,
-            true,
-            false,
-            Figures {
-                stopped: 1,
-                settled: 1,
-                in_log: Some(3),
-            },
-        ),
+        is_durable: true,
+        figures: Figures {
+            stopped: 1,
+            settled: 1,
+            in_log: Some(3),
+        },
     },
     Row {
         name: "a handle is committed after the worker",
         commits: Commits::After,
         calls: 1000,
         turns: 50,
-        found: (
-            false,
-            false,
-            false,
-            Figures {
-                stopped: 1,
-                settled: 0,
-                in_log: Some(0),
-            },
-        ),
+        is_durable: false,
+        figures: Figures {
+            stopped: 1,
+            settled: 0,
+            in_log: Some(0),
+        },
     },
     // the journal is opened by 34 calls
     Row {
@@ -108,16 +107,12 @@ static ROWS: [Row; 3] = [
         commits: Commits::Meanwhile,
         calls: 34,
         turns: 500,
-        found: (
-            false,
-            false,
-            false,
-            Figures {
-                stopped: 1,
-                settled: 0,
-                in_log: None,
-            },
-        ),
+        is_durable: false,
+        figures: Figures {
+            stopped: 1,
+            settled: 0,
+            in_log: None,
+        },
     },
 ];
 
@@ -134,6 +129,41 @@ fn found_on<D: Disk + Drop + Send>(
     *ran.answers.first()?
 }
 
+/// Checks the figures that a worker found.
+fn check_figures(test: &impl Test, row: &Row, found: Figures) {
+    let Figures {
+        stopped,
+        settled,
+        in_log,
+    } = found;
+    let want = row.figures;
+    check_in(test, stopped == want.stopped, row.name, "stopped:", stopped);
+    check_in(test, settled == want.settled, row.name, "settled:", settled);
+    let blocks = u64::from(in_log.unwrap_or(u32::MAX));
+    check_in(
+        test,
+        in_log == want.in_log,
+        row.name,
+        "blocks of the log:",
+        blocks,
+    )
+}
+
+/// Checks what a worker found.
+fn check_found(test: &impl Test, row: &Row, found: Found) {
+    let (before, after) = found.is_durable;
+    check_in(test, !before, row.name, "durable before it stops", 0);
+    check_in(
+        test,
+        after == row.is_durable,
+        row.name,
+        "durable at the end",
+        0,
+    );
+    check_in(test, !found.of_nobody, row.name, "a ticket of nobody:", 9);
+    check_figures(test, row, found.figures)
+}
+
 /// Checks a run of a row.
 fn check_row(rt: &impl Host, row: &Row) {
     let test = By(rt, rt.alloc());
@@ -141,41 +171,8 @@ fn check_row(rt: &impl Host, row: &Row) {
     let mut options = by(1);
     options.commits = row.commits;
     let looking = Looking { turns: row.turns };
-    let (before, after, of_nobody, figures) = found_on(rt, disk, options, &looking).must(
-        &test, row.name,
-    );
-    let (was, is, is_nobody, want) = row.found;
-    check_in(&test, before == was, row.name, "durable before it stops", 0);
-    check_in(&test, after == is, row.name, "durable at the end", 0);
-    check_in(
-        &test,
-        of_nobody == is_nobody,
-        row.name,
-        "a ticket of nobody",
-        9,
-    );
-    check_in(
-        &test,
-        figures.stopped == want.stopped,
-        row.name,
-        "stopped:",
-        figures.stopped,
-    );
-    check_in(
-        &test,
-        figures.settled == want.settled,
-        row.name,
-        "settled:",
-        figures.settled,
-    );
-    let blocks = u64::from(figures.in_log.unwrap_or(u32::MAX));
-    check_in(
-        &test,
-        figures.in_log == want.in_log,
-        row.name,
-        "blocks of the log:",
-        blocks,
-    )
+    let found = found_on(rt, disk, options, &looking).must(&test, row.name);
+    check_found(&test, row, found)
 }
 
 fn check_rows(rt: &impl Host) {
