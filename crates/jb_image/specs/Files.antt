@@ -1,5 +1,5 @@
 -- An image in files as a disk.
-use Rattle.std.specs.Prelude.{◌≡◌, Some, true, false, length}
+use Rattle.std.specs.Prelude.{◌≡◌, true, false, length, Some}
 use Rattle.jb_block.specs.Size.{bytes_of}
 use Rattle.jb_disk.specs.File.{UnknownFile, IsHonest, IsOneCall, IsWellAsked, MayGoOn, FileLeaves, FileLeft, content_of}
 use Rattle.jb_disk.specs.File.{count_of, events_of, failure_of, faults_of, size_of_blocks}
