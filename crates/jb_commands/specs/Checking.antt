@@ -113,7 +113,7 @@ IsPeekedBy Unjudged size count c home bytes = IsCheckedPeek size count c home by
 
 -- a peek at the home is refused for this
 abbrev pub IsUnpeeked : Checksums → ℕ → ℕ → Image → ℕ → CheckedPeekFault → Type 0
-IsUnpeeked sums size count c home (DeviceFault failure) = ⊤
+IsUnpeeked sums size count c home DeviceFault = ⊤
 IsUnpeeked sums size count c home (Super fault) = unpeeked_for sums size count c home ≡ Some (Super fault)
 IsUnpeeked sums size count c home (BadChecksum what at) =
     unpeeked_for sums size count c home ≡ Some (BadChecksum what at)

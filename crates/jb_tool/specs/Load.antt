@@ -58,18 +58,18 @@ pub record AreOptionsOf (load : Loading) (options : LoadOptions) : Type 0 where
   pub hold : options.hold ≡ load.hold
   pub checkpoint : options.checkpoint ≡ load.checkpoint
 
--- what a fault of opening a journal is reported as
-abbrev pub open_fault : OpenFault → CommandFault
-open_fault opening.DeviceFault = DeviceFault None
-open_fault (opening.Super fault) = Super fault
-open_fault opening.NeedsRecovery = NeedsRecovery
-open_fault opening.NumbersSpent = NumbersSpent
-open_fault opening.Memory = Memory
+-- what a fault of opening a journal is reported as, whose disk tells this of its last failed call
+abbrev pub open_fault : Option Failure → OpenFault → CommandFault
+open_fault told opening.DeviceFault = DeviceFault told
+open_fault told (opening.Super fault) = Super fault
+open_fault told opening.NeedsRecovery = NeedsRecovery
+open_fault told opening.NumbersSpent = NumbersSpent
+open_fault told opening.Memory = Memory
 
 -- what a fault of a load is reported as
 abbrev pub load_fault : LoadFault → CommandFault
 load_fault loading.BlockSize = BlockSize
-load_fault (loading.Open fault) = open_fault fault
+load_fault (loading.Open fault told) = open_fault told fault
 load_fault loading.Memory = Memory
 load_fault loading.Accounts = Accounts
 

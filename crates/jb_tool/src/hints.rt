@@ -9,9 +9,9 @@ use jb_args::Hint;
 use jb_disk::Failure;
 use jb_journal::Ended;
 
-/// What a second line is about after a load into an image of this many home blocks, whose last call that failed was this
-/// one: the line of the handle that was refused, or of the committer, or of the checkpointer, whichever is the first.
-/// Of a handle that the commits have stopped it is their line.
+/// What a second line is about after a load into an image of this many home blocks, whose last call that failed was
+/// this one: the line of the handle that was refused, or of the committer, or of the checkpointer, whichever is the
+/// first. Of a handle that the commits have stopped it is their line.
 pub(crate) fn load_hint(loaded: &Loaded, homes: u64, failure: Option<Failure>) -> Option<Hint>
     ensures { result ≡ load_hinted failure homes loaded.now }
 {

@@ -72,7 +72,8 @@ fn tell_report<'a, O: Write, E: Write>(
     out: &mut O,
     err: &mut E,
 ) -> Result<ProgramEnd, CommandFault<'a>>
-    ensures tells { TellsLoadReport failure form report.now (record { out = O.contents out.old; err = E.contents err.old })
+    ensures tells { TellsLoadReport failure form report.now
+        (record { out = O.contents out.old; err = E.contents err.old })
         (record { out = O.contents out.new; err = E.contents err.new }) result }
 {
     match report {
@@ -91,11 +92,11 @@ pub(crate) fn fault_of<'a>(fault: LoadFault) -> CommandFault<'a>
 {
     match fault {
         LoadFault::BlockSize => CommandFault::BlockSize,
-        LoadFault::Open(OpenFault::DeviceFault) => CommandFault::DeviceFault(None),
-        LoadFault::Open(OpenFault::Super(fault)) => CommandFault::Super(fault),
-        LoadFault::Open(OpenFault::NeedsRecovery) => CommandFault::NeedsRecovery,
-        LoadFault::Open(OpenFault::NumbersSpent) => CommandFault::NumbersSpent,
-        LoadFault::Open(OpenFault::Memory) => CommandFault::Memory,
+        LoadFault::Open(OpenFault::DeviceFault, told) => CommandFault::DeviceFault(told),
+        LoadFault::Open(OpenFault::Super(fault), _) => CommandFault::Super(fault),
+        LoadFault::Open(OpenFault::NeedsRecovery, _) => CommandFault::NeedsRecovery,
+        LoadFault::Open(OpenFault::NumbersSpent, _) => CommandFault::NumbersSpent,
+        LoadFault::Open(OpenFault::Memory, _) => CommandFault::Memory,
         LoadFault::Memory => CommandFault::Memory,
         LoadFault::Accounts => CommandFault::Accounts,
     }

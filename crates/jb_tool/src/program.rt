@@ -31,7 +31,8 @@ pub struct Terminals {
 
 /// Runs the program with these words, its name left out, or with the reason for which the system has not handed them
 /// over, and gives its exit status: what was answered, and as much of the second line after it as the settings and a
-/// terminal ask for. The settings are those that were given, as the words change them; a command has the words that are left.
+/// terminal ask for. The settings are those that were given, as the words change them; a command has the words that are
+/// left.
 pub fn run_program<
     R: Files<File = File> + AllocGlobal + Threads + Wait + Clock + Sync,
     S: AsStr,

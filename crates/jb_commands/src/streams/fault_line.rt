@@ -137,14 +137,14 @@ fn put_fault<W: Write>(
 ///
 /// # Errors
 /// `WriteFault` where the writer took only the beginning of it.
-pub(crate) fn put_told<W: Write>(
+pub(crate) fn put_told<'b, W: Write>(
     writer: &mut W,
-    words: &str,
-    numbers: &[u64],
-    reason: &[&str],
-    file: Option<&str>,
-    hint: &[&str],
-    system: Option<ReasonParts<'_>>,
+    words: &'b str,
+    numbers: &'b [u64],
+    reason: &'b [&'b str],
+    file: Option<&'b str>,
+    hint: &'b [&'b str],
+    system: Option<ReasonParts<'b>>,
 ) -> Result<(), WriteFault>
     ensures puts { Puts (W.contents writer.old) (W.contents writer.new)
         (json_line (facts_with words.now numbers.now (spelled (map (λ part. part.now) reason.now))
