@@ -65,7 +65,7 @@ def unnamed(text, causes, is_advised):
             advice = UNMADE.get(cause, "")
         elif lines[0].startswith("jb: cannot read"):
             advice = UNREAD
-        elif lines[0].startswith("the image cannot be opened or made"):
+        elif "the image cannot be opened or made" in lines[0]:
             advice = ""
         return None if not is_advised or advice in text else "%s: it does not say %r: %r" % (cause, advice, text)
     return "it does not say %r: %r" % (CAUSES[causes[0]][1], text)
@@ -96,7 +96,7 @@ def failing(shim, program, room, number, cause, stays):
             told = says.read().splitlines()
     if not told or not told[-1].startswith("calls "):
         return answer, is_advised, None
-    return answer, is_advised, [(line.split(" ", 2)[0], line.split(" ", 2)[2]) for line in told[:-1]]
+    return answer, is_advised, [(line.split(" ", 2)[0], line.split(" ", 2)[2]) for line in told if not line.startswith("calls ")]
 
 
 def day(task):
