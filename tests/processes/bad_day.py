@@ -61,9 +61,9 @@ def unnamed(text, causes, is_advised):
         at = [n for n, line in enumerate(lines) if reason in line and not (line.startswith("jb:  ") and lines[n - 1].startswith("jb:  "))]
         if not at or not lines[0].startswith("jb: ") and at[0] > 1:
             continue
-        if lines[0].startswith("jb: cannot make"):
+        if lines[0].startswith(("jb: cannot make", '{"fault":"cannot make"')):
             advice = UNMADE.get(cause, "")
-        elif lines[0].startswith("jb: cannot read"):
+        elif lines[0].startswith(("jb: cannot read", '{"fault":"cannot read"')):
             advice = UNREAD
         elif "the image cannot be opened or made" in lines[0]:
             advice = ""

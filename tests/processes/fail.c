@@ -1,5 +1,5 @@
 /* Fails calls of a program on the files of the folder FAIL_UNDER: its reads, writes and syncs, which are counted from 1 on over all threads.
- * The call of number FAIL_CALL fails with the system's error FAIL_WITH; where that is 0 it moves half of its bytes. Where FAIL_STAYS is set each
+ * The call of number FAIL_CALL fails with the system's error FAIL_WITH; where that is 0 it moves half of its bytes, and at least one. Where FAIL_STAYS is set each
  * later call of the same kind fails so, too. A line on descriptor FAIL_TO names each call that failed and its file, and the last one says how
  * many calls there were. It is preloaded with LD_PRELOAD. */
 #define _GNU_SOURCE
@@ -84,7 +84,7 @@ static ssize_t moved(enum kind kind, int file, long call, const void *at, size_t
 			errno = error;
 			return -1;
 		}
-		count /= 2;
+		count -= count / 2;
 	}
 	return syscall(call, file, at, count, place);
 }
