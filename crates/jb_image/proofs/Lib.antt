@@ -2,6 +2,7 @@ pub mod Attached
 pub mod ExtentPlaces
 mod ImageCalls
 mod JoinedImages
+pub mod MakingFaults
 pub mod OpenedFile
 mod PairCalls
 mod PairKept

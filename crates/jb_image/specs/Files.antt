@@ -1,13 +1,13 @@
 -- An image in files as a disk.
-use Rattle.std.specs.Prelude.{true, false, length}
+use Rattle.std.specs.Prelude.{◌≡◌, true, false, length, Some}
 use Rattle.jb_block.specs.Size.{bytes_of}
 use Rattle.jb_disk.specs.File.{UnknownFile, IsHonest, IsOneCall, IsWellAsked, MayGoOn, FileLeaves, FileLeft, content_of}
-use Rattle.jb_disk.specs.File.{count_of, events_of, faults_of, size_of_blocks}
+use Rattle.jb_disk.specs.File.{count_of, events_of, failure_of, faults_of, size_of_blocks}
 use Rattle.jb_disk.specs.declared.disk.Disk.{Ghosts}
 use Rattle.jb_disk.specs.declared.file.FileDisk.{FileDisk}
 use Rattle.jb_disk.specs.declared.start.Start.{Ghosts as Starts}
 use Rattle.jb_image.specs.Images.{image_count, image_faults, image_moment, image_newest, image_size, IsHonestImage}
-use Rattle.jb_image.specs.Images.{IsImageWellAsked, MayImageGoOn, ImageCalled, ImageLeaves, ImageLeft}
+use Rattle.jb_image.specs.Images.{IsImageWellAsked, MayImageGoOn, ImageCalled, ImageLeaves, ImageLeft, ImageTells}
 use Rattle.jb_image.specs.declared.image.ImageDisk.{ImageDisk}
 
 -- what a file is as a disk
@@ -26,6 +26,7 @@ as_file = record {
   well_asked = IsWellAsked;
   own = IsOneCall;
   runs_as_calls = true;
+  tells = λ f failure. failure_of f ≡ Some failure;
 }
 
 -- what an image on disks of two kinds is: of the first kind the one with the home blocks
@@ -44,6 +45,7 @@ as_disks G H = record {
   well_asked = IsImageWellAsked G H;
   own = ImageCalled G H;
   runs_as_calls = false;
+  tells = ImageTells G H;
 }
 
 -- what an image in two files is, the one with the home blocks first; or in one of the first kind

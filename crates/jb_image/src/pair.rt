@@ -1,4 +1,4 @@
-ghost use Rattle.std.specs.Prelude.{◌≡◌, ◌≢◌, ◌++◌, false, [], length};
+ghost use Rattle.std.specs.Prelude.{◌≡◌, ◌≢◌, ◌⊎◌, ◌++◌, false, [], length};
 ghost use Rattle.jb_disk.specs.Faults.{counted};
 ghost use Rattle.jb_image.specs.Pair.{PairCalled, joined_count, past_states};
 
