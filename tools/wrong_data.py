@@ -28,14 +28,20 @@ class Function:
         return re.findall(r"^ *ensures (?:(\w+) )?\{", self.head, re.M)
 
     def module(self):
-        """The modules that it stands in, from the crate's root on."""
-        return module_of(self.file).split("::")[:-1]
+        """The modules that it stands in, from the crate's root on: of a method those of its type, wherever its `impl` is."""
+        crate, owner = self.file.split("/")[1], self.name.rpartition("::")[0]
+        found = (f"crates/{crate}/{file}" for file in files(crate, "src", ".rt") if owner and is_declared(owner, crate, file))
+        return module_of(next(found, self.file)).split("::")[:-1]
 
 
 def functions_of(file):
     text = text_of(file)
     for at, _, owner, name, head in placed_signatures(text):
         yield Function(file, text, at, owner, name, head)
+
+
+def is_declared(name, crate, file):
+    return re.search(r"^(?:pub(?:\(\w+\))? )?(?:struct|enum|union|trait) %s\b" % name, text_of("crates", crate, file), re.M)
 
 
 def function_at(file, old):
