@@ -8,10 +8,10 @@ use Rattle.jb_disk.specs.Events.{SystemCall, Asked, Gave, Flushed, Measured, InB
 use Rattle.jb_disk.specs.Faults.{CountsFault, CountsOne, most_faults}
 use Rattle.jb_disk.specs.Kept.{IsDiskKept, OnlyReads}
 use Rattle.jb_disk.specs.RecordLaws.{torn_of_wrote, newest_left}
-use Rattle.jb_disk.specs.Failures.{TellsCall, call_of, told_by}
+use Rattle.jb_disk.specs.Failures.{TellsCall, call_of, told_after}
 use Rattle.jb_disk.specs.OneCall.{Called}
 use Rattle.jb_disk.specs.declared.failure.Failure.{Failure}
-use Rattle.jb_disk.specs.declared.failure.Reason.{Reason}
+use Rattle.jb_disk.specs.declared.failure.FailureReason.{FailureReason}
 use Rattle.jb_disk.specs.declared.fault.Fault.{Fault}
 use Rattle.jb_disk.proofs.RunWrites.{wrote_run-more, wrote_run-none, wrote_run-one}
 
@@ -156,13 +156,13 @@ module _ (size count : ℕ) (content : ℕ → Image) (older events : List Syste
 
 -- ---- what is told of a call
 
-module _ (answer : Result Unit Reason) (ok : Bool) (old new : Option Failure) (same : ok ≡ is_ok answer) where
+module _ (answer : Result Unit FailureReason) (ok : Bool) (old new : Option Failure) (same : ok ≡ is_ok answer) where
   -- of calls of which the first was made with this answer
-  pub tells_run : (call : ℕ → Called) (k : ℕ) → new ≡ told_by (call_of (call 0)) answer old → (ok ≡ false → k ≡ 0)
+  pub tells_run : (call : ℕ → Called) (k : ℕ) → new ≡ told_after (call_of (call 0)) answer old → (ok ≡ false → k ≡ 0)
       → TellsCall (call k) ok old new
   tells_run call k is first = tells-by answer ok same is first
     where
-      tells-by : (answer : Result Unit Reason) (ok : Bool) → ok ≡ is_ok answer → new ≡ told_by (call_of (call 0)) answer old
+      tells-by : (answer : Result Unit FailureReason) (ok : Bool) → ok ≡ is_ok answer → new ≡ told_after (call_of (call 0)) answer old
           → (ok ≡ false → k ≡ 0) → TellsCall (call k) ok old new
       tells-by (Ok tt) true same is first = is
       tells-by (Ok tt) false same is first = absurd (let h : ⊥ = cc in h)
@@ -171,5 +171,5 @@ module _ (answer : Result Unit Reason) (ok : Bool) (old new : Option Failure) (s
           (reason, subst (λ j. new ≡ Some (record { call = call_of (call j); reason = reason })) (sym (first refl)) is)
 
   -- of a call that was made with this answer
-  pub tells : (call : Called) → new ≡ told_by (call_of call) answer old → TellsCall call ok old new
+  pub tells : (call : Called) → new ≡ told_after (call_of call) answer old → TellsCall call ok old new
   tells call is = tells_run (λ _. call) 0 is (λ _. refl)

@@ -19,17 +19,17 @@ impl SystemFault {
     }
 
     /// What to look at first.
-    pub fn cause(&self) -> Cause {
+    pub fn cause(&self) -> FailureCause {
         let Some(code) = self.code else {
-            return Cause::Other;
+            return FailureCause::Other;
         };
         match io::Error::from_raw_os_error(code).kind() {
-            ErrorKind::StorageFull => Cause::NoSpace,
-            ErrorKind::QuotaExceeded => Cause::Quota,
-            ErrorKind::FileTooLarge => Cause::TooBig,
-            ErrorKind::PermissionDenied | ErrorKind::ReadOnlyFilesystem => Cause::Permission,
-            _ if code == EIO => Cause::Io,
-            _ => Cause::Other,
+            ErrorKind::StorageFull => FailureCause::NoSpace,
+            ErrorKind::QuotaExceeded => FailureCause::Quota,
+            ErrorKind::FileTooLarge => FailureCause::TooBig,
+            ErrorKind::PermissionDenied | ErrorKind::ReadOnlyFilesystem => FailureCause::Permission,
+            _ if code == EIO => FailureCause::Io,
+            _ => FailureCause::Other,
         }
     }
 }
@@ -69,7 +69,7 @@ impl fmt::Display for FailedCall {
 
 /// Why a call of a disk failed.
 #[derive(Clone, Copy, Debug, PartialEq, Eq)]
-pub enum Reason {
+pub enum FailureReason {
     /// The system refused it.
     System(SystemFault),
     /// It moved fewer bytes than were asked for: a read at the end of a file that has become shorter, or a write for
@@ -77,18 +77,18 @@ pub enum Reason {
     Short,
 }
 
-impl fmt::Display for Reason {
+impl fmt::Display for FailureReason {
     fn fmt<W: fmt::Write>(&self, f: &mut fmt::Formatter<W>) -> fmt::Result {
         match self {
-            Reason::System(fault) => fault.fmt(f),
-            Reason::Short => write!(f, "fewer bytes were moved than asked for"),
+            FailureReason::System(fault) => fault.fmt(f),
+            FailureReason::Short => write!(f, "fewer bytes were moved than asked for"),
         }
     }
 }
 
 /// What a call failed for, as far as one does something of its own about it.
 #[derive(Clone, Copy, Debug, PartialEq, Eq)]
-pub enum Cause {
+pub enum FailureCause {
     /// The file system has no room (`ENOSPC`).
     NoSpace,
     /// A quota has none (`EDQUOT`).
@@ -107,20 +107,20 @@ pub enum Cause {
     Other,
 }
 
-impl Cause {
+impl FailureCause {
     /// What to do about it, before the program is started anew.
     pub fn advice(self) -> &'static str {
         match self {
-            Cause::NoSpace => "make room on its file system",
-            Cause::Quota => "make room within its quota, or have it raised",
-            Cause::TooBig => "have the limit of a file's size raised (ulimit -f)",
-            Cause::Io =>
+            FailureCause::NoSpace => "make room on its file system",
+            FailureCause::Quota => "make room within its quota, or have it raised",
+            FailureCause::TooBig => "have the limit of a file's size raised (ulimit -f)",
+            FailureCause::Io =>
                 "look at the system's log, and copy the image to another device if this one fails",
-            Cause::Permission =>
+            FailureCause::Permission =>
                 "see to its permission, and to whether its file system may be written",
-            Cause::Shorter => "the file is shorter than it was: put back a copy of it",
-            Cause::Cut => "make room on its file system or within its quota",
-            Cause::Other => "look at the system's log",
+            FailureCause::Shorter => "the file is shorter than it was: put back a copy of it",
+            FailureCause::Cut => "make room on its file system or within its quota",
+            FailureCause::Other => "look at the system's log",
         }
     }
 }
@@ -131,16 +131,16 @@ pub struct Failure {
     /// Which call it was. Its place is one of the disk that made the call of the system: a block of its file.
     pub call: FailedCall,
     /// Why it failed.
-    pub reason: Reason,
+    pub reason: FailureReason,
 }
 
 impl Failure {
     /// What it failed for.
-    pub fn cause(&self) -> Cause {
+    pub fn cause(&self) -> FailureCause {
         match (self.reason, self.call) {
-            (Reason::System(fault), _) => fault.cause(),
-            (Reason::Short, FailedCall::Read(_)) => Cause::Shorter,
-            (Reason::Short, _) => Cause::Cut,
+            (FailureReason::System(fault), _) => fault.cause(),
+            (FailureReason::Short, FailedCall::Read(_)) => FailureCause::Shorter,
+            (FailureReason::Short, _) => FailureCause::Cut,
         }
     }
 }

@@ -1,12 +1,12 @@
 //! A file of the operating system as a disk.
 ghost use Rattle.std.specs.Prelude.{◌≡◌, ◌<◌, ◌*◌, ◌/◌, ◌^◌, [], ◌∷◌, length, is_ok, IfOk, None, Some};
 ghost use Rattle.jb_block.specs.Size.{bytes_of};
-ghost use Rattle.jb_disk.specs.Failures.{told_by};
+ghost use Rattle.jb_disk.specs.Failures.{told_after};
 ghost use Rattle.jb_disk.specs.Faults.{CountsFault, CountsOne};
 ghost use Rattle.jb_disk.specs.Lives.{bytes_are_block_size};
 
 use crate::host::Host;
-use crate::{Disk, FailedCall, Failure, Fault, Reason, Start, Unknown};
+use crate::{Disk, FailedCall, Failure, FailureReason, Fault, Start, Unknown};
 use jb_block::BlockSize;
 use std::fs::File;
 use std::marker::PhantomData;
@@ -83,8 +83,8 @@ impl<S: Start> FileDisk<S> {
 /// It is an honest disk where its answers so far are those of an honest file that held what `S` says. The record of
 /// its calls has them, for clauses alone: no code can know it.
 impl<S: Start> Disk for FileDisk<S> {
-    ghost use Rattle.jb_disk.specs.File.{IsHonest, content_of, failure_of, FileLeaves, FileLeft, IsOneCall, IsWellAsked};
-    ghost use Rattle.jb_disk.specs.File.{MayGoOn};
+    ghost use Rattle.jb_disk.specs.File.{IsHonest, content_of, failure_of, FileLeaves, FileLeft, IsOneCall};
+    ghost use Rattle.jb_disk.specs.File.{IsWellAsked, MayGoOn};
     ghost use Rattle.jb_disk.specs.RecordLaws.{newest_left, left_shape, from_shape, left_from_now, left_from_only};
 
     ghost size = { λ f. bytes_of f.size };
@@ -209,7 +209,7 @@ fn whole_blocks(len: u64, size: BlockSize) -> u64
 
 /// Counts a fault where the call did not succeed, and keeps why.
 fn settle(
-    answer: Result<(), Reason>,
+    answer: Result<(), FailureReason>,
     call: FailedCall,
     faults: &mut u64,
     failed: &mut Option<Failure>,
@@ -217,7 +217,7 @@ fn settle(
     ensures variant { is_ok result ≡ is_ok answer }
     ensures faults { CountsFault result faults.old faults.new }
     ensures one { CountsOne (is_ok answer) faults.old faults.new }
-    ensures told { failed.new ≡ told_by call answer failed.old }
+    ensures told { failed.new ≡ told_after call answer failed.old }
 {
     let Err(reason) = answer else {
         return Ok(());

@@ -4,7 +4,7 @@ ghost use Rattle.jb_disk.specs.Events.{Asked, Gave, Flushed, Measured};
 ghost use Rattle.jb_disk.specs.Failures.{moved, system_reason};
 
 use crate::record::Record;
-use crate::{Reason, SystemFault};
+use crate::{FailureReason, SystemFault};
 use std::fs::File;
 use std::io;
 use std::io::{Seek, SeekFrom};
@@ -40,7 +40,7 @@ impl Host {
     ///
     /// # Errors
     /// Why it was not filled: the system's reason, or there were fewer bytes.
-    pub(crate) fn read_at(&mut self, at: u64, buf: &mut [u8]) -> Result<(), Reason>
+    pub(crate) fn read_at(&mut self, at: u64, buf: &mut [u8]) -> Result<(), FailureReason>
         ensures { self.new.log.events ≡ Asked at (is_ok result) buf.new ∷ self.old.log.events }
     {
         let len = buf.len();
@@ -53,7 +53,7 @@ impl Host {
     ///
     /// # Errors
     /// Why not all of them were written: the system's reason, or it took a part.
-    pub(crate) fn write_at(&mut self, at: u64, bytes: &[u8]) -> Result<(), Reason>
+    pub(crate) fn write_at(&mut self, at: u64, bytes: &[u8]) -> Result<(), FailureReason>
         ensures { self.new.log.events ≡ Gave at (is_ok result) bytes.now ∷ self.old.log.events }
     {
         let answer = whole(self.file.write_at(bytes, at), bytes.len());
@@ -65,7 +65,7 @@ impl Host {
     ///
     /// # Errors
     /// The system's reason.
-    pub(crate) fn sync(&mut self) -> Result<(), Reason>
+    pub(crate) fn sync(&mut self) -> Result<(), FailureReason>
         ensures { self.new.log.events ≡ Flushed (is_ok result) ∷ self.old.log.events }
     {
         let answer = match self.file.sync_data() {
@@ -78,27 +78,27 @@ impl Host {
 }
 
 /// Whether a call moved this many bytes, and no fewer, and if it did not why.
-fn whole(answer: io::Result<usize>, len: usize) -> Result<(), Reason>
+fn whole(answer: io::Result<usize>, len: usize) -> Result<(), FailureReason>
     ensures { result ≡ moved answer len }
 {
     match answer {
         Ok(moved) if moved == len => Ok(()),
-        Ok(_) => Err(Reason::Short),
+        Ok(_) => Err(FailureReason::Short),
         Err(error) => Err(reason_of(error)),
     }
 }
 
 /// The reason of a call that the system refused.
-fn reason_of(error: io::Error) -> Reason
+fn reason_of(error: io::Error) -> FailureReason
     ensures { result ≡ system_reason error }
 {
-    Reason::System(SystemFault {
+    FailureReason::System(SystemFault {
         code: error.raw_os_error(),
     })
 }
 
 /// 1 for success.
-fn as_number(answer: &Result<(), Reason>) -> u64
+fn as_number(answer: &Result<(), FailureReason>) -> u64
     ensures { (result == 1) ≡ is_ok answer.now }
 {
     if answer.is_ok() { 1 } else { 0 }

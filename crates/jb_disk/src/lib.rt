@@ -20,7 +20,7 @@ mod write_behind;
 
 pub use clock::{Clock, FixedClock};
 pub use disk::Disk;
-pub use failure::{Cause, FailedCall, Failure, Reason, SystemFault};
+pub use failure::{FailedCall, Failure, FailureCause, FailureReason, SystemFault};
 pub use fault::Fault;
 pub use file::FileDisk;
 pub use fuse::FuseDisk;

@@ -1,12 +1,14 @@
 -- When numbers make an image, and what its making does to its file.
 use Rattle.std.specs.Prelude.{◌≡◌, ◌+◌, ◌*◌, ◌^◌, ◌<◌, ◌≤◌, ℕ, Bool, true, false, List, Result, Ok, Err, OnOk, set}
+use Rattle.std.specs.Prelude.{Option, None, Some}
 use Rattle.jb_block.specs.Size.{bytes_of}
 use Rattle.jb_block.specs.Width.{is_wide}
-use Rattle.jb_disk.specs.File.{IsMeasured, count_of, size_of_blocks}
+use Rattle.jb_disk.specs.File.{IsMeasured, count_of, failure_of, size_of_blocks}
 use Rattle.jb_disk.specs.Image.{Only, Torn}
 use Rattle.jb_disk.specs.KeptOn.{KeptOn}
 use Rattle.jb_disk.specs.Steps.{Steps}
 use Rattle.jb_disk.specs.declared.disk.Disk.{Ghosts as Disks}
+use Rattle.jb_disk.specs.declared.failure.Failure.{Failure}
 use Rattle.jb_disk.specs.declared.file.FileDisk.{FileDisk}
 use Rattle.jb_disk.specs.declared.start.Start.{Ghosts as Starts}
 use Rattle.jb_image.specs.Files.{as_file}
@@ -15,6 +17,8 @@ use Rattle.jb_format.specs.declared.fault.FormatFault.{FormatFault}
 use Rattle.jb_format.specs.declared.fault.FormatFault.TheVariants.{DeviceFault}
 use Rattle.jb_image.specs.declared.allocation.Allocation.{Allocation}
 use Rattle.jb_image.specs.declared.allocation.Allocation.TheVariants.{Sparse, Whole}
+use Rattle.jb_image.specs.declared.fault.MakeFault.{MakeFault}
+use Rattle.jb_image.specs.declared.fault.MakeFault.TheVariants.{Device, DeviceFault as DeviceUntold}
 use Rattle.jb_image.specs.declared.image_geometry.ImageGeometry.{ImageGeometry}
 
 -- the journal has as many blocks as one may have, the image a length that a file may have, and each home block a number
@@ -24,6 +28,11 @@ pub record MakesImage (g : ImageGeometry) : Type 0 where
   pub most : g.journal < 2 ^ 31
   pub len : (g.journal + g.homes) * bytes_of g.block_size < 2 ^ 63
   pub numbers : is_wide g.width ≡ false → g.homes ≤ 2 ^ 32
+
+-- the fault of a disk that tells this of its last failed call
+abbrev pub device_fault_of : Option Failure → MakeFault
+device_fault_of None = DeviceUntold
+device_fault_of (Some failure) = Device failure
 
 -- its blocks get no room before they are first written
 abbrev pub is_sparse : Allocation → Bool
@@ -62,3 +71,8 @@ module _ {S : Type 0} (start : Starts S) where
   -- a call of a file failed while a journal was made in it
   abbrev pub MakingFailed : ImageGeometry → Type 0
   MakingFailed g = (old new : FileDisk S start) × IsFormatted g old new (Err DeviceFault)
+
+  -- the same, and the file tells that this call failed
+  abbrev pub MakingTold : ImageGeometry → Failure → Type 0
+  MakingTold g failure =
+      (old new : FileDisk S start) × IsFormatted g old new (Err DeviceFault) × (failure_of new ≡ Some failure)

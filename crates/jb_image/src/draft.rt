@@ -31,7 +31,8 @@ pub(crate) struct Draft<'a> {
 
 impl<'a> Draft<'a> {
     ghost use Rattle.std.specs.Prelude.{◌≡◌, IfErr};
-    ghost use Rattle.jb_image.specs.declared.fault.MakeFault.TheVariants.{DeviceFault, Geometry as NoGeometry};
+    ghost use Rattle.jb_image.specs.declared.fault.MakeFault.TheVariants.{Device, DeviceFault, Geometry as NoGeometry};
+    ghost use Rattle.jb_disk.specs.declared.failure.Failure.{Failure};
 
     /// A new file that is to get this name, with its first handle. It is empty.
     ///
@@ -42,7 +43,8 @@ impl<'a> Draft<'a> {
         rt: &R,
         name: &'a str,
     ) -> Result<Draft<'a>, MakeFault>
-        ensures only { IfErr result (λ fault. (fault ≡ NoGeometry → ⊥) × (fault ≡ DeviceFault → ⊥)) }
+        ensures only { IfErr result (λ fault. (fault ≡ NoGeometry → ⊥) × (fault ≡ DeviceFault → ⊥)
+            × ((failure : Failure) → fault ≡ Device failure → ⊥)) }
     {
         if is_there(rt, name)? {
             return Err(MakeFault::Exists);
@@ -76,7 +78,8 @@ impl<'a> Draft<'a> {
     /// `Exists` where there is a file of the name; `NoLinks` where the file system has no links; `Image` with `System`
     /// where the system refuses a call. The name is not given then.
     pub fn publish<R: Files>(&self, rt: &R) -> Result<(), MakeFault>
-        ensures only { IfErr result (λ fault. (fault ≡ NoGeometry → ⊥) × (fault ≡ DeviceFault → ⊥)) }
+        ensures only { IfErr result (λ fault. (fault ≡ NoGeometry → ⊥) × (fault ≡ DeviceFault → ⊥)
+            × ((failure : Failure) → fault ≡ Device failure → ⊥)) }
     {
         match fs::hard_link(rt, self.draft.as_str(), self.name) {
             Ok(()) => {}

@@ -1,5 +1,5 @@
 //! Why an image is not opened, or not made.
-use jb_disk::SystemFault;
+use jb_disk::{Failure, SystemFault};
 use std::alloc::AllocError;
 use std::io;
 use std::io::ErrorKind;
@@ -66,9 +66,12 @@ pub enum MakeFault {
     /// A file was not opened, made or named.
     #[error(transparent)]
     Image(ImageFault),
-    /// A call of the disk failed.
+    /// A call of the disk failed, for a reason that is not told.
     #[error("the disk failed; make the image again")]
     DeviceFault,
+    /// This call of the disk failed.
+    #[error("{0}; {advice}, and make the image again", advice = .0.cause().advice())]
+    Device(Failure),
 }
 
 impl From<ImageFault> for MakeFault {

@@ -3,15 +3,16 @@ ghost use Rattle.std.specs.Prelude.{◌≡◌, ◌↔◌, ◌+◌, ◌*◌, IfOk
 ghost use Rattle.jb_block.specs.Size.{bytes_of};
 ghost use Rattle.jb_disk.specs.File.{IsMeasured, count_of, size_of_blocks};
 ghost use Rattle.jb_disk.specs.contracts.start.UnknownStart.TheImpl.{ghosts as unknown};
-ghost use Rattle.jb_image.specs.Create.{MakingFailed, MakesImage, WasMade};
-ghost use Rattle.jb_image.specs.declared.fault.MakeFault.TheVariants.{DeviceFault, Geometry as NoGeometry};
+ghost use Rattle.jb_image.specs.Create.{MakingFailed, MakingTold, MakesImage, WasMade, device_fault_of};
+ghost use Rattle.jb_disk.specs.declared.failure.Failure.{Failure};
+ghost use Rattle.jb_image.specs.declared.fault.MakeFault.TheVariants.{Device, DeviceFault, Geometry as NoGeometry};
 
 use crate::allocation::{Allocation, write_zeros};
 use crate::draft::Draft;
 use crate::fault::{ImageFault, MakeFault};
 use crate::image_geometry::ImageGeometry;
 use jb_block::BlockSize;
-use jb_disk::{Disk, FileDisk, Start, SystemFault};
+use jb_disk::{Disk, Failure, FileDisk, Start, SystemFault};
 use jb_format::{FormatFault, format};
 use std::fs::File;
 use std::rt::Files;
@@ -26,7 +27,7 @@ use std::rt::Files;
 /// In this order: `Geometry` where a journal may not have this many blocks, a file this many bytes, or the last home
 /// blocks would have no number, before any file is looked at; `Exists` where there is a file of this name; `Image` with
 /// `InUse` where another process makes one, and with `System` or `Memory` where the system refuses a call or memory ran
-/// out; `DeviceFault` where the journal was not written; `Exists` where a file has come by the name meanwhile, and
+/// out; `Device` where the journal was not written; `Exists` where a file has come by the name meanwhile, and
 /// `NoLinks` where the file system has no links. There is no new file of this name then. `System` has the
 /// number `EEXIST` where any other file has the other name, which stays as it is, `ENAMETOOLONG` where that name is too
 /// long (where the file system takes 255 bytes, this one may have 241), and `ENOSPC`, `EDQUOT` or `EFBIG` where the
@@ -42,6 +43,7 @@ pub fn create_image<R: Files<File = File> + AllocGlobal>(
     /// With `failed`: What `create_holding` does, of a file of which nothing is supposed.
     ensures made { IfOk result (WasMade geometry) }
     ensures failed { result ≡ Err DeviceFault → MakingFailed unknown geometry }
+    ensures told { (failure : Failure) → result ≡ Err (Device failure) → MakingTold unknown geometry failure }
 {
     create_holding(rt, name, geometry)
 }
@@ -62,6 +64,7 @@ pub fn create_holding<S: Start, R: Files<File = File> + AllocGlobal>(
     /// see](docs/WRONG_BODIES.md#readers-writers-and-files).
     ensures made { IfOk result (WasMade geometry) }
     ensures failed { result ≡ Err DeviceFault → MakingFailed S.Start geometry }
+    ensures told { (failure : Failure) → result ≡ Err (Device failure) → MakingTold S.Start geometry failure }
 {
     let Some(len) = geometry.len() else {
         return Err(MakeFault::Geometry);
@@ -81,6 +84,7 @@ fn make<S: Start, R: Files<File = File> + AllocGlobal>(
     ensures never { result ≡ Err NoGeometry → ⊥ }
     ensures made { IfOk result (WasMade geometry) }
     ensures failed { result ≡ Err DeviceFault → MakingFailed S.Start geometry }
+    ensures told { (failure : Failure) → result ≡ Err (Device failure) → MakingTold S.Start geometry failure }
 {
     let draft = match Draft::begin(rt, name) {
         Ok(draft) => draft,
@@ -105,7 +109,7 @@ fn make<S: Start, R: Files<File = File> + AllocGlobal>(
 /// Gives the file of a draft its length, and formats a journal at its front.
 ///
 /// # Errors
-/// `Image` with `System` where the system refuses a call; `DeviceFault` where the journal was not written.
+/// `Image` with `System` where the system refuses a call; `Device` where the journal was not written.
 fn fill<S: Start>(
     draft: &Draft<'_>,
     len: u64,
@@ -116,6 +120,7 @@ fn fill<S: Start>(
     ensures never { result ≡ Err NoGeometry → ⊥ }
     ensures made { IfOk result (WasMade geometry) }
     ensures failed { result ≡ Err DeviceFault → MakingFailed S.Start geometry }
+    ensures told { (failure : Failure) → result ≡ Err (Device failure) → MakingTold S.Start geometry failure }
 {
     let mut disk = disk_of(draft.handle()?, len, geometry)?;
     let ImageGeometry {
@@ -127,8 +132,18 @@ fn fill<S: Start>(
     } = geometry;
     match format(&mut disk, journal, max_transaction, uuid, width) {
         Ok(()) => Ok(disk),
-        Err(FormatFault::DeviceFault) => Err(MakeFault::DeviceFault),
+        Err(FormatFault::DeviceFault) => Err(device_fault(disk.failure())),
         Err(FormatFault::Geometry) => Err(MakeFault::Geometry),
+    }
+}
+
+/// The fault of a disk that tells this of its last failed call.
+fn device_fault(told: Option<Failure>) -> MakeFault
+    ensures { result ≡ device_fault_of told }
+{
+    match told {
+        Some(failure) => MakeFault::Device(failure),
+        None => MakeFault::DeviceFault,
     }
 }
 

@@ -28,7 +28,7 @@ pub use asking::{ask_file, run_in_file};
 pub use closed::commit_and_close;
 pub use cut_run::run_until;
 pub use cut_short::{commit_until, recover_until};
-pub use lives::{Failure, Life, Lived, run_lives};
+pub use lives::{Life, Lived, PowerFailure, run_lives};
 pub use recovering::recover_file;
 pub use reuse::reuse_home;
 pub use telling::{Found, TellingWorkers};

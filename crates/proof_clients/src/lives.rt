@@ -22,7 +22,7 @@ use std::alloc::Global;
 /// A power failure: it comes after this many calls of the disk, and the choice says which version is left of each
 /// sector that was written since the last sync ([`MemoryDisk::crash`]).
 #[derive(Drop)]
-pub struct Failure {
+pub struct PowerFailure {
     pub calls: u64,
     pub choice: Vec<u32>,
 }
@@ -35,8 +35,8 @@ pub struct Life {
     pub handles: Vec<Stopped>,
     pub stamp: Stamp,
     pub checkpoint: bool,
-    pub end: Failure,
-    pub again: Failure,
+    pub end: PowerFailure,
+    pub again: PowerFailure,
 }
 
 /// A journal after its lives: its disk, and of each life whether its handles were reported as committed.

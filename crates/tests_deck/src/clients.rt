@@ -11,7 +11,7 @@ use jb_deck::{Deck, Prepared, laws};
 use jb_disk::{Disk, MemoryDisk};
 use jb_handle::Shape;
 use proof_clients::{
-    Failure, Life, Lived, ask_file, commit_and_close, commit_three, reuse_home, run_lives,
+    Life, Lived, PowerFailure, ask_file, commit_and_close, commit_three, reuse_home, run_lives,
 };
 use std::alloc::Global;
 use std::fs;
@@ -194,12 +194,12 @@ static LIVES: [LivesRow; 14] = [
 const SECTORS: usize = 66;
 
 /// A power failure after this many calls, with this version of each sector that was not synced.
-fn failure(test: &impl Bench, calls: u64, version: u32) -> Failure {
+fn failure(test: &impl Bench, calls: u64, version: u32) -> PowerFailure {
     let mut choice = Vec::new(test.alloc());
     for _ in 0..SECTORS {
         choice.push(version).must(test, "memory");
     }
-    Failure { calls, choice }
+    PowerFailure { calls, choice }
 }
 
 /// A further life, by its row, with the handles of these lines.

@@ -56,7 +56,9 @@ fn check_unread(test: &impl Test, alloc: Global) {
 /// Checks what is said of a queue that is none.
 fn check_no_queue(test: &impl Test, alloc: Global) {
     let fault = read_queue(alloc, b"bs 1024\nlimit 6\nh x\n").err();
-    let answer = fault_answer(alloc, AnswerForm::Text, fault.must(test, "a queue")).must(test, "memory");
+    let answer = fault_answer(alloc, AnswerForm::Text, fault.must(test, "a queue")).must(
+        test, "memory",
+    );
     let told = (2, "", "jb: queue line 3: OpWord\n");
     check_told(test, &answer, told, "what is said of queue", 0)
 }

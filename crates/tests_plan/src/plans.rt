@@ -196,7 +196,9 @@ fn check_batch(test: &impl Test, alloc: Global, queue: QueueText, cert: &Cert, r
 
 /// Checks what `jb plan` says of a queue that has this certificate.
 fn check_plan_told(test: &impl Test, alloc: Global, queue: &str, cert: &str, row: u64) {
-    let answer = plan_answer(alloc, AnswerForm::Text, bytes_of(test, queue.as_bytes())).must(test, "memory");
+    let answer = plan_answer(alloc, AnswerForm::Text, bytes_of(test, queue.as_bytes())).must(
+        test, "memory",
+    );
     let told = (u8::from(cert.ends_with("none\n")), cert, "");
     check_told(test, &answer, told, "what is said of row", row)
 }

@@ -109,7 +109,7 @@ fn unmade<'a>(name: &'a str, fault: MakeFault) -> CommandFault<'a>
 {
     match fault {
         MakeFault::Geometry => unreachable!(),
-        MakeFault::DeviceFault => CommandFault::DeviceFault,
+        MakeFault::DeviceFault | MakeFault::Device(_) => CommandFault::DeviceFault,
         MakeFault::Exists => CommandFault::CannotMake(name, Some(EXISTS)),
         MakeFault::NoLinks => CommandFault::NoLinks(name),
         MakeFault::Image(fault) => unnamed(name, fault),

@@ -3,8 +3,3 @@ use Rattle.jb_image.proofs.making.fill.Goals as goal
 
 pub returns-in-Ok-clause-made : goal.returns-in-Ok-clause-made
 returns-in-Ok-clause-made g c = (c.in_ok-disk.disk, search rules)
-
-pub returns-in-Err-DeviceFault-clause-failed : goal.returns-in-Err-DeviceFault-clause-failed
-returns-in-Err-DeviceFault-clause-failed g c is =
-    let kept = rw c.in-Err-DeviceFault.field-0-is at c.in-Err-DeviceFault.ensures.kept in
-    (c.in_ok-disk.disk, c.format.new.disk, search (rules, kept))

@@ -3,7 +3,7 @@ use Rattle.jb_block.specs.Size.{bytes_of}
 use Rattle.jb_disk.specs.RecordLaws.{left_from_only}
 use Rattle.jb_disk.specs.OneCall.{Writes}
 use Rattle.jb_disk.specs.Events.{NotesAtMost, Leaves, LeftFrom, Gave}
-use Rattle.jb_disk.specs.Failures.{told_by}
+use Rattle.jb_disk.specs.Failures.{told_after}
 use Rattle.jb_disk.specs.declared.failure.FailedCall.TheVariants.{Write}
 use Rattle.jb_disk.specs.Faults.{CountsOne}
 use Rattle.jb_disk.specs.File.{IsOneCall, count_of, events_of, faults_of, size_of_blocks}
@@ -42,7 +42,7 @@ returns-clause-own g c = λ _.
     let noted : NotesAtMost Gave (is_ok c.settle.result) old.host.log.events c.write_at-answer.new.self.log.events
     = subst (λ ok. NotesAtMost Gave ok old.host.log.events c.write_at-answer.new.self.log.events) (sym c.settle.ensures.variant)
     (inl (c.offset_of-at.result, c.args.bytes.now, c.write_at-answer.ensures)) in
-    let told = subst (λ p. c.settle.new.failed ≡ told_by (Write p) c.write_at-answer.result old.failed) (sym (add-zero c.args.place)) c.settle.ensures.told in
+    let told = subst (λ p. c.settle.new.failed ≡ told_after (Write p) c.write_at-answer.result old.failed) (sym (add-zero c.args.place)) c.settle.ensures.told in
     made-once IsOneCall (λ k. Writes (c.args.place + k) (part (bytes_of old.size) k c.args.bytes.now)) c.args._blocks old _ (is_ok c.settle.result) c.requires.run.some
     (λ k. record { counted = refl; noted = inr (refl, refl); told = refl }) (λ k first. record { counted = counted; noted = noted; told = tells_run c.write_at-answer.result _ _ _ c.settle.ensures.variant (λ k. Writes (c.args.place + k) (part (bytes_of old.size) k c.args.bytes.now)) k told first })
 
