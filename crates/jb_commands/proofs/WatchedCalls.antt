@@ -34,6 +34,7 @@ as_watched G = record {
   well_asked = λ w. G.well_asked (watched w);
   own = λ _ _ _ _. Unit {0};
   runs_as_calls = false;
+  tells = λ w. G.tells (watched w);
 }
 
 module _ {D K : Type 0} (G : Disks D) where

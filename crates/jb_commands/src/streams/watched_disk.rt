@@ -1,6 +1,6 @@
 use crate::progress::ShownProgress;
 use jb_block::BlockSize;
-use jb_disk::{Disk, Fault};
+use jb_disk::{Disk, Failure, Fault};
 use std::time::Clock;
 
 /// A disk that passes all calls on to another, and shows on a terminal how far they have come.
@@ -64,6 +64,8 @@ impl<'a, D: Disk, K: Clock> Disk for WatchedDisk<'a, D, K> {
 
     ghost runs_as_calls = { false };
 
+    ghost tells = { λ w. D.tells w.disk };
+
     ghost has_size = { λ w. D.has_size w.disk };
 
     ghost newest_may_stay = { λ w. D.newest_may_stay w.disk };
@@ -82,6 +84,10 @@ impl<'a, D: Disk, K: Clock> Disk for WatchedDisk<'a, D, K> {
 
     fn blocks(&self) -> u64 {
         self.disk.blocks()
+    }
+
+    fn failure(&self) -> Option<Failure> {
+        self.disk.failure()
     }
 
     fn read(&mut self, place: u64, buf: &mut [u8]) -> Result<(), Fault> {
