@@ -1,14 +1,15 @@
 #!/usr/bin/env python3
-"""Bad days: runs of the commands of `jb` and of the examples over files whose calls fail, on disks that are full, and past a limit of a file's size.
+"""Bad days: commands of `jb` and the examples over files whose calls fail, on disks that are full, and past a limit of a file's size.
 
     tests/processes/bad_day.py JB STORE ACCOUNTS [all]
 
-tests/processes/fail.c is loaded before the C library, and fails one call of a run on its files, or all from that one on: each read, write and sync
-in turn, by the system's errors or by half of the bytes. Of a call by one error after the other; with `all` each by each of them. Then limits of 0.9 to 3 MB of
-the size of a file, and, as root, disks of 0.9 to 3 MB (tmpfs), on which the images are sparse. A run that says that all is well has to have
-done it. Any other names the call's reason, on the line of the fault or on the next one, and says what to do about it (`jb` with --hints); leaves nothing of
-an image that it was to make; keeps what was replied to or counted as settled. Then, with room, the same program goes on. Prints a line for each
-part and each run that is not as it must be; ends with 1 where there is one. It needs Linux and a C compiler."""
+tests/processes/fail.c is loaded before the C library. It fails one call of a run on its files, or all from that one on: each read, write and sync in
+turn, by errors of the system or by half of its bytes. Each call fails for two of these causes; with `all`, for each. Then no file may be longer than 0.9 to
+3 MB; and, as root, disks have 0.9 to 3 MB (tmpfs) and hold images that are sparse. A run that says that all is well has to have done it. Any other names the
+call's reason, on the line of the fault or on the next one, and says what to do about it (`jb` with --hints); leaves nothing of an image that it was to
+make; and keeps what was replied to, or counted as settled. Then, with room, the same program goes on. Only a read of `jb dump`, and one of an
+example's worker, need not name its reason (`nameless`). Prints a line for each part and for each run that is not as it must be; ends with 1 where there is
+one. It needs Linux and a C compiler."""
 import concurrent.futures
 import os
 import resource
@@ -79,7 +80,8 @@ def judged(program, room, answer, causes, is_advised, in_making=False, make_room
         return program.whole(room, answer)
     if answer[0] not in (1, 2):
         return "it ends with %d: %r" % (answer[0], answer[2])
-    return unnamed(answer[2], causes, is_advised) or program.kept(room, answer, in_making) or program.goes_on(room)
+    why = None if answer[2].split(b"\n")[0] in program.nameless else unnamed(answer[2], causes, is_advised)
+    return why or program.kept(room, answer, in_making) or program.goes_on(room)
 
 
 def failing(shim, program, room, number, cause, stays):

@@ -64,6 +64,9 @@ def homes_of(content, journal=33):
 class Program:
     """A program, with the files on which it is run: its name, and what it is given."""
 
+    # the lines of a failed read that tell no reason
+    nameless = ()
+
     def __init__(self, name, words, given, files):
         self.name, self.words, self.given, self.files = name, words, given, files
 
@@ -90,6 +93,8 @@ class Command(Program):
     def __init__(self, jb, room, words, files, reads, handles=LOADED, journal=33):
         super().__init__("jb " + words, [jb, *words.split()], b"", files)
         self.jb, self.verb, self.reads, self.handles, self.journal = jb, words.split()[0], reads, handles, journal
+        if self.verb == "dump":
+            self.nameless = (b"jb: ReadFault", b"jb: DeviceFault")
         self.lay(room)
         self.ample = run(self.words, room)
         assert self.ample[0] == 0, self.ample
@@ -149,6 +154,7 @@ def without_groups(out):
 class Store(Program):
     """example_store over an image, which is there already or is made."""
 
+    nameless = (b"image: the read failed; try again",)
     FIRST = {key: 1000 + key for key in range(1, 6)}
     COMMANDS = [("put", 2, 21), ("delete", 3), ("put", 4, 41), ("get", 4), ("put", 39, 71), ("put", 2, 22), ("get", 3)]
     KEYS = [1, 2, 3, 4, 5, 39]
@@ -199,6 +205,7 @@ def text_of(commands):
 class Accounts(Program):
     """example_accounts over an image, which is there already or is made."""
 
+    nameless = (b"image: the read failed; try again",)
     LINE, JOURNAL, ACCOUNTS = b"the accounts hold 100000\n", 1024, 100
 
     def __init__(self, accounts, room, is_new):

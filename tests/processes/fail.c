@@ -1,7 +1,7 @@
-/* Fails calls of a program on the files of the folder FAIL_UNDER: its reads, writes and syncs, which are counted from 1 on over all threads.
- * The call of number FAIL_CALL fails with the system's error FAIL_WITH; where that is 0 it moves half of its bytes, and at least one. Where FAIL_STAYS is set each
- * later call of the same kind fails so, too. A line on descriptor FAIL_TO names each call that failed and its file, and the last one says how
- * many calls there were. It is preloaded with LD_PRELOAD. */
+/* Fails calls of a program on the files of the folder FAIL_UNDER: its reads, writes and syncs, which are counted from 1 on over all
+ * threads. The call of number FAIL_CALL fails with the system's error FAIL_WITH; where that is 0 it moves half of its bytes, and one at
+ * least. Where FAIL_STAYS is set each later call of the same kind fails so, too. A line on descriptor FAIL_TO names each call that failed
+ * and its file, and the last one says how many calls there were. It is preloaded with LD_PRELOAD. */
 #define _GNU_SOURCE
 #include <errno.h>
 #include <stdatomic.h>
