@@ -35,6 +35,7 @@ const JOURNAL: u32 = 256;
 
 /// How many threads ask, and for how many changes each.
 const ASKERS: u32 = 4;
+
 const CHANGES: u64 = 25;
 
 /// How many home blocks there are: each change is of one of its own.
@@ -68,9 +69,11 @@ fn serve<D: Disk + Drop + Send, R: AllocGlobal + Threads + Wait + Clock + Sync>(
     // where the journal was not run, its askers wait in vain
     service.refuse(rt);
     let (_disk, answers) = ran?.durable()?;
-    Ok(answers
-        .iter()
-        .fold(0, |sum: u64, served| sum.saturating_add(*served)))
+    Ok(
+        answers
+            .iter()
+            .fold(0, |sum: u64, served| sum.saturating_add(*served)),
+    )
 }
 
 /// Starts the threads that ask, and serves them meanwhile.
@@ -85,27 +88,31 @@ fn run_threads<D: Disk + Drop + Send, R: AllocGlobal + Threads + Wait + Clock + 
     }
     // the queue ends once no thread has an asker
     drop(asker);
-    thread::scope(thread::scope_env(), rt, move |scope| -> Result<u64, Failed> {
-        let mut asking = Vec::new(rt.alloc());
-        let mut asked = Ok(());
-        for (at, asker) in (0..ASKERS).zip(askers) {
-            match scope.spawn(move || ask(rt, asker, at)) {
-                Ok(thread) => asking.push(thread)?,
-                Err(_) => asked = Err(Failed::NoThread),
+    thread::scope(
+        thread::scope_env(),
+        rt,
+        move |scope| -> Result<u64, Failed> {
+            let mut asking = Vec::new(rt.alloc());
+            let mut asked = Ok(());
+            for (at, asker) in (0..ASKERS).zip(askers) {
+                match scope.spawn(move || ask(rt, asker, at)) {
+                    Ok(thread) => asking.push(thread)?,
+                    Err(_) => asked = Err(Failed::NoThread),
+                }
             }
-        }
-        let served = serve(rt, disk, &service);
-        for thread in asking {
-            let ended = thread.join(rt);
-            if asked.is_ok() {
-                asked = ended;
+            let served = serve(rt, disk, &service);
+            for thread in asking {
+                let ended = thread.join(rt);
+                if asked.is_ok() {
+                    asked = ended;
+                }
             }
-        }
-        // why the journal has failed comes first
-        let durable = served?;
-        asked?;
-        Ok(durable)
-    })
+            // why the journal has failed comes first
+            let durable = served?;
+            asked?;
+            Ok(durable)
+        },
+    )
 }
 
 /// A disk in memory with a new journal.
