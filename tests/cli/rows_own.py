@@ -86,6 +86,8 @@ for parts, said in (((20, 33),), "20-52"), (((40, 10), (16, 23)), "(0-9):40-49,~
     row("dump a", 1, err="jb: Super NoMagic\n", files=within(FULL, parts))
 for words in "renumber a", "widen a":
     line = "renumbered blocks 2 next 1\n" if words == "renumber a" else "widened limit 8\n"
+    # the first block that is written: the log's first with an old header, and the journal's superblock
+    first = 22 if words == "renumber a" else 20
     before, after = (OLD_LOG, NO_LOG) if words == "renumber a" else (NARROW, WIDENED)
     # a log that is not clean is refused once the journal is known for the file system's own; of a clean one the UUID is not asked
     for more in "", " --extents 20-52":
@@ -94,7 +96,7 @@ for words in "renumber a", "widen a":
         row(words + more, 0, line, files=ext(before, uuid=bytes(16)), after=ext(after, uuid=bytes(16)))
         row(words + more, 2, err="jb: in use a\n", files=ext(before), locked="a")
         row(words + more, 1, err="jb: WriteFault\n", files=ext(before), to="full", after=ext(after))
-        row(words + more, 1, err="jb: DeviceFault\n", files=ext(before), how="trap '' XFSZ; ulimit -f 16", beside=WRITE % 20)
+        row(words + more, 1, err="jb: DeviceFault\n", files=ext(before), how="trap '' XFSZ; ulimit -f 16", beside=WRITE % first)
     row(words + " --extents 20-52", 1, err="jb: NeedsRecovery\n", files=within(FULL, [(20, 33)]))
     row(words + " --extents 20-52", 1, err="jb: Extents Nothing\n", files=within(image(superblock(2, 1)), [(20, 33)]))
     # the superblock's copy of the map serves, as it does a recovery
