@@ -157,9 +157,10 @@ class Twin:
     def drop_wrong_answers(self, said):
         """Sets the answers aside at which the check stopped, and gives whether there were any."""
         lines = {}
-        for file, line in re.findall(r"^(?:\./)?(proofs/\S+?\.antt):(\d+):\d+: error", said, re.M):
+        for file, line, what in re.findall(r"^(?:\./)?(proofs/\S+?\.antt):(\d+):\d+: error(.*)", said, re.M):
             if f"crates/{self.copy.crate}/{file}".startswith(self.proofs + "/"):
-                lines.setdefault(f"crates/{self.copy.crate}/{file}", []).append(int(line))
+                missing = re.search(r"has no `([^`]+)` that can be named", what)
+                lines.setdefault(f"crates/{self.copy.crate}/{file}", {})[int(line)] = missing and missing.group(1)
         for file, at in lines.items():
             kept, gone = without(self.copy.text(file), at)
             self.set_aside += gone
@@ -213,14 +214,26 @@ def drop_unread(twins, said):
 
 
 def without(text, lines):
-    """A proof file without the definitions in which these lines stand, and the names of those."""
+    """A proof file without the definitions in which these lines stand, and the names of those. Of an import that fails only what is missing goes."""
     parts = re.split(r"(?m)^(?=\S)", text)
     names = [re.match(r"(?:(?:abbrev|pub|unfoldable) )*(\S+)", part).group(1) if part.strip() else "" for part in parts]
     number, gone = 1, set()
-    for part, name in zip(parts, names):
+    for place, (part, name) in enumerate(zip(parts, names)):
         after = number + part.count("\n")
-        if any(number <= line < after for line in lines) and not part.startswith(("use ", "mod ", "--")):
+        here = [line for line in lines if number <= line < after]
+        if here and part.startswith("use "):
+            parts[place] = without_names(part, {lines[line] for line in here})
+        elif here and not part.startswith(("mod ", "--")):
             gone.add(name)
         number = after
     kept = [part for part, name in zip(parts, names) if name not in gone or part.startswith(("use ", "mod ", "--"))]
     return "".join(kept), sorted(gone)
+
+
+def without_names(part, names):
+    """An import without these names, or nothing where no other is left."""
+    found = re.fullmatch(r"(use \S+\.\{)([^}]*)(\}\s*)", part)
+    if not found:
+        return part
+    kept = [name for name in re.split(r",\s*", found.group(2).strip()) if name not in names]
+    return found.group(1) + ", ".join(kept) + found.group(3) if kept else ""
