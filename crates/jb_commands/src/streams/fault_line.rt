@@ -100,8 +100,8 @@ fn put_numbers<W: Write>(writer: &mut W, words: &str, numbers: Numbers, name: Op
     }
 }
 
-/// Writes the JSON of a fault with this name, these numbers, this file, this advice, and the system's reason where there
-/// is one.
+/// Writes the JSON of a fault with this name, these numbers, this file, this advice, and the system's reason where
+/// there is one.
 ///
 /// # Errors
 /// `WriteFault` where the writer took only the beginning of it.
@@ -132,8 +132,8 @@ fn put_fault<W: Write>(
     }
 }
 
-/// Writes the JSON of a fault with its numbers as they are, with what is said of it, what to do, and the system's reason
-/// where there is one.
+/// Writes the JSON of a fault with its numbers as they are, with what is said of it, what to do, and the system's
+/// reason where there is one.
 ///
 /// # Errors
 /// `WriteFault` where the writer took only the beginning of it.
