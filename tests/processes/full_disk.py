@@ -18,7 +18,9 @@ import sys
 import tempfile
 import tty
 
-KIB = 1024
+sys.dont_write_bytecode = True
+from disks import KIB, content, disk, enlarge, fill, free  # noqa: E402
+
 JB, STORE, ACCOUNTS = (os.path.abspath(word) for word in sys.argv[1:4])
 SIZES = ["--bs", "1024", "--journal", "512", "--homes", "1024"]
 LENGTH = (512 + 1024) * KIB
@@ -66,22 +68,10 @@ def has_room(name):
         return os.fstat(file.fileno()).st_blocks * 512 >= size and os.lseek(file.fileno(), 0, os.SEEK_HOLE) == size
 
 
-def content(name):
-    with open(name, "rb") as file:
-        return file.read()
-
-
 def queue(name, handles):
     """A file with these handles as a queue text."""
     with open(name, "w", encoding="ascii") as file:
         file.write("bs 1024\nlimit 127\n" + "".join(handles))
-
-
-def fill(name):
-    """Takes all room that the disk has left."""
-    with open(name, "wb", buffering=0) as file, contextlib.suppress(OSError):
-        while file.write(bytes(KIB)):
-            pass
 
 
 def keeps_zeros():
@@ -150,29 +140,6 @@ def refused():
                 expect("the reason of %s" % error, text.startswith(UNMADE) and text.endswith(reason + b"\n") and not os.listdir("."), text)
             runs += 1
     print("refused writes: %d runs" % runs)
-
-
-@contextlib.contextmanager
-def disk(kib):
-    """A disk with so much room, as the folder where a program starts; None where none can be mounted."""
-    here = os.getcwd()
-    with tempfile.TemporaryDirectory() as folder:
-        mounted = subprocess.run(["mount", "-t", "tmpfs", "-o", "size=%dk" % kib, "none", folder], stderr=subprocess.DEVNULL).returncode == 0
-        try:
-            os.chdir(folder)
-            yield folder if mounted else None
-        finally:
-            os.chdir(here)
-            if mounted:
-                subprocess.run(["umount", "-l", folder], check=True)
-
-
-def free():
-    return os.statvfs(".").f_bfree
-
-
-def enlarge(folder, kib):
-    subprocess.run(["mount", "-o", "remount,size=%dk" % kib, folder], check=True)
 
 
 def formatted(folder, kib):

@@ -82,7 +82,7 @@ def main():
             if stack == 600 and name == "store":
                 # its three threads are one and two more: with two of them made nothing is missing
                 continue
-            expect("%s without threads (%d)" % (name, stack), found == (TEXT, 1), found)
+            expect("%s without threads (%d)" % (name, stack), found == (b"%s: %s" % (image.encode(), TEXT), 1), found)
             expect("the image of %s (%d)" % (name, stack), open(image, "rb").read()[64 * 1024:] == before[64 * 1024:])
             found = end(begin(words, given))
             expect("%s with threads again" % name, found == (line, 0), found)

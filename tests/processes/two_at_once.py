@@ -75,7 +75,7 @@ def at_once(store, accounts, rounds):
             done += len(well)
             refused += len(ends) - len(well)
             for at, found in enumerate(ends):
-                want = (0, LINE if given is None else b"put %d\n" % (at + 1)) if at in well else (1, REFUSED)
+                want = (0, LINE if given is None else b"put %d\n" % (at + 1)) if at in well else (1, b"%s: %s" % (words[1].encode(), REFUSED))
                 expect("one of eight copies of " + name, found == want, found)
             expect("one of the copies of %s ends well" % name, well)
             if given:

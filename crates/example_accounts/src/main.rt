@@ -57,14 +57,14 @@ fn read_all<D: Disk>(disk: &mut D) -> Result<Balances, JournalFault> {
 /// Runs in memory, or in the image that is named, with as many moves by each thread as the second word says.
 fn run_words<R: Files<File = File> + AllocGlobal + Threads + Wait + Clock + Sync>(
     rt: &R,
-    image: Option<String>,
+    image: Option<&str>,
     moves: Option<String>,
 ) -> Result<Balances, JournalFault> {
     match (image, moves) {
         (Some(image), Some(moves)) => {
             let geometry = ImageGeometry::new(SIZE, JOURNAL, ACCOUNTS as u64);
             let moves = moves.parse().unwrap_or(0);
-            held_after(move_in_image::<Unknown, R>(rt, &image, geometry, moves)?)
+            held_after(move_in_image::<Unknown, R>(rt, image, geometry, moves)?)
         }
         _ => held_after(move_on_disk(rt, in_memory(rt.alloc())?, 250)?),
     }
@@ -82,13 +82,16 @@ fn main(rt: HostRuntime) -> ExitCode {
         return ExitCode::from(1);
     };
     let (image, moves) = (words.nth(1), words.next());
-    let told = match run_words(&rt, image, moves) {
+    let told = match run_words(&rt, image.as_deref(), moves) {
         Ok(balances) => match total(&balances) {
             Some(sum) => writeln!(rt.stdout(), "the accounts hold {sum}"),
             None => writeln!(rt.stdout(), "the accounts hold more than 64 bits count"),
         },
         Err(fault) => {
-            let _told = writeln!(rt.stderr(), "{fault}");
+            let _told = match image {
+                Some(image) => writeln!(rt.stderr(), "{image}: {fault}"),
+                None => writeln!(rt.stderr(), "{fault}"),
+            };
             return ExitCode::from(1);
         }
     };

@@ -155,14 +155,17 @@ fn tell<W: Write>(out: &mut W, times: Times, is_timed: bool) -> bool {
 fn main(rt: HostRuntime) -> ExitCode {
     let words = words_of(&rt);
     let is_timed = words.is_some();
-    let times = match words {
-        Some((image, load)) => run_in_file(&rt, &image, load),
+    let times = match &words {
+        Some((image, load)) => run_in_file(&rt, image, *load),
         None => run_in_memory(&rt),
     };
     let is_told = match times {
         Ok(times) => tell(&mut rt.stdout(), times, is_timed),
         Err(fault) => {
-            let _told = writeln!(rt.stderr(), "{fault}");
+            let _told = match &words {
+                Some((image, _load)) => writeln!(rt.stderr(), "{image}: {fault}"),
+                None => writeln!(rt.stderr(), "{fault}"),
+            };
             false
         }
     };

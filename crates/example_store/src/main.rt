@@ -72,7 +72,7 @@ fn serve<S: Start + Send, R: Files<File = File> + AllocGlobal + Threads + Wait +
 }
 
 /// What the worker answered, once all that it changed is committed.
-fn durable_answers<D: Drop>(ran: Ran<Served, D>) -> Result<Vec<Served>, JournalFault>
+fn durable_answers<D: Disk + Drop>(ran: Ran<Served, D>) -> Result<Vec<Served>, JournalFault>
     ensures { IfOk result (λ answers. AllSettled ran × (answers ≡ ran.answers)) }
 {
     let (_disk, answers) = ran.durable()?;
@@ -80,7 +80,7 @@ fn durable_answers<D: Drop>(ran: Ran<Served, D>) -> Result<Vec<Served>, JournalF
 }
 
 /// How the worker ended.
-fn answered<D: Drop>(ran: Ran<Served, D>) -> Result<(), Failed>
+fn answered<D: Disk + Drop>(ran: Ran<Served, D>) -> Result<(), Failed>
     ensures { OnOk result (EndedWell ran) }
 {
     let mut answers = durable_answers(ran)?;
@@ -96,15 +96,15 @@ fn answered<D: Drop>(ran: Ran<Served, D>) -> Result<(), Failed>
 /// Those of the journal and of its worker. What was replied to before stays.
 fn serve_on<S: Start + Send, R: Files<File = File> + AllocGlobal + Threads + Wait + Clock + Sync>(
     rt: &R,
-    image: Option<String>,
+    image: Option<&str>,
     serving: &Serving,
 ) -> Result<(), Failed>
     /// Where the store is done with an image it has replied to all commands, and all that they changed is committed.
-    ensures { OnOk result (IfSome image (λ name. IsServedIn S.Start serving.now.commands.items)) }
+    ensures { OnOk result (IfSome image.entry (λ name. IsServedIn S.Start serving.now.commands.items)) }
 {
     let geometry = ImageGeometry::new(SIZE, JOURNAL, store::HOMES);
     match image {
-        Some(image) => answered(serve::<S, R>(rt, &image, geometry, serving)?),
+        Some(image) => answered(serve::<S, R>(rt, image, geometry, serving)?),
         None => answered(serve_disk(rt, in_memory(rt.alloc())?, serving)?),
     }
 }
@@ -127,6 +127,14 @@ fn commands(rt: &HostRuntime) -> Result<Vec<Command>, Failed>
     Ok(commands)
 }
 
+/// Says why the program ends; with its image, where a call of the journal is why.
+fn tell(rt: &HostRuntime, image: Option<&str>, failed: &Failed) {
+    let _told = match (failed, image) {
+        (Failed::Journal(fault), Some(image)) => writeln!(rt.stderr(), "{image}: {fault}"),
+        _ => writeln!(rt.stderr(), "{failed}"),
+    };
+}
+
 /// Reads the commands, and obeys them. What [`serve_on`] promises holds for whatever the file holds (its `S`); nothing
 /// is known of that here, so `Unknown` is named. That the commands have keys, for which [`serve`] promises its replies,
 /// is the clause of [`commands`].
@@ -134,6 +142,7 @@ fn main(rt: HostRuntime) -> ExitCode {
     let Ok(mut words) = env::args(&rt) else {
         return ExitCode::from(1);
     };
+    let image = words.nth(1);
     let served = match commands(&rt) {
         Ok(commands) => {
             let out = rt.stdout();
@@ -142,14 +151,14 @@ fn main(rt: HostRuntime) -> ExitCode {
                 out: Mutex::new(out),
                 alloc: rt.alloc(),
             };
-            serve_on::<Unknown, HostRuntime>(&rt, words.nth(1), &serving)
+            serve_on::<Unknown, HostRuntime>(&rt, image.as_deref(), &serving)
         }
         Err(failed) => Err(failed),
     };
     match served {
         Ok(()) => ExitCode::SUCCESS,
         Err(failed) => {
-            let _told = writeln!(rt.stderr(), "{failed}");
+            tell(&rt, image.as_deref(), &failed);
             ExitCode::from(1)
         }
     }

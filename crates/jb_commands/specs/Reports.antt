@@ -35,8 +35,8 @@ TellsReport form (Renumbered done) out_old out_new end =
     TellsLine (text_in form (renumbered_facts done)) out_old out_new end
 TellsReport form (Widened done) out_old out_new end = TellsLine (text_in form (widened_facts done)) out_old out_new end
 
--- what an image in files tells of its last call that failed; one that is not open tells nothing
 module _ {S T : Type 0} {start : Starts S} {other : Starts T} where
+  -- what an image in files tells of its last call that failed; one that is not open tells nothing
   abbrev pub image_tells : Option (ImageDisk (FileDisk S start) (FileDisk T other)) → Failure → Type 0
   image_tells None failure = ⊥
   image_tells (Some disk) failure = as_files.tells disk failure

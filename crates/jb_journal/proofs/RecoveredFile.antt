@@ -1,23 +1,29 @@
 -- A file that was recovered, and then read.
-use Rattle.std.proofs.Common.{◌≡◌, ◌≤◌, ℕ, length, Ok, refl, sym, ◌∙◌, ap, subst, ⊎_elim, arith}
+use Rattle.std.proofs.Common.{◌≡◌, ◌≤◌, ℕ, length, Ok, Err, Option, Some, None, refl, sym, ◌∙◌, ap, subst, inl, inr, ⊎_elim, arith}
 use Rattle.jb_block.specs.Size.{bytes_of}
 use Rattle.jb_block.specs.declared.size.BlockSize.{BlockSize}
 use Rattle.jb_disk.specs.RecordLaws.{left_from_now}
 use Rattle.jb_disk.specs.Faults.{CountsNone}
-use Rattle.jb_disk.specs.File.{content_of, count_of, events_of, faults_of, size_of_blocks, FileLeaves, FileLeft, IsHonest, IsMeasured, IsWellAsked, MayGoOn}
+use Rattle.jb_disk.specs.File.{content_of, count_of, events_of, failure_of, faults_of, size_of_blocks, FileLeaves, FileLeft, IsHonest, IsMeasured, IsWellAsked, MayGoOn}
 use Rattle.jb_disk.specs.Image.{Image, Only, ChangesNothing}
 use Rattle.jb_disk.specs.Kept.{IsDiskKept}
 use Rattle.jb_disk.specs.Time.{Goes, LeavesOnly}
+use Rattle.jb_disk.specs.declared.failure.Failure.{Failure}
 use Rattle.jb_disk.specs.declared.file.FileDisk.{FileDisk}
 use Rattle.jb_disk.specs.declared.start.Start.{Ghosts as Starts}
 use Rattle.jb_format.proofs.CallEntry.{entry-as}
 use Rattle.jb_image.proofs.OpenedFile.{opened-holds, opened-leaves}
 use Rattle.jb_recover.specs.Outcomes.{RecoversAs}
 use Rattle.jb_recover.specs.Recovers.{Recovers}
+use Rattle.jb_recover.specs.declared.fault.PeekFault.TheVariants as reading
 use Rattle.jb_recover.specs.declared.fault.RecoverFault.{RecoverFault}
+use Rattle.jb_recover.specs.declared.fault.RecoverFault.TheVariants as recovering
 use Rattle.jb_recover.specs.declared.recovered.Recovered.{Recovered}
 use Rattle.std.specs.Prelude.{Result}
-use Rattle.jb_journal.specs.OpenFile.{WasRecovered}
+use Rattle.jb_journal.specs.Homes.{HomeFaults}
+use Rattle.jb_journal.specs.OpenFile.{RefusesImage, WasRecovered, WasRefused, unread_by, unrecovered_by}
+use Rattle.jb_journal.specs.declared.fault.HomeFault.{HomeFault}
+use Rattle.jb_journal.specs.declared.fault.HomeFault.TheVariants.{Length, Peek}
 
 module _ {S : Type 0} {start : Starts S} where
   -- how many calls of a file were made
@@ -84,3 +90,22 @@ module _ {S : Type 0} {start : Starts S} where
               (was.crash (before honest) c (left_then honest c left));
           durable = λ honest c left. was.durable (before honest) c (left_before honest c left) ∙ sym (same honest);
         }
+
+  -- ---- why an image is not opened, by what its file tells
+
+  pub unrecovered : (size : BlockSize) (fault : RecoverFault) (was : WasRefused start size fault) (told : Option Failure) → told ≡ failure_of was.file → RefusesImage start size (unrecovered_by fault told)
+  unrecovered size recovering.DeviceFault was None is = (was, λ _. sym is)
+  unrecovered size recovering.DeviceFault was (Some failure) is = inl (was, sym is)
+  unrecovered size (recovering.Super fault) was told is = (was, λ other. cc other)
+  unrecovered size (recovering.BadRevoke at) was told is = (was, λ other. cc other)
+  unrecovered size (recovering.HomeOutOfRange home number) was told is = (was, λ other. cc other)
+  unrecovered size recovering.Memory was told is = (was, λ other. cc other)
+
+  pub unread : (size : BlockSize) (before after : FileDisk S start) → WasRecovered size before → (fault : HomeFault) → HomeFaults (Err fault) (faults_of before) (faults_of after) → (told : Option Failure) → told ≡ failure_of after
+      → RefusesImage start size (unread_by fault told)
+  unread size before after was Length counted told is = tt
+  unread size before after was (Peek reading.DeviceFault) counted None is = tt
+  unread size before after was (Peek reading.DeviceFault) counted (Some failure) is = inr (record { before = before; after = after; recovered = was; counted = counted; told = sym is })
+  unread size before after was (Peek (reading.Super fault)) counted told is = tt
+  unread size before after was (Peek (reading.BadRevoke at)) counted told is = tt
+  unread size before after was (Peek (reading.HomeOutOfRange home)) counted told is = tt

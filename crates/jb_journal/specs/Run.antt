@@ -5,6 +5,7 @@ use Rattle.std.specs.Bool.{OnTrue}
 use Rattle.std.specs.List.{sum_by}
 use Rattle.jb_cost.specs.Pieces.{joined}
 use Rattle.jb_disk.specs.declared.disk.Disk.{Ghosts as Disks}
+use Rattle.jb_disk.specs.declared.failure.Failure.{Failure}
 use Rattle.jb_handle.specs.declared.shape.Shape.{Shape}
 use Rattle.jb_deck.specs.Deck.{OpenDeck}
 use Rattle.jb_deck.specs.Done.{Follow, start_of}
@@ -138,10 +139,15 @@ IsWrittenHome (Some blocks) (Some ended) = blocks ≡ 0
 abbrev pub IsDoneAtHome : {T D : Type 0} → Ran T D → Type 0
 IsDoneAtHome ran = IsWrittenHome ran.in_log ran.checkpoint
 
+-- what is told of a failed call of the disk: what the disk tells, and only where the journal has failed
+abbrev pub TellsFailure : {T D : Type 0} → Disks D → Ran T D → Option Failure → Type 0
+TellsFailure G ran told = IfSome told (λ failure. (ran.in_log ≡ None) × G.tells ran.disk failure)
+
 -- why what a run leaves is not durable
-abbrev pub IsNotDurable : {T D : Type 0} → Ran T D → NotDurable → Type 0
-IsNotDurable ran (NotSettled handles settled) = (handles ≡ ran.handles) × (settled ≡ ran.settled) × (AllSettled ran → ⊥)
-IsNotDurable ran NotHome = AllSettled ran × (IsDoneAtHome ran → ⊥)
+abbrev pub IsNotDurable : {T D : Type 0} → Disks D → Ran T D → NotDurable → Type 0
+IsNotDurable G ran (NotSettled handles settled told) =
+    (handles ≡ ran.handles) × (settled ≡ ran.settled) × (AllSettled ran → ⊥) × TellsFailure G ran told
+IsNotDurable G ran (NotHome told) = AllSettled ran × (IsDoneAtHome ran → ⊥) × TellsFailure G ran told
 
 -- What was run: there are the handles that each worker's client has stopped, and what it knew and had seen of the
 -- journal, with which it answered what it may. The handles are all of one history, of as many as are reported, and each

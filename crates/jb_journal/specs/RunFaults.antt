@@ -7,6 +7,7 @@ use Rattle.jb_book.specs.OpenDisk.{NotOpened, WasOpened, WasOpenedAs}
 use Rattle.jb_book.specs.Origin.{Begun}
 use Rattle.jb_book.specs.Since.{IsSinceOf}
 use Rattle.jb_deck.specs.Deck.{OpenDeck}
+use Rattle.jb_deck.specs.declared.fault.OpenFault.TheVariants as opening
 use Rattle.jb_disk.specs.declared.disk.Disk.{Ghosts}
 use Rattle.jb_handle.specs.Word.{WordMap}
 use Rattle.jb_handle.specs.declared.shape.Shape.{Shape}
@@ -15,6 +16,10 @@ use Rattle.jb_journal.specs.Notes.{Known, KnownLasts, Stop}
 use Rattle.jb_journal.specs.Run.{AreAnswers}
 use Rattle.jb_journal.specs.declared.fault.RunFault.{RunFault}
 use Rattle.jb_journal.specs.declared.fault.RunFault.TheVariants.{Open, Memory, NoThread, Accounts}
+use Rattle.jb_journal.specs.declared.image_not_run.ImageNotRun.{ImageNotRun}
+use Rattle.jb_journal.specs.declared.image_not_run.ImageNotRun.TheVariants as image
+use Rattle.jb_journal.specs.declared.journal_fault.JournalFault.{JournalFault}
+use Rattle.jb_journal.specs.declared.journal_fault.JournalFault.TheVariants as told
 use Rattle.jb_journal.specs.declared.not_run.NotRun.{NotRun}
 use Rattle.jb_journal.specs.declared.options.Commits.{Commits}
 use Rattle.jb_journal.specs.declared.options.Commits.TheVariants.{Meanwhile}
@@ -88,3 +93,15 @@ module _ {T D : Type 0} (G : Ghosts D) (disk : D) (b : Begun) (commits : Commits
   -- the same of what is handed back
   abbrev pub IsNotRun : NotRun T D → Type 0
   IsNotRun back = RefusesRun back.fault back.disk back.answers.items
+
+-- what is told of a journal that was not run: why it was not, or the failed call of its disk, where the opening ended
+-- with one and the disk tells it
+abbrev pub TellsNotRun : {T D : Type 0} → Ghosts D → NotRun T D → JournalFault → Type 0
+TellsNotRun G back (told.Run fault) = fault ≡ back.fault
+TellsNotRun G back (told.Device failure) = (back.fault ≡ Open opening.DeviceFault) × G.tells back.disk failure
+TellsNotRun G back _ = ⊥
+
+-- what is told of an image that was not run: why it was not opened, or what is told of its journal
+abbrev pub TellsImageNotRun : {T D : Type 0} → Ghosts D → ImageNotRun T D → JournalFault → Type 0
+TellsImageNotRun G (image.Open fault) given = given ≡ fault
+TellsImageNotRun G (image.Run back) given = TellsNotRun G back given

@@ -8,10 +8,14 @@ ghost use Rattle.jb_desk.specs.declared.fault.WaitFault.TheVariants.{Taken};
 ghost use Rattle.jb_handle.specs.Word.{WordMap};
 ghost use Rattle.jb_journal.specs.Change.{AnswersChange};
 
+mod durable;
+mod figures;
+
 use crate::change::change_at;
 use crate::counted::CountedSeat;
 use crate::fault::HandleFault;
 use crate::options::Commits;
+pub use figures::Figures;
 use jb_block::{BlockSize, Memory};
 use jb_cost::{Geometry, most_credits};
 use jb_deck::{Entry, ReadHomeFault};

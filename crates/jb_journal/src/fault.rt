@@ -1,6 +1,8 @@
 //! Why a handle is not stopped, a home not read, and a journal not run.
+use crate::remedy::{Remedy, ToWorker};
 use jb_deck::OpenFault;
 use jb_desk::BeginFault;
+use jb_disk::Failure;
 use jb_recover::PeekFault;
 use std::fmt;
 use thiserror::Error;
@@ -10,14 +12,14 @@ use thiserror::Error;
 #[error_bound(E: fmt::Display)]
 pub enum HandleFault<E> {
     /// It was not begun, for this.
-    #[error(transparent)]
+    #[error("{}", ToWorker {has_failed: *.0 == BeginFault::Aborted, fault: .0})]
     Begin(BeginFault),
     /// What changes it gave this answer.
     #[error(transparent)]
     Refused(E),
-    /// The journal has failed: the worker ends, and so does the program, to recover the journal when it is started
-    /// anew.
-    #[error("the journal has failed; start the program anew and recover it")]
+    /// The journal has failed: the worker ends, and so does the program. What the run leaves says why
+    /// ([`Ran::durable`](crate::Ran::durable)), and what to do before the program is started anew.
+    #[error("the journal has failed; the end of the run says why, and what to do")]
     Aborted,
     /// The handle has other words than the one that was begun may have: it was exchanged for another one.
     #[error("the handle is not the one that was begun; change that one in its place")]
@@ -46,22 +48,27 @@ pub enum RunFault {
     Accounts,
 }
 
-/// Why what a run leaves is not durable. The disk may have failed: the program is to end, and to recover the journal
-/// when it is started anew.
+/// Why what a run leaves is not durable. Where the journal has failed, `failure` is what its disk tells of the call
+/// that failed: the program is to end, that is to be seen to, and the program started anew recovers the journal.
 #[derive(Clone, Copy, Debug, PartialEq, Eq, Error)]
 pub enum NotDurable {
     /// Handles that stopped were not all settled: the others may be lost.
-    #[error("only {settled} of {handles} handles are settled; start the program anew and recover the journal")]
+    #[error("only {settled} of {handles} handles are settled; {remedy}", remedy = Remedy(*.failure))]
     NotSettled {
         /// How many handles stopped.
         handles: u64,
         /// How many of them, the first by their tickets, are settled.
         settled: u64,
+        /// Why the journal has failed, where it has and its disk tells.
+        failure: Option<Failure>,
     },
     /// All are settled, but the journal has failed since, or not all of them are home though that was asked for: the
     /// homes on the disk are not to be read before it is recovered.
-    #[error("not all handles are home; start the program anew and recover the journal")]
-    NotHome,
+    #[error("not all handles are home; {remedy}", remedy = Remedy(*.failure))]
+    NotHome {
+        /// Why the journal has failed, where it has and its disk tells.
+        failure: Option<Failure>,
+    },
 }
 
 /// Why a home block was not read from a journal that is not open.

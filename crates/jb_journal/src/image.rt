@@ -7,15 +7,15 @@ ghost use Rattle.jb_disk.specs.KeptOn.{KeptOn};
 ghost use Rattle.jb_disk.specs.Time.{Goes};
 ghost use Rattle.jb_recover.specs.Peeks.{IsRecoveredHome};
 ghost use Rattle.jb_journal.specs.Homes.{HomeFaults, ReadsWhole};
-ghost use Rattle.jb_journal.specs.OpenFile.{WasRecoveredOrMade, RefusesImage, WasRecovered};
+ghost use Rattle.jb_journal.specs.OpenFile.{WasRecoveredOrMade, RefusesImage, WasRecovered, unread_by, unrecovered_by};
 ghost use Rattle.jb_journal.specs.declared.fault.HomeFault.TheVariants.{Length};
 
 use crate::fault::HomeFault;
 use crate::journal_fault::JournalFault;
 use jb_block::{BlockSize, MOST_BYTES};
-use jb_disk::{Disk, FileDisk, Start};
+use jb_disk::{Disk, Failure, FileDisk, Start};
 use jb_image::{ImageFault, ImageGeometry, MakeFault, Opening, create_holding};
-use jb_recover::{PeekFault, peek, recover};
+use jb_recover::{PeekFault, RecoverFault, peek, recover};
 use std::fs::File;
 use std::rt::Files;
 
@@ -25,7 +25,8 @@ use std::rt::Files;
 /// # Errors
 /// `Image` where there is no such image, another process has it open (`InUse`), it is mounted (`Mounted`) or the system
 /// does not say whether it is (`MountsUnknown`), it is neither a regular file nor a block device, or the system refuses
-/// a call; `Recover` where the journal was not recovered: it has blocks of another size (`Super`), for one.
+/// a call; `Device` where a call of the image failed in the recovery, with the system's reason; `Recover` where the
+/// journal was not recovered for another reason: it has blocks of another size (`Super`), for one.
 pub fn open<R: Files<File = File> + AllocGlobal>(
     rt: &R,
     name: &str,
@@ -60,7 +61,28 @@ pub fn open_holding<S: Start, R: Files<File = File> + AllocGlobal>(
     };
     match recover(rt.alloc(), &mut disk) {
         Ok(_) => Ok(disk),
-        Err(fault) => Err(JournalFault::Recover(fault)),
+        Err(fault) => Err(unrecovered(fault, disk.failure())),
+    }
+}
+
+/// Why an image was not opened whose recovery ended so, of which its disk tells this.
+fn unrecovered(fault: RecoverFault, told: Option<Failure>) -> JournalFault
+    ensures { result ≡ unrecovered_by fault told }
+{
+    match (fault, told) {
+        (RecoverFault::DeviceFault, Some(failure)) => JournalFault::Device(failure),
+        (fault, _) => JournalFault::Recover(fault),
+    }
+}
+
+/// Why an image was not opened of which no home was read for this, where its disk tells this.
+fn unread(fault: HomeFault, told: Option<Failure>) -> JournalFault
+    ensures { result ≡ unread_by fault told }
+{
+    match (fault, told) {
+        (HomeFault::Peek(PeekFault::HomeOutOfRange(_)), _) => JournalFault::FewerHomes,
+        (HomeFault::Peek(PeekFault::DeviceFault), Some(failure)) => JournalFault::Device(failure),
+        (fault, _) => JournalFault::ReadHome(fault),
     }
 }
 
@@ -145,8 +167,7 @@ fn open_whole<S: Start, R: Files<File = File> + AllocGlobal>(
     let size = geometry.block_size.bytes() as usize;
     match read_home(&mut disk, last, &mut block[..size]) {
         Ok(()) => Ok(disk),
-        Err(HomeFault::Peek(PeekFault::HomeOutOfRange(_))) => Err(JournalFault::FewerHomes),
-        Err(fault) => Err(JournalFault::ReadHome(fault)),
+        Err(fault) => Err(unread(fault, disk.failure())),
     }
 }
 

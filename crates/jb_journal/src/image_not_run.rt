@@ -1,6 +1,7 @@
 //! An image that was not run.
 use crate::journal_fault::JournalFault;
 use crate::not_run::NotRun;
+use jb_disk::Disk;
 use std::fmt;
 
 /// Why an image was not run, or why its run has no whole answer.
@@ -13,7 +14,7 @@ pub enum ImageNotRun<T, D> {
     Run(NotRun<T, D>),
 }
 
-impl<T, D> fmt::Display for ImageNotRun<T, D> {
+impl<T, D: Disk> fmt::Display for ImageNotRun<T, D> {
     fn fmt<W: fmt::Write>(&self, f: &mut fmt::Formatter<W>) -> fmt::Result {
         match self {
             ImageNotRun::Open(fault) => fault.fmt(f),
@@ -22,11 +23,15 @@ impl<T, D> fmt::Display for ImageNotRun<T, D> {
     }
 }
 
-impl<T: Drop, D: Drop> From<ImageNotRun<T, D>> for JournalFault {
+impl<T: Drop, D: Disk + Drop> From<ImageNotRun<T, D>> for JournalFault {
+    ghost use Rattle.jb_journal.specs.RunFaults.{TellsImageNotRun};
+
+    ghost from_gives = { λ not_run fault. TellsImageNotRun D.Disk not_run fault };
+
     fn from(not_run: ImageNotRun<T, D>) -> JournalFault {
         match not_run {
             ImageNotRun::Open(fault) => fault,
-            ImageNotRun::Run(not_run) => JournalFault::Run(not_run.fault),
+            ImageNotRun::Run(not_run) => not_run.why(),
         }
     }
 }

@@ -1,9 +1,11 @@
 //! What may go wrong in any call of the journal.
 use crate::fault::{HandleFault, HomeFault, NotDurable, RunFault};
+use crate::remedy::{Remedy, ToWorker};
 use jb_block::Memory;
 use jb_deck::ReadHomeFault;
 use jb_desk::WaitFault;
-use jb_format::FormatFault;
+use jb_disk::Failure;
+use jb_format::{ChangeFault, FormatFault};
 use jb_handle::TouchFault;
 use jb_image::{ImageFault, MakeFault};
 use jb_recover::RecoverFault;
@@ -22,13 +24,19 @@ pub enum JournalFault {
     /// The image has fewer home blocks than were asked for.
     #[error("the image has fewer home blocks than this program needs")]
     FewerHomes,
+    /// A journal was neither recovered nor opened, since this call of its disk failed, for this reason.
+    #[error("{}", Remedy(Some(*.0)))]
+    Device(Failure),
     /// No journal was made on a disk.
     #[error(transparent)]
     Format(#[from] FormatFault),
-    /// A journal was not recovered.
+    /// A journal was neither renumbered nor widened.
+    #[error(transparent)]
+    Renumber(#[from] ChangeFault),
+    /// A journal was not recovered. With `DeviceFault` its disk gives no reason.
     #[error(transparent)]
     Recover(#[from] RecoverFault),
-    /// A journal was not run.
+    /// A journal was not run. With `Open` of `DeviceFault` its disk gives no reason.
     #[error(transparent)]
     Run(#[from] RunFault),
     /// Handles that stopped may be lost, or are not home.
@@ -41,10 +49,10 @@ pub enum JournalFault {
     #[error(transparent)]
     Touch(#[from] TouchFault),
     /// A handle was not committed.
-    #[error(transparent)]
+    #[error("{}", ToWorker {has_failed: *.0 == WaitFault::Aborted, fault: .0})]
     Wait(#[from] WaitFault),
     /// A home block was not read by a worker.
-    #[error(transparent)]
+    #[error("{}", ToWorker {has_failed: *.0 == ReadHomeFault::Aborted, fault: .0})]
     Read(#[from] ReadHomeFault),
     /// A home block was not read from a journal that is not open.
     #[error(transparent)]

@@ -16,6 +16,7 @@ mod journal_fault;
 mod not_run;
 mod options;
 mod ran;
+mod remedy;
 mod room;
 mod running;
 mod running_image;
@@ -24,7 +25,7 @@ mod threads;
 mod worker;
 mod working;
 
-pub use client::Client;
+pub use client::{Client, Figures};
 pub use clock::SystemClock;
 pub use fault::{HandleFault, HomeFault, NotDurable, RunFault};
 pub use image::{open, open_holding, open_or_create, open_or_create_holding, read_home};
@@ -32,10 +33,13 @@ pub use image_not_run::ImageNotRun;
 pub use jb_block::{BlockSize, Memory, Stamp, Width};
 pub use jb_deck::{Entry, OpenFault, ReadHomeFault};
 pub use jb_desk::{BeginFault, Delay, Ended, Origin, WaitFault};
-pub use jb_disk::{Clock, Disk, Fault, FileDisk, FixedClock, MemoryDisk, Start, Unknown};
-pub use jb_format::{FormatFault, format};
+pub use jb_disk::{
+    Clock, Disk, FailedCall, Failure, FailureCause, FailureReason, Fault, FileDisk, FixedClock,
+    MemoryDisk, Start, SystemFault, Unknown,
+};
+pub use jb_format::{ChangeFault, FormatFault, Renumbered, Widened, format, renumber, widen};
 pub use jb_handle::{Handle, Payload, Shape, TouchFault, Word, Words};
-pub use jb_image::{Allocation, ImageFault, ImageGeometry, MakeFault, SystemFault};
+pub use jb_image::{Allocation, ImageFault, ImageGeometry, MakeFault};
 pub use jb_recover::{PeekFault, RecoverFault, Recovered, recover};
 pub use journal_fault::JournalFault;
 pub use not_run::NotRun;

@@ -55,11 +55,7 @@ fn aborted_hint(commit: Ended, failure: Option<Failure>) -> Hint
 }
 
 /// The same of the committer, and where it ended well, of the checkpointer.
-fn commit_hint(
-    commit: Ended,
-    checkpoint: Option<Ended>,
-    failure: Option<Failure>,
-) -> Option<Hint>
+fn commit_hint(commit: Ended, checkpoint: Option<Ended>, failure: Option<Failure>) -> Option<Hint>
     ensures { result ≡ commit_hinted failure commit checkpoint }
 {
     match commit {

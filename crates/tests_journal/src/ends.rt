@@ -2,15 +2,15 @@
 use crate::checks::{By, Host};
 use crate::journals::{by, formatted};
 use jb_journal::{
-    BlockSize, Client, Clock, Disk, Ended, FixedClock, JournalFault, NotDurable, Origin, Ran,
-    Stamp, SystemClock, WaitFault, Worker, run,
+    BlockSize, Client, Clock, Disk, Ended, FixedClock, JournalFault, MemoryDisk, NotDurable,
+    Origin, Ran, Stamp, SystemClock, WaitFault, Worker, run,
 };
 use std::alloc::Global;
 use std::process::Abort;
 use std::sync::Wait;
 use std::sync::ledger::Ledger;
 use std::time;
-use tests_support::{Bench, Must, Test, check, check_at};
+use tests_support::{Bench, Must, Test, check, check_at, zeros};
 
 /// How many of two handles are settled, how much of the log is in use, how the checkpointer ended, and why what is left
 /// is not durable.
@@ -20,7 +20,11 @@ type Row = (u64, Option<u32>, Option<Ended>, Option<NotDurable>);
 const LOST: NotDurable = NotDurable::NotSettled {
     handles: 2,
     settled: 1,
+    failure: None,
 };
+
+/// What is told of homes that are not written.
+const NOT_HOME: NotDurable = NotDurable::NotHome { failure: None };
 
 /// Runs that are durable, or why they are not.
 static ENDS: [Row; 7] = [
@@ -28,9 +32,9 @@ static ENDS: [Row; 7] = [
     (2, Some(0), None, None),
     // what is in the log is left to recovery where nothing was to write it home
     (2, Some(3), None, None),
-    (2, Some(3), Some(Ended::Aborted), Some(NotDurable::NotHome)),
-    (2, None, None, Some(NotDurable::NotHome)),
-    (2, None, Some(Ended::Aborted), Some(NotDurable::NotHome)),
+    (2, Some(3), Some(Ended::Aborted), Some(NOT_HOME)),
+    (2, None, None, Some(NOT_HOME)),
+    (2, None, Some(Ended::Aborted), Some(NOT_HOME)),
     (1, Some(0), None, Some(LOST)),
 ];
 
@@ -40,11 +44,11 @@ fn left(
     settled: u64,
     in_log: Option<u32>,
     checkpoint: Option<Ended>,
-) -> Ran<u8, u8> {
+) -> Ran<u8, MemoryDisk> {
     let mut answers = Vec::new(test.alloc());
     answers.push(7).must(test, "memory");
     Ran {
-        disk: 1,
+        disk: zeros(test, test.alloc(), BlockSize::OneKib, 3),
         answers,
         handles: 2,
         settled,
@@ -62,11 +66,14 @@ fn check_end(test: &impl Bench, row: &Row, at: u64) {
     match left(test, settled, in_log, checkpoint).durable() {
         Ok((disk, answers)) => {
             check_at(test, want.is_none(), "the end of row", at);
-            check_at(test, disk == 1, "the disk of row", at);
+            check_at(test, disk.blocks() == 3, "the disk of row", at);
             check_at(test, answers.len() == 1, "the answers of row", at);
         }
         Err(fault) => check_at(test, want == Some(fault), "the fault of row", at),
     }
+    let (disk, answers, durable) = left(test, settled, in_log, checkpoint).into_answers();
+    let is_so = durable.err() == want && disk.blocks() == 3 && answers.len() == 1;
+    check_at(test, is_so, "the parts of row", at);
 }
 
 /// Checks what is told of a lost handle.

@@ -10,6 +10,8 @@ mod delays;
 #[cfg(test)]
 mod ends;
 #[cfg(test)]
+mod figures;
+#[cfg(test)]
 mod files;
 #[cfg(test)]
 mod image_runs;
@@ -21,6 +23,8 @@ mod journals;
 mod lost;
 #[cfg(test)]
 mod makings;
+#[cfg(test)]
+mod reasons;
 #[cfg(test)]
 mod recoveries;
 #[cfg(test)]

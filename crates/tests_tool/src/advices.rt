@@ -3,6 +3,7 @@
 use crate::checks::{check_at, check_text};
 use jb_args::{Hint, OptionName, put_hint, put_reason};
 use jb_disk::{FailedCall, Failure, FailureReason, SystemFault};
+use jb_tool::CommandFault;
 use std::alloc::Global;
 use std::process::Abort;
 
@@ -133,8 +134,19 @@ fn check_reasons(rt: &impl Abort, alloc: Global) {
     }
 }
 
+/// Checks that a failed call is put into a fault of the disk, and into no other.
+fn check_failures(rt: &impl Abort) {
+    let failed = CommandFault::DeviceFault(None).with_failure(NO_ROOM);
+    let met = matches!(failed, CommandFault::DeviceFault(told) if told == NO_ROOM);
+    check_at(rt, met, "a fault of the disk", 0);
+    let other = CommandFault::Memory.with_failure(NO_ROOM);
+    let same = matches!(other, CommandFault::Memory);
+    check_at(rt, same, "another fault", 1)
+}
+
 #[test]
 fn each_hint_has_its_line(rt: HostRuntime) {
     check_rows(&rt, rt.alloc());
-    check_reasons(&rt, rt.alloc())
+    check_reasons(&rt, rt.alloc());
+    check_failures(&rt)
 }

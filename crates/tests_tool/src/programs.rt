@@ -30,7 +30,8 @@ const NO_FILE: &str = "cost --status -- --status";
 
 const UNREAD: &str = "jb: cannot read \njb:  No such file or directory (os error 2)\n";
 
-const UNREAD_HINTED: &str = "jb: cannot read \njb:  it is to be a file that may be read; an image is a \
+const UNREAD_HINTED: &str =
+    "jb: cannot read \njb:  it is to be a file that may be read; an image is a \
                              regular file or block device, and may be written too: No such file or \
                              directory (os error 2)\n";
 
@@ -40,7 +41,11 @@ static ROWS: [Row; 19] = [
     (Ok(""), [false, false], FITS),
     (Ok(""), [false, true], FITS),
     (Ok("cost ''"), [true, false], (2, "", UNREAD)),
-    (Ok("cost '' --hints -q"), [false, true], (2, "", "jb: cannot read \n")),
+    (
+        Ok("cost '' --hints -q"),
+        [false, true],
+        (2, "", "jb: cannot read \n"),
+    ),
     (Ok("cost ''"), [false, true], (2, "", UNREAD_HINTED)),
     (Ok(LOAD), [true, false], (2, "", "jb: bad option\n")),
     (Ok(LOAD), [false, true], (2, "", TOO_FEW)),

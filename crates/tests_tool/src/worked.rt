@@ -175,7 +175,11 @@ fn loads_answer_as_worked_by_hand(rt: HostRuntime) {
 /// What is loaded after a transaction of this number, and why it is not.
 static REFUSED: [(u32, &str, LoadFault); 2] = [
     (1, "bs 2048\nlimit 6\nh w1\n", LoadFault::BlockSize),
-    (0xffff_ffff, FOUR, LoadFault::Open(OpenFault::NumbersSpent, None)),
+    (
+        0xffff_ffff,
+        FOUR,
+        LoadFault::Open(OpenFault::NumbersSpent, None),
+    ),
 ];
 
 /// Checks that a load is refused, and that the journal stays as it was.

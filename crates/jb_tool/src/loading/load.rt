@@ -93,7 +93,8 @@ fn run_options(options: LoadOptions) -> Options
     }
 }
 
-/// Why a queue was not loaded, where its journal was not run or has no answer, and its disk tells this of a failed call.
+/// Why a queue was not loaded, where its journal was not run or has no answer, and its disk tells this of a failed
+/// call.
 fn fault_of(fault: RunFault, told: Option<Failure>) -> LoadFault
     requires threads { fault ≢ NoThread }
     ensures { result ≡ not_run told fault }
