@@ -33,9 +33,10 @@ const SIZE: BlockSize = BlockSize::OneKib;
 /// How many blocks the journal has.
 const JOURNAL: u32 = 256;
 
-/// How many threads ask, and for how many changes each.
+/// How many threads ask.
 const ASKERS: u32 = 4;
 
+/// For how many changes each of them asks.
 const CHANGES: u64 = 25;
 
 /// How many home blocks there are: each change is of one of its own.
