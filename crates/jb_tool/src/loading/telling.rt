@@ -90,11 +90,11 @@ fn put_advised<O: Write>(loaded: &Loaded, hint: Hint, out: &mut O) -> Result<(),
 }
 
 /// Writes so much of it, with what to do, and why the system refused a call, in these parts.
-fn put_part<O: Write>(
+fn put_part<'b, O: Write>(
     part: LoadPart,
     loaded: &Loaded,
-    hint: &[&str],
-    system: &[&str],
+    hint: &'b [&'b str],
+    system: &'b [&'b str],
     out: &mut O,
 ) -> Result<(), WriteFault>
     ensures { Puts (O.contents out.old) (O.contents out.new)
