@@ -288,7 +288,7 @@ OLD = [data(), padded(be32(MAGIC, COMMIT, 7)), data(b"no header"), padded(be32(M
 CLEARED = [data(), data(), data(b"no header"), data()]
 row("renumber a", 0, "renumbered blocks 2 next 1\n", files={"a": image(CLEAN, OLD)}, after={"a": image(superblock(0), CLEARED)})
 row("renumber a", 1, err="jb: WriteFault\n", files={"a": image(CLEAN, OLD)}, to="full", after={"a": image(superblock(0), CLEARED)})
-row("renumber a", 1, err="jb: DeviceFault\n", files={"a": image(CLEAN, OLD)}, how="trap '' XFSZ; ulimit -f 1", beside=WRITE % 1)
+row("renumber a", 1, err="jb: DeviceFault\n", files={"a": image(CLEAN, OLD)}, how="trap '' XFSZ; ulimit -f 1", beside=WRITE % 2)
 WIDENED = image(superblock(incompat=3), OLD)
 row("widen a", 0, "widened limit 8\n", files={"a": image(SMALL, OLD)}, after={"a": WIDENED})
 row("widen a", 0, "already wide limit 8\n", files={"a": WIDENED})
