@@ -36,7 +36,7 @@ UNMADE = [("REFUSE_WRITES", (1, b"", b"jb: DeviceFault\njb:  write at block 0: I
 ROWS = [
     ("cost", "cost q", {"q": QUEUE}, b""),
     ("cost, of standard input", "", {}, QUEUE),
-    ("cost, with settings", "-q cost q --status", {"q": QUEUE}, b""),
+    ("cost, with settings", "-q cost q --no-progress", {"q": QUEUE}, b""),
     ("completions", "completions bash", {}, b""),
     ("plan", "plan q", {"q": QUEUE}, b""),
     ("check", "check q c", {"q": QUEUE, "c": CERT}, b""),
