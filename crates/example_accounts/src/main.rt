@@ -19,7 +19,8 @@ mod running;
 use crate::accounts::{ACCOUNTS, Balances, Block, SIZE, balance, total};
 use crate::running::{Outcome, move_in_image, move_on_disk};
 use jb_journal::{
-    Disk, ImageGeometry, JournalFault, MemoryDisk, Ran, Unknown, Width, format, read_home,
+    Disk, Failure, HomeFault, ImageGeometry, JournalFault, MemoryDisk, PeekFault, Ran, Unknown,
+    Width, format, read_home,
 };
 use std::alloc::Global;
 use std::env;
@@ -43,13 +44,23 @@ fn held_after<D: Disk + Drop>(ran: Ran<Outcome, D>) -> Result<Balances, JournalF
     read_all(&mut disk)
 }
 
+/// Why an account was not read, where its disk tells this of the last call that failed.
+fn unread(fault: HomeFault, told: Option<Failure>) -> JournalFault {
+    match (fault, told) {
+        (HomeFault::Peek(PeekFault::DeviceFault), Some(failure)) => JournalFault::Device(failure),
+        (fault, _) => JournalFault::ReadHome(fault),
+    }
+}
+
 /// What the accounts hold, as it is committed, while no journal runs.
 fn read_all<D: Disk>(disk: &mut D) -> Result<Balances, JournalFault> {
     let mut balances: Balances = [0; ACCOUNTS];
     let mut block: Block = [0; 1024];
     for account in 0..ACCOUNTS {
-        read_home(disk, account as u64, &mut block)?;
-        balances[account] = balance(&block);
+        match read_home(disk, account as u64, &mut block) {
+            Ok(()) => balances[account] = balance(&block),
+            Err(fault) => return Err(unread(fault, disk.failure())),
+        }
     }
     Ok(balances)
 }
