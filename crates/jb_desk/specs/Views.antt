@@ -33,6 +33,17 @@ RefusesWait ticket old new wait.Aborted = new ≡ old
 RefusesWait ticket old new wait.Taken = view_of new ≡ with_settled (ticket + 1) (view_of old)
 RefusesWait ticket old new wait.Unknown = new ≡ old
 
+-- what a wait with a time limit makes of its seat: where it names a group the seat is sure that the ticket is settled,
+-- and where the time has gone by it is as it was
+abbrev pub WaitsFor : {H N : Type 0} {O : Ghosts H} {P : Places H} → ℕ → Seat H N O P → Seat H N O P → Option ℕ → Type 0
+WaitsFor ticket old new None = new ≡ old
+WaitsFor ticket old new (Some number) = view_of new ≡ with_settled (ticket + 1) (view_of old)
+
+-- nothing more is seen where the time of a wait has gone by
+abbrev pub IsLate : {S : Type 0} → S → S → Option ℕ → Type 0
+IsLate old new None = new ≡ old
+IsLate old new (Some number) = Unit {0}
+
 -- what the commit of a taken batch makes of them: the batch is settled whole, or after a fault of the disk a prefix of
 -- it and not all, or nothing is
 abbrev pub SeesCommit : Gathered → Front → Front → Result Round RoundFault → Type 0

@@ -45,7 +45,7 @@ impl<H: Origin, N: Ledger> fmt::Display for StopFault<H, N> {
 #[derive(Clone, Copy, Debug, PartialEq, Eq, Error)]
 pub enum WaitFault {
     /// The journal has failed, and the ticket is not settled.
-    #[error("the journal has failed before the handle was settled; start the program anew and recover it")]
+    #[error("the journal has failed before the handle was settled; the end of the run says why, and what to do")]
     Aborted,
     /// The ticket is settled, and the entry of its group was taken from the trail.
     #[error("the handle is settled; its transaction is among the entries that were taken from the trail")]

@@ -87,6 +87,7 @@ static ROWS: [Row; 3] = [
             stopped: 1,
             settled: 1,
             in_log: Some(3),
+            waiting: 0,
         },
     },
     Row {
@@ -99,6 +100,7 @@ static ROWS: [Row; 3] = [
             stopped: 1,
             settled: 0,
             in_log: Some(0),
+            waiting: 0,
         },
     },
     // the journal is opened by 34 calls
@@ -112,6 +114,7 @@ static ROWS: [Row; 3] = [
             stopped: 1,
             settled: 0,
             in_log: None,
+            waiting: 0,
         },
     },
 ];
@@ -135,10 +138,12 @@ fn check_figures(test: &impl Test, row: &Row, found: Figures) {
         stopped,
         settled,
         in_log,
+        waiting,
     } = found;
     let want = row.figures;
     check_in(test, stopped == want.stopped, row.name, "stopped:", stopped);
     check_in(test, settled == want.settled, row.name, "settled:", settled);
+    check_in(test, waiting == 0, row.name, "waiting:", waiting);
     let blocks = u64::from(in_log.unwrap_or(u32::MAX));
     check_in(
         test,

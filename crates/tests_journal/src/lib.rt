@@ -32,6 +32,8 @@ mod seeing;
 #[cfg(test)]
 mod telling;
 #[cfg(test)]
+mod timed;
+#[cfg(test)]
 mod trails;
 #[cfg(test)]
 mod workers;

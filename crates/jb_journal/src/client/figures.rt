@@ -19,6 +19,8 @@ pub struct Figures {
     pub settled: u64,
     /// How many blocks of the log are in use by transactions that are not home; `None` where the journal has failed.
     pub in_log: Option<u32>,
+    /// How many handles wait for room in the log.
+    pub waiting: u64,
 }
 
 impl<'a, D: Disk, C: Clock, R: Wait + time::Clock, H: Origin, N: Ledger> Client<'a, D, C, R, H, N> {
@@ -29,7 +31,8 @@ impl<'a, D: Disk, C: Clock, R: Wait + time::Clock, H: Origin, N: Ledger> Client<
         requires client { IsClient H.begun self.old }
         ensures client { IsClient H.begun self.new }
         /// With `ordered`, `rises`: The figures count the handles that the client is sure to have stopped and to be
-        /// settled. They never fall.
+        /// settled. They never fall. How many wait is tested. [But
+        /// see](docs/WRONG_BODIES.md#the-calls-of-a-desk).
         ensures counts { (result.stopped ≡ (seen_by self.new).stopped) × (result.settled ≡ (seen_by self.new).settled) }
         ensures ordered { result.settled ≤ result.stopped }
         ensures rises { IsWithin (seen_by self.old) (seen_by self.new) }
@@ -39,7 +42,7 @@ impl<'a, D: Disk, C: Clock, R: Wait + time::Clock, H: Origin, N: Ledger> Client<
         ensures kept { client_stops self.new ≡ client_stops self.old }
     {
         let (rt, desk) = (self.rt, self.desk);
-        let in_log = log_in_use(rt, desk);
+        let (in_log, waiting) = (log_in_use(rt, desk), desk.waiting(rt));
         let Client { seat, .. } = self;
         let Some(counted) = seat else { unreachable!() };
         let front = desk.front(&mut counted.seat);
@@ -47,6 +50,7 @@ impl<'a, D: Disk, C: Clock, R: Wait + time::Clock, H: Origin, N: Ledger> Client<
             stopped: front.stopped,
             settled: front.settled,
             in_log,
+            waiting,
         }
     }
 }
