@@ -19,7 +19,8 @@ mod running;
 use crate::accounts::{ACCOUNTS, Balances, Block, SIZE, balance, total};
 use crate::running::{Outcome, move_in_image, move_on_disk};
 use jb_journal::{
-    Disk, ImageGeometry, JournalFault, MemoryDisk, Ran, Unknown, Width, format, read_home,
+    Disk, Failure, HomeFault, ImageGeometry, JournalFault, MemoryDisk, PeekFault, Ran,
+    ReadHomeFault, Unknown, Width, format, read_home,
 };
 use std::alloc::Global;
 use std::env;
@@ -37,10 +38,29 @@ const JOURNAL: u32 = 1024;
 /// What the accounts hold, once all that was moved is committed.
 fn held_after<D: Disk + Drop>(ran: Ran<Outcome, D>) -> Result<Balances, JournalFault> {
     let (mut disk, answers) = ran.durable()?;
+    let told = disk.failure();
     for answer in answers {
-        answer?;
+        if let Err(fault) = answer {
+            return Err(with_reason(fault, told));
+        }
     }
-    read_all(&mut disk)
+    match read_all(&mut disk) {
+        Ok(balances) => Ok(balances),
+        Err(fault) => Err(with_reason(fault, disk.failure())),
+    }
+}
+
+/// The same fault, with this call of the disk as the one that failed, where it is a read of a home that failed.
+fn with_reason(fault: JournalFault, told: Option<Failure>) -> JournalFault {
+    match (fault, told) {
+        (JournalFault::Read(ReadHomeFault::DeviceFault), Some(failure)) => {
+            JournalFault::Device(failure)
+        }
+        (JournalFault::ReadHome(HomeFault::Peek(PeekFault::DeviceFault)), Some(failure)) => {
+            JournalFault::Device(failure)
+        }
+        (fault, _) => fault,
+    }
 }
 
 /// What the accounts hold, as it is committed, while no journal runs.
