@@ -58,6 +58,10 @@ class Copy:
             for part in PARTS + (("out/rlib",) if with_libraries and name != crate else ()):
                 if os.path.isdir(os.path.join(of, part)):
                     shutil.copytree(os.path.join(of, part), os.path.join(self.top, "crates", name, part), copy_function=link)
+        kept = os.path.join(ROOT, "crates", crate, "out", "incremental")
+        if with_libraries and os.path.isdir(kept):
+            # what a check of the crate kept, as of its lemmas: it is written to
+            shutil.copytree(kept, os.path.join(self.top, "crates", crate, "out", "incremental"))
 
     def __enter__(self):
         return self
@@ -183,13 +187,20 @@ def write_twins(copy, twins):
     for file in {twin.function.file for twin in twins}:
         text, at = text_of(file), 0
         here = sorted((twin for twin in twins if twin.function.file == file and not twin.is_unread), key=lambda twin: twin.function.end)
-        parts = []
+        parts, outside = [], [change for twin in here if twin.body for change in twin.body.outside(twin.function) if change.file == file]
         for twin in here:
-            parts += [text[at:twin.function.end], "\n\n"]
+            parts += [with_changes(text[at:twin.function.end], outside), "\n\n"]
             at, first = twin.function.end, "".join(parts).count("\n") + 1
             parts.append(twin.text())
             twin.lines = range(first, first + twin.text().count("\n") + 1)
-        copy.write(file, "".join(parts) + text[at:])
+        copy.write(file, "".join(parts) + with_changes(text[at:], outside))
+
+
+def with_changes(text, changes):
+    """A part of a source with what an edit changes there beside its function."""
+    for change in changes:
+        text = text.replace(change.old, change.new)
+    return text
 
 
 def drop_unread(twins, said):

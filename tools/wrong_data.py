@@ -28,8 +28,10 @@ class Function:
         return re.findall(r"^ *ensures (?:(\w+) )?\{", self.head, re.M)
 
     def module(self):
-        """The modules that it stands in, from the crate's root on."""
-        return module_of(self.file).split("::")[:-1]
+        """The modules that it stands in, from the crate's root on: of a method those of its type, wherever its `impl` is."""
+        crate, owner = self.file.split("/")[1], self.name.rpartition("::")[0]
+        found = (f"crates/{crate}/{file}" for file in files(crate, "src", ".rt") if owner and is_declared(owner, crate, file))
+        return module_of(next(found, self.file)).split("::")[:-1]
 
 
 def functions_of(file):
@@ -38,9 +40,27 @@ def functions_of(file):
         yield Function(file, text, at, owner, name, head)
 
 
+def is_declared(name, crate, file):
+    return re.search(r"^(?:pub(?:\(\w+\))? )?(?:struct|enum|union|trait) %s\b" % name, text_of("crates", crate, file), re.M)
+
+
 def function_at(file, old):
     """The function in whose text another text stands, or None."""
     return next((function for function in functions_of(file) if old in function.text), None)
+
+
+def pairs_of_edit(crate, name):
+    """The changes of an edit of must-fail/."""
+    path, pairs, file = os.path.join("crates", crate, "must-fail", name + ".edit"), [], None
+    for line in text_of(path).splitlines() if os.path.isfile(os.path.join(ROOT, path)) else []:
+        kind, _, text = line.partition(": ")
+        if kind == "file":
+            file = text.strip()
+        elif kind == "old":
+            pairs.append({"file": file, "old": text})
+        elif kind == "new":
+            pairs[-1]["new"] = text
+    return pairs
 
 
 class Change:
@@ -63,6 +83,8 @@ class Body:
         self.crate, self.number, self.given = crate, number, given
         self.loses = given.get("loses")
         pairs = given.get("change", [given] if "old" in given else [])
+        if "edit" in given and "clause" in given:
+            pairs = pairs_of_edit(crate, given["edit"])
         self.changes = [Change(crate, {"file": given.get("file"), **pair}) for pair in pairs]
         self.edit, self.function, self.clause = given.get("edit"), None, None
         self.tests, _, self.test = given.get("test", "").partition(" ")
@@ -73,25 +95,33 @@ class Body:
             self.function = given["function"]
 
     def stands_in(self):
-        """The function whose body it is, or None."""
-        found = {function_at(change.file, change.old) for change in self.changes[:1]}
-        return found.pop() if found else None
+        """The function whose body it is, or None. An edit may change more than that: what its body calls, and the imports."""
+        if not self.edit:
+            return function_at(self.changes[0].file, self.changes[0].old) if self.changes else None
+        there = (function_at(change.file, change.old) for change in self.changes)
+        return next((function for function in there if function and function.name == self.function), None)
 
     def put_into(self, function):
         """The function's text with this body, and under another name."""
         text = function.text
         for change in self.changes:
-            text = text.replace(change.old, change.new)
+            if change.old in function.text:
+                text = text.replace(change.old, change.new)
         return text
+
+    def outside(self, function):
+        """The changes that stand outside of the function."""
+        return [change for change in self.changes if change.old not in function.text]
 
     def faults(self):
         yield from filter(None, (change.fault() for change in self.changes))
         kinds = [kind for kind in ("clause", "test", "edit", "function") if kind in self.given]
-        if len(kinds) != 1 or ("function" in self.given) == bool(self.loses):
-            yield "it names not one of a clause, a test and an edit"
-        elif self.edit:
-            if not os.path.isfile(os.path.join(ROOT, "crates", self.crate, "must-fail", self.edit + ".edit")):
-                yield f"there is no edit {self.edit}"
+        if len(kinds) != 1 and kinds != ["clause", "edit"] or ("function" in self.given) == bool(self.loses):
+            yield "it names not one of a clause, a test and an edit, and no edit with its clause"
+        elif self.edit and not os.path.isfile(os.path.join(ROOT, "crates", self.crate, "must-fail", self.edit + ".edit")):
+            yield f"there is no edit {self.edit}"
+        elif self.edit and not self.clause:
+            return
         elif not self.changes:
             yield "it has no body"
         elif self.test:
@@ -103,7 +133,7 @@ class Body:
 
     def faults_of_clause(self):
         found = self.stands_in()
-        if not found or found.name != self.function or any(change.old not in found.text for change in self.changes):
+        if not found or found.name != self.function or (not self.edit and self.outside(found)):
             yield f"an old text is not in the body of {self.function}"
         elif self.clause and self.clause not in [clause or ONLY for clause in found.clauses()]:
             yield f"{self.function} has no clause {self.clause}"

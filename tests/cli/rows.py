@@ -19,7 +19,8 @@ def row(words, status, out="", err="", files=(), stdin=b"", after=(), how="", to
     to        standard output: a pipe, a pipe that nobody reads (`gone`), or a full device (`full`)
     terminal  which of standard input (`in`) and standard error (`err`) is a terminal; on that one the line of `err` has a second one
               after it, what the program's own help says of the first
-    beside    what that one says beside the words of the help; of an option its name alone, as the help says what it may be
+    beside    what that one says beside the words of the help; of an option its name alone, as the help says what it may be. The system's reason
+              is on a second line in a pipe, too
     out, err  the two outputs, byte by byte; a function judges the text instead"""
     ROWS.append(dict(words=words, status=status, out=out, err=err, files=dict(files), stdin=stdin, after=dict(after), how=how, to=to,
                      terminal=terminal, locked=locked, beside=beside))
@@ -39,6 +40,8 @@ FOUR = "w1 w2/w3 w4/w3 w4/w3 w4 w5"
 MISSING, THERE, NO_FOLDER, FOLDER, LARGE = ("No such file or directory (os error 2)", "File exists (os error 17)", "Not a directory (os error 20)",
                                             "Is a directory (os error 21)", "File too large (os error 27)")
 LONG_NAME = "File name too long (os error 36)"
+# a write past the limit of the file size, at a block
+WRITE = "write at block %d: " + LARGE
 # the most bytes of a queue text, and of a certificate
 LONG = 16_777_216
 LONGEST = 9 * LONG
@@ -280,14 +283,14 @@ row("recover a", 1, err="jb: HomeOutOfRange 16 2\n", files={"a": image(superbloc
 row("recover a", 1, err="jb: HomeOutOfRange 16 2\n", files={"a": image(superblock(2, 1), OUT_OF_RANGE, homes=3)}, beside="3")
 row("recover a", 1, err="jb: WriteFault\n", files={"a": FULL}, to="full", after={"a": RECOVERED})
 # home block 5 is past what the shell lets a file grow to, so its write fails and the journal is not emptied
-row("recover a", 1, err="jb: DeviceFault\n", files={"a": FULL}, how="trap '' XFSZ; ulimit -f 36")
+row("recover a", 1, err="jb: DeviceFault\n", files={"a": FULL}, how="trap '' XFSZ; ulimit -f 36", beside=WRITE % 38)
 OLD = [data(), padded(be32(MAGIC, COMMIT, 7)), data(b"no header"), padded(be32(MAGIC))]
 CLEARED = [data(), data(), data(b"no header"), data()]
 row("renumber a", 0, "renumbered blocks 2 next 1\n", files={"a": image(CLEAN, OLD)}, after={"a": image(superblock(0), CLEARED)})
 row("renumber a", 1, err="jb: WriteFault\n", files={"a": image(CLEAN, OLD)}, to="full", after={"a": image(superblock(0), CLEARED)})
-row("renumber a", 1, err="jb: DeviceFault\n", files={"a": image(CLEAN, OLD)}, how="trap '' XFSZ; ulimit -f 1")
+row("renumber a", 1, err="jb: DeviceFault\n", files={"a": image(CLEAN, OLD)}, how="trap '' XFSZ; ulimit -f 1", beside=WRITE % 1)
 WIDENED = image(superblock(incompat=3), OLD)
 row("widen a", 0, "widened limit 8\n", files={"a": image(SMALL, OLD)}, after={"a": WIDENED})
 row("widen a", 0, "already wide limit 8\n", files={"a": WIDENED})
 row("widen a", 1, err="jb: WriteFault\n", files={"a": image(SMALL, OLD)}, to="full", after={"a": WIDENED})
-row("widen a", 1, err="jb: DeviceFault\n", files={"a": image(SMALL, OLD)}, how="trap '' XFSZ; ulimit -f 0")
+row("widen a", 1, err="jb: DeviceFault\n", files={"a": image(SMALL, OLD)}, how="trap '' XFSZ; ulimit -f 0", beside=WRITE % 0)

@@ -4,7 +4,7 @@ import re
 from images import image, superblock
 from json_text import are_json, is_json
 from rows import BAD_QUEUES, BAD_SUPERS, BASIC, CLEAN, CLEARED, FOUR, FULL, HANDLE, MADE, OLD, OUT_OF_RANGE, PICTURE, PLANS, RECOVERED, ROWS, SMALL, THREE, TWO_COPIES
-from rows import WIDENED, queue, row
+from rows import MISSING, WIDENED, WRITE, queue, row
 from rows_load import LOADED
 from rows_words import begins  # (the rows over words come before)
 
@@ -13,13 +13,14 @@ def said(kind, **members):
     return is_json(kind, members)
 
 
-def fault(name, *numbers, file=None, reason=None, hint=None):
-    """A fault of this name; what it says is the name and its numbers where no other is given, and what to do is some text where none is."""
+def fault(name, *numbers, file=None, reason=None, hint=None, system=None):
+    """A fault of this name; what it says is the name and its numbers where no other is given, and what to do is some text where none is; the system's reason is
+    there where one is given."""
 
     def judge(text):
-        found = re.search(r'"hint":"((?:[^"\\]|\\.)+)"\}\n$', text)
+        found = re.search(r'"hint":"((?:[^"\\]|\\.)+)"(?:,"system":"[^"]*")?\}\n$', text)
         value = dict(fault=name, numbers=list(numbers), file=file, reason=reason or " ".join([name, *map(str, numbers)]), hint=hint or (found and found.group(1)))
-        return bool(found) and is_json("fault", value)(text)
+        return bool(found) and is_json("fault", {**value, **({"system": system} if system else {})})(text)
 
     return judge
 
@@ -67,10 +68,10 @@ for cert, members in [
 
 
 
-def loaded(handles, changes, settled, groups, blocks, *numbers, refused=None, commit=None, hint=None):
+def loaded(handles, changes, settled, groups, blocks, *numbers, refused=None, commit=None, hint=None, system=None):
     """What a load says that had no checkpointer."""
     value = dict(handles=handles, changes=changes, settled=settled, groups=groups, blocks=blocks, refused=refused, numbers=list(numbers), commit=commit, checkpoint=None)
-    return said("load", **value, **({"hint": hint} if hint else {}))
+    return said("load", **value, **({"hint": hint} if hint else {}), **({"system": system} if system else {}))
 
 
 FAR = "home blocks are numbered from 0, and the image has so many: 16"
@@ -78,7 +79,8 @@ row("load a q --json", 0, loaded(1, 2, 1, 1, 4), files={"a": image(SMALL), "q": 
 row("load a q --json", 1, loaded(0, 0, 0, 0, 0, 0, 16, refused="OutOfRange", hint=FAR), files={"a": image(SMALL), "q": queue("w16")})
 row("load a q --hold --json", 1, loaded(1, 2, 1, 1, 4, 1, 16, refused="OutOfRange", hint=FAR), files={"a": image(SMALL), "q": queue(HANDLE + "/w16/w1")},
     after={"a": LOADED}, terminal="err")
-row("load a q --hold --json", 1, loaded(1, 2, 0, 0, 0, commit="Aborted", hint="a read, write or sync of the image failed: run jb recover on it, and see what it holds"),
+row("load a q --hold --json", 1, loaded(1, 2, 0, 0, 0, commit="Aborted", system=WRITE % 1,
+                                             hint="have the limit of a file's size raised (ulimit -f); then run jb recover on the image, and see what it holds: " + WRITE % 1),
     files={"a": image(SMALL), "q": queue(HANDLE)}, how="trap '' XFSZ; ulimit -f 1", after={"a": image(superblock(2, 1))})
 row("load a q --json", 1, err=fault("BlockSize"), files={"a": image(SMALL), "q": queue(HANDLE, first="bs 2048")})
 row("load a q --json", 1, err=fault("WriteFault"), files={"a": image(SMALL), "q": queue(HANDLE)}, to="full", after={"a": LOADED})
@@ -134,11 +136,12 @@ row("recover b --journal j --json", 1, err=fault("Super Geometry", file="j"), fi
 for name in ['q"', "q\\", "q\\n", "^", "q\t", "\x01\x1f\x7f", "q/\u202e\u00e9\u0085", "''"]:
     given = name.replace("''", "").replace("^", "\n").replace("\t", "\t")
     if not set(name) & set("\t"):
-        row("cost %s --json" % name, 2, err=fault("cannot read", file=given))
+        row("cost %s --json" % name, 2, err=fault("cannot read", file=given, system=MISSING))
 NOT_THERE = ("it is to be a file that may be read; an image is a regular file or block device, and may be written too: "
              "No such file or directory (os error 2)")
 # the hint has what a second line says, also where that is not asked for; a terminal has no second line then
 for words in ("recover a --json", "recover a --json -q", "recover a --hints --json"):
-    row(words, 2, err=fault("cannot read", file="a", hint=NOT_THERE), terminal="err")
+    row(words, 2, err=fault("cannot read", file="a", hint=NOT_THERE, system=MISSING), terminal="err")
+row("recover a --json", 1, err=fault("DeviceFault", system=WRITE % 38), files={"a": FULL}, how="trap '' XFSZ; ulimit -f 36")
 # what is wrong with the words is text
 row("recover --json", 2, err=begins("error: "))

@@ -1,6 +1,6 @@
 """Rows of the table: loads, and closed descriptors."""
 from images import BS, LAST_TAG, SAME_UUID, commit, data, descriptor, image, superblock
-from rows import BASIC, BLOCK_5, CLEAN, CLEARED, FULL, HANDLE, MADE, OLD, ONE, OUT_OF_RANGE, RECOVERED, SMALL, WIDENED, queue, row
+from rows import BASIC, BLOCK_5, CLEAN, CLEARED, FULL, HANDLE, MADE, OLD, ONE, OUT_OF_RANGE, RECOVERED, SMALL, WIDENED, WRITE, queue, row
 from rows_places import over, parted, system
 
 LOADED = image(superblock(2, 1), ONE)
@@ -42,7 +42,7 @@ row("load a q --hold", 1, "handles 5 changes 30 settled 5 groups 1 blocks 8\n", 
     files={"a": image(SMALL), "q": queue("/".join(["w0 w1 w2 w3 w4 w5"] * 6))},
     after={"a": image(superblock(2, 1), TWO_HANDLES[:8])})
 row("load a q --hold", 1, "handles 1 changes 2 settled 0 groups 0 blocks 0\n", "jb: commit Aborted\n", files={"a": image(SMALL), "q": queue(HANDLE)},
-    how="trap '' XFSZ; ulimit -f 1", after={"a": image(superblock(2, 1))})
+    how="trap '' XFSZ; ulimit -f 1", after={"a": image(superblock(2, 1))}, beside=WRITE % 1)
 row("load a q", 1, err="jb: WriteFault\n", files={"a": image(SMALL), "q": queue(HANDLE)}, to="full", after={"a": LOADED})
 
 # ---- closed descriptors ------------------------------------------------------------------------------------------------------

@@ -1,6 +1,6 @@
 """Rows of the table: file systems, whose own journal is found by their superblock."""
 from images import BS, commit, data, image, revoke, shown, superblock
-from rows import CLEAN, CLEARED, DUMPED, FULL, GLANCE, MISSING, OLD, ONE, OUT_OF_RANGE, RECOVERED, SMALL, TWO_AND_REVOKED, WIDENED, row
+from rows import CLEAN, CLEARED, DUMPED, FULL, GLANCE, MISSING, OLD, ONE, OUT_OF_RANGE, RECOVERED, SMALL, TWO_AND_REVOKED, WIDENED, WRITE, row
 from rows_load import LOADED  # noqa: F401  (the rows of loads come before)
 from rows_places import LINE, NINE, parted, within
 from systems import BLOCK_MAP, EXTENTS, PLACES, ext, le
@@ -94,7 +94,7 @@ for words in "renumber a", "widen a":
         row(words + more, 0, line, files=ext(before, uuid=bytes(16)), after=ext(after, uuid=bytes(16)))
         row(words + more, 2, err="jb: in use a\n", files=ext(before), locked="a")
         row(words + more, 1, err="jb: WriteFault\n", files=ext(before), to="full", after=ext(after))
-        row(words + more, 1, err="jb: DeviceFault\n", files=ext(before), how="trap '' XFSZ; ulimit -f 16")
+        row(words + more, 1, err="jb: DeviceFault\n", files=ext(before), how="trap '' XFSZ; ulimit -f 16", beside=WRITE % 20)
     row(words + " --extents 20-52", 1, err="jb: NeedsRecovery\n", files=within(FULL, [(20, 33)]))
     row(words + " --extents 20-52", 1, err="jb: Extents Nothing\n", files=within(image(superblock(2, 1)), [(20, 33)]))
     # the superblock's copy of the map serves, as it does a recovery

@@ -3,7 +3,7 @@ import struct
 
 from images import BS, LAST_TAG, UUID, commit, data, descriptor, image, revoke, superblock
 from rows import BLOCK_5, CLEAN, CLEARED, FULL, HANDLE, MISSING, OLD, ONE, OUT_OF_RANGE, RECOVERED, SMALL, TWO_AND_REVOKED, TWO_COPIES
-from rows import queue, row
+from rows import WRITE, queue, row
 from systems import ext
 
 
@@ -61,7 +61,7 @@ for name, shown in (("two^lines", "two\\x0alines"), ("\x1b[2J\x7f", "\\x1b[2J\\x
     row("recover a --journal " + name, 1, err="jb: Super NoMagic %s\n" % shown, files={"a": FULL, name.replace("^", "\n"): bytes(33 * BS)})
 row("cost " + "\x01" * 2000, 2, err="jb: cannot read %s\n" % ("\\x01" * 2000), beside="File name too long (os error 36)")
 # home block 5 is past what the shell lets a file grow to, so its write fails and the journal is not emptied
-row("recover a --journal j", 1, err="jb: DeviceFault\n", files=parted(FULL), how="trap '' XFSZ; ulimit -f 4")
+row("recover a --journal j", 1, err="jb: DeviceFault\n", files=parted(FULL), how="trap '' XFSZ; ulimit -f 4", beside=WRITE % 5)
 # ---- a journal within its file system, and file systems -----------------------------------------------------------------------
 
 

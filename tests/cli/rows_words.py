@@ -291,4 +291,6 @@ for some in [some for some in ROWS if isinstance(some["err"], str) and some["err
         # and in a pipe, with the second line and the finer status, by words and by the environment
         ROWS.append({**some, "words": "--hints " + some["words"] if some["words"] else "--hints"})
         ROWS.append({**some, "words": "--status " + some["words"] if some["words"] else "--status"})
+        # -q leaves the system's reason out
+        ROWS.append({**some, "words": "-q " + some["words"] if some["words"] else "-q"})
         ROWS.append({**some, "how": "export JB_HINTS=1 JB_STATUS=1; " + some["how"] if some["how"] else "export JB_HINTS=1 JB_STATUS=1"})

@@ -1,4 +1,5 @@
 """What safe_anywhere.py runs `jb` with: one run, the folder as it is before each, and what was not as it must be."""
+import errno
 import os
 import subprocess
 import sys
@@ -37,6 +38,12 @@ def run(words, closed=(), stdin=b"", before=None, wait=20, by=()):
             p.kill()
             p.communicate()
             return None, b"", b""
+
+
+def reason(error):
+    """The second line of a fault that has the system's reason alone."""
+    number = getattr(errno, error)
+    return b"jb:  %s (os error %d)\n" % (os.strerror(number).encode(), number)
 
 
 def fresh(files):

@@ -3,7 +3,7 @@ import os
 import shutil
 import time
 
-from anywhere import QUEUE, SIZES, all_files, expect, fresh, made, run
+from anywhere import QUEUE, SIZES, all_files, expect, fresh, made, reason, run
 
 
 LINK = "?link,linkat"
@@ -33,7 +33,7 @@ def links():
     ]:
         fresh({})
         got = run(["format", "new", *SIZES], by=refused(LINK, error))
-        expect("link: %s" % error, got == (2, b"", line) and not os.listdir("."), got, os.listdir("."))
+        expect("link: %s" % error, got == (2, b"", line + reason(error) * (b"cannot" in line)) and not os.listdir("."), got, os.listdir("."))
         runs += 1
     # a file that comes by the name while the image is made stays: strace would hold a rename back for two seconds
     fresh({})
@@ -67,11 +67,13 @@ def locks():
             fresh({"image": new if words[0] in ["renumber", "widen", "load"] else loaded, "queue": QUEUE})
             before = all_files()
             got = run(words, by=refused("flock", error))
-            good = got[0] == 0 if line is None else got == (2, b"", line) and all_files() == before
+            good = got[0] == 0 if line is None else got == (2, b"", line + reason(error) * (b"cannot" in line)) and all_files() == before
             expect("flock %s: %s" % (error, words), good, got)
         fresh({})
         got = run(["format", "new", *SIZES], by=refused("flock", error))
-        good = got[0] == 0 and os.listdir(".") == ["new"] if line is None else got == (2, b"", b"jb: cannot make new\n") and not os.path.exists("new")
+        # a lock that another program has is no refusal of the system
+        unmade = (2, b"", b"jb: cannot make new\n" + reason(error) * (error != "EAGAIN"))
+        good = got[0] == 0 and os.listdir(".") == ["new"] if line is None else got == unmade and not os.path.exists("new")
         # who was there first and has the lock removes the file
         left = [] if line is None or error != "EAGAIN" else ["new.jb-unfinished"]
         expect("flock %s: format" % error, good and (line is None or os.listdir(".") == left), got, os.listdir("."))

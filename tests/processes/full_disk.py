@@ -11,18 +11,21 @@ and a recovery fail, and are done once there is room. Prints a line for each par
 import contextlib
 import os
 import pty
+import re
 import shutil
 import subprocess
 import sys
 import tempfile
 import tty
 
-KIB = 1024
+sys.dont_write_bytecode = True
+from disks import KIB, content, disk, enlarge, fill, free  # noqa: E402
+
 JB, STORE, ACCOUNTS = (os.path.abspath(word) for word in sys.argv[1:4])
 SIZES = ["--bs", "1024", "--journal", "512", "--homes", "1024"]
 LENGTH = (512 + 1024) * KIB
 MADE = (0, b"formatted limit 127\n", b"")
-UNMADE = (2, b"", b"jb: cannot make a\n")
+UNMADE = b"jb: cannot make a\n"
 NO_SPACE = b"No space left on device (os error 28)"
 # handles that touch each home block, more of them than the log has room for
 HANDLES = ["h %s\n" % " ".join("w%d=%02x" % (home, 1 + home % 250) for home in range(at, at + 32)) for at in range(0, 1024, 32)]
@@ -65,22 +68,10 @@ def has_room(name):
         return os.fstat(file.fileno()).st_blocks * 512 >= size and os.lseek(file.fileno(), 0, os.SEEK_HOLE) == size
 
 
-def content(name):
-    with open(name, "rb") as file:
-        return file.read()
-
-
 def queue(name, handles):
     """A file with these handles as a queue text."""
     with open(name, "w", encoding="ascii") as file:
         file.write("bs 1024\nlimit 127\n" + "".join(handles))
-
-
-def fill(name):
-    """Takes all room that the disk has left."""
-    with open(name, "wb", buffering=0) as file, contextlib.suppress(OSError):
-        while file.write(bytes(KIB)):
-            pass
 
 
 def keeps_zeros():
@@ -143,34 +134,12 @@ def refused():
                 expect("write %d is interrupted" % number, found == (0, b"formatted limit 8\n", b"") and has_room("a"), found)
                 os.remove("a")
             else:
-                expect("write %d: %s" % (number, error), found == UNMADE and not os.listdir("."), found, os.listdir("."))
+                is_named = found[:2] == (2, b"") and re.fullmatch(UNMADE + b"jb:  .*" + re.escape(reason) + b"\n", found[2])
+                expect("write %d: %s" % (number, error), is_named and not os.listdir("."), found, os.listdir("."))
                 text = told([*by, *words])
-                expect("the reason of %s" % error, text.startswith(UNMADE[2]) and text.endswith(reason + b"\n") and not os.listdir("."), text)
+                expect("the reason of %s" % error, text.startswith(UNMADE) and text.endswith(reason + b"\n") and not os.listdir("."), text)
             runs += 1
     print("refused writes: %d runs" % runs)
-
-
-@contextlib.contextmanager
-def disk(kib):
-    """A disk with so much room, as the folder where a program starts; None where none can be mounted."""
-    here = os.getcwd()
-    with tempfile.TemporaryDirectory() as folder:
-        mounted = subprocess.run(["mount", "-t", "tmpfs", "-o", "size=%dk" % kib, "none", folder], stderr=subprocess.DEVNULL).returncode == 0
-        try:
-            os.chdir(folder)
-            yield folder if mounted else None
-        finally:
-            os.chdir(here)
-            if mounted:
-                subprocess.run(["umount", "-l", folder], check=True)
-
-
-def free():
-    return os.statvfs(".").f_bfree
-
-
-def enlarge(folder, kib):
-    subprocess.run(["mount", "-o", "remount,size=%dk" % kib, folder], check=True)
 
 
 def formatted(folder, kib):
@@ -178,9 +147,9 @@ def formatted(folder, kib):
     before, words = free(), [JB, "format", "a", *SIZES]
     found = run(words)
     if kib * KIB < LENGTH:
-        expect("a disk of %d KiB" % kib, found == UNMADE and not os.listdir(".") and free() == before, found, os.listdir("."), free(), before)
+        expect("a disk of %d KiB" % kib, found == (2, b"", UNMADE + b"jb:  " + NO_SPACE + b"\n") and not os.listdir(".") and free() == before, found, os.listdir("."), free(), before)
         text = told(words)
-        expect("the reason on a disk of %d KiB" % kib, text.startswith(UNMADE[2]) and text.endswith(NO_SPACE + b"\n"), text)
+        expect("the reason on a disk of %d KiB" % kib, text.startswith(UNMADE) and text.endswith(NO_SPACE + b"\n"), text)
         enlarge(folder, 4096)
         found = run(words)
     expect("where it fits, with %d KiB" % kib, found == MADE and has_room("a"), found)
@@ -221,21 +190,23 @@ def sparse(folder):
     queue("few", HANDLES[:8])
     fill("filler")
     found = run([JB, "load", "a", "all"])
-    expect("a load on a full disk", found[0] == 1 and b" settled 0 " in found[1] and b"jb: commit Aborted\n" in found[2], found)
+    expect("a load on a full disk", found[0] == 1 and b" settled 0 " in found[1] and re.search(b"jb: commit Aborted\njb:  write at block \\d+: " + re.escape(NO_SPACE), found[2]), found)
     os.remove("filler")
     run([JB, "recover", "a"])
     found = run([JB, "load", "a", "few"])
     expect("a load where the log has room", found[0] == 0 and b" settled 8 " in found[1], found)
     fill("filler")
     found = run([JB, "recover", "a"])
-    expect("a recovery on a full disk", found == (1, b"", b"jb: DeviceFault\n"), found)
+    expect("a recovery on a full disk", found[:2] == (1, b"") and re.fullmatch(b"jb: DeviceFault\njb:  write at block \\d+: %s\n" % re.escape(NO_SPACE), found[2]), found)
+    text = told([JB, "recover", "a"])
+    expect("what is advised", re.fullmatch(b"jb: DeviceFault\njb:  make room on its file system; then .*: write at block \\d+: %s\n" % re.escape(NO_SPACE), text), text)
     os.remove("filler")
     enlarge(folder, 4096)
     found = run([JB, "recover", "a"])
     expect("a recovery where there is room", found[0] == 0 and b" copies 256 " in found[1], found)
     found = run([JB, "load", "a", "all", "--checkpoint"])
     expect("a load where there is room", found[0] == 0 and b" settled 32 " in found[1], found)
-    print("a sparse image: 7 runs")
+    print("a sparse image: 8 runs")
 
 
 def full():

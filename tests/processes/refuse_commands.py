@@ -30,7 +30,7 @@ SPENT = image(superblock(4294967295))
 MEMORY = (1, b"", b"jb: Memory\n")
 FORMAT = "format n --bs 1024 --journal 33 --homes 16"
 # a variable with which refuse.c does something else while an image is made, and what is answered then; there is no file
-UNMADE = [("REFUSE_WRITES", (1, b"", b"jb: DeviceFault\n")), ("REFUSE_LENGTH", (2, b"", b"jb: cannot make n\n"))]
+UNMADE = [("REFUSE_WRITES", (1, b"", b"jb: DeviceFault\njb:  write at block 0: Input/output error (os error 5)\n")), ("REFUSE_LENGTH", (2, b"", b"jb: cannot make n\n"))]
 
 # the name of a row, its words, the files that are there, and what standard input gives
 ROWS = [

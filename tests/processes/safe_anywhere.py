@@ -17,7 +17,7 @@ import subprocess
 import sys
 import tempfile
 
-from anywhere import JB, QUEUE, SIZES, all_files, expect, fresh, made, run, wrong
+from anywhere import JB, QUEUE, SIZES, all_files, expect, fresh, made, reason, run, wrong
 from anywhere_mounts import device, no_devices, parted, read_only, stacked, unknown
 from anywhere_refusals import links, locks
 
@@ -91,7 +91,7 @@ def making():
         (["--bs", "1024", "--journal", "8", "--homes", "16"], None, (1, b"", b"jb: Geometry\n")),
         (["--bs", "1024", "--journal", "2147483648", "--homes", "0"], None, (1, b"", b"jb: Geometry\n")),
         (["--bs", "512", "--journal", "33", "--homes", "16"], None, (2, b"", b"jb: bad option\n")),
-        (SIZES, small_files(True), (2, b"", b"jb: cannot make new\n")),
+        (SIZES, small_files(True), (2, b"", b"jb: cannot make new\n" + reason("EFBIG"))),
     ]:
         got = run(["format", "new", *words], before=before)
         expect("format new %s" % words, got == want, got)
@@ -99,12 +99,12 @@ def making():
     got = run(["format", "new", *SIZES])
     expect("format new, with better numbers", got == good, got)
     whole = open("new", "rb").read()
-    for words, want in [(SIZES, (2, b"", b"jb: cannot make new\n")), (["--bs", "1024", "--journal", "8", "--homes", "1"], (1, b"", b"jb: Geometry\n"))]:
+    for words, want in [(SIZES, (2, b"", b"jb: cannot make new\n" + reason("EEXIST"))), (["--bs", "1024", "--journal", "8", "--homes", "1"], (1, b"", b"jb: Geometry\n"))]:
         got = run(["format", "new", *words])
         expect("format of a file that is there", got == want and open("new", "rb").read() == whole, got)
     os.symlink("new", "link")
     got = run(["format", "link", *SIZES])
-    expect("format of a link", got == (2, b"", b"jb: cannot make link\n") and os.path.islink("link"), got)
+    expect("format of a link", got == (2, b"", b"jb: cannot make link\n" + reason("EEXIST")) and os.path.islink("link"), got)
     os.remove("link")
     os.remove("new")
     # the system ends the program at its limit of the file size, unless its signal is ignored

@@ -162,8 +162,8 @@ fn main(rt: HostRuntime) -> ExitCode {
     let is_told = match times {
         Ok(times) => tell(&mut rt.stdout(), times, is_timed),
         Err(fault) => {
-            let _told = match words {
-                Some((image, _)) => writeln!(rt.stderr(), "{image}: {fault}"),
+            let _told = match &words {
+                Some((image, _load)) => writeln!(rt.stderr(), "{image}: {fault}"),
                 None => writeln!(rt.stderr(), "{fault}"),
             };
             false

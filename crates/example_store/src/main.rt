@@ -111,7 +111,7 @@ fn serve_on<S: Start + Send, R: Files<File = File> + AllocGlobal + Threads + Wai
     serving: &Serving,
 ) -> Result<(), Failed>
     /// Where the store is done with an image it has replied to all commands, and all that they changed is committed.
-    ensures { OnOk result (IfSome image (λ name. IsServedIn S.Start serving.now.commands.items)) }
+    ensures { OnOk result (IfSome image.entry (λ name. IsServedIn S.Start serving.now.commands.items)) }
 {
     let geometry = ImageGeometry::new(SIZE, JOURNAL, store::HOMES);
     match image {

@@ -11,6 +11,8 @@ use Rattle.jb_args.specs.declared.settings.AnswerForm.{AnswerForm}
 use Rattle.jb_args.specs.declared.settings.AnswerForm.TheVariants as forms
 use Rattle.jb_args.specs.declared.settings.SecondLine.{SecondLine}
 use Rattle.jb_args.specs.declared.settings.SecondLine.TheVariants as seconds
+use Rattle.jb_args.specs.declared.settings.SecondPart.{SecondPart}
+use Rattle.jb_args.specs.declared.settings.SecondPart.TheVariants as parts
 use Rattle.jb_args.specs.declared.settings.ProgressLine.TheVariants as progresses
 use Rattle.jb_args.specs.declared.settings.Statuses.TheVariants as counts
 
@@ -66,14 +68,14 @@ settings_in given words = fold with_setting given (filter_map setting_of (before
 abbrev pub words_left : List Text → List Text
 words_left words = filter (λ word. is_none (setting_of word)) (before_end words) ++ from_end words
 
--- whether a line on standard error has a second one after it, in this form, where that is a terminal or not: what is
--- said in JSON has it within
-abbrev pub advised_in : AnswerForm → SecondLine → Bool → Bool
-advised_in forms.Json second on_terminal = false
-advised_in forms.Text seconds.OnTerminal on_terminal = on_terminal
-advised_in forms.Text seconds.Always on_terminal = true
-advised_in forms.Text seconds.Never on_terminal = false
+-- what of the second line after a line on standard error is written, in this form, where that is a terminal or not: all
+-- of it, or the reason alone; what is said in JSON has it within
+abbrev pub part_in : AnswerForm → SecondLine → Bool → SecondPart
+part_in forms.Json second on_terminal = parts.Nothing
+part_in forms.Text seconds.OnTerminal on_terminal = if on_terminal then parts.Whole else parts.Reason
+part_in forms.Text seconds.Always on_terminal = parts.Whole
+part_in forms.Text seconds.Never on_terminal = parts.Nothing
 
 -- the same by the settings
-abbrev pub is_advised : Settings → Bool → Bool
-is_advised settings on_terminal = advised_in settings.form settings.second on_terminal
+abbrev pub second_part : Settings → Bool → SecondPart
+second_part settings on_terminal = part_in settings.form settings.second on_terminal

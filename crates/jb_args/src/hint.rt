@@ -3,6 +3,7 @@ ghost use Rattle.jb_args.specs.Advice.{advice_of, beside_of, finer_of};
 
 use crate::diagnostics;
 use crate::option_name::OptionName;
+use jb_disk::Failure;
 
 /// The line on standard error that a second line is about, with what that one says beside the words of the table: what
 /// the first line has not.
@@ -144,24 +145,24 @@ pub enum Hint {
     HandleFull,
     /// Memory ran out for a handle.
     HandleMemory,
-    /// The journal had failed before a handle.
-    HandleAborted,
+    /// The journal had failed before a handle; the call of the disk that failed, where it is known.
+    HandleAborted(Option<Failure>),
     /// No number is left for a group.
     CommitRefused,
     /// Memory ran out for the commits.
     CommitMemory,
-    /// The journal failed under the commits.
-    CommitAborted,
+    /// The journal failed under the commits; the call of the disk that failed, where it is known.
+    CommitAborted(Option<Failure>),
     /// Memory ran out for the checkpoints.
     CheckpointMemory,
     /// The checkpoints stopped with the commits.
     CheckpointStopped,
-    /// The journal failed under the checkpoints.
-    CheckpointAborted,
+    /// The journal failed under the checkpoints; the call of the disk that failed, where it is known.
+    CheckpointAborted(Option<Failure>),
     /// The accounts of a load do not agree.
     Accounts,
-    /// A call on an image failed.
-    DeviceFault,
+    /// A call on an image failed: this one, where it is known.
+    DeviceFault(Option<Failure>),
     /// Memory ran out.
     Memory,
     /// Standard output was not written.
@@ -191,6 +192,8 @@ pub(crate) enum HintArg {
     BadOption(OptionName),
     /// The number of the system's error, whose text the library has.
     System(i32),
+    /// A call of a disk that failed, with its reason.
+    Failed(Failure),
     /// How many home blocks the image has.
     Homes(u64),
 }
@@ -239,6 +242,12 @@ impl Hint {
             Hint::CannotMake(Some(code)) | Hint::CannotRead(Some(code)) => HintArg::System(code),
             Hint::HomeOutOfRange(Some(homes)) | Hint::NoHome(Some(homes)) => HintArg::Homes(homes),
             Hint::HandleOutOfRange(homes) => HintArg::Homes(homes),
+            Hint::HandleAborted(Some(failure)) | Hint::CommitAborted(Some(failure)) => {
+                HintArg::Failed(failure)
+            }
+            Hint::CheckpointAborted(Some(failure)) | Hint::DeviceFault(Some(failure)) => {
+                HintArg::Failed(failure)
+            }
             _ => HintArg::Nothing,
         }
     }

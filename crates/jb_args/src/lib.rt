@@ -21,8 +21,8 @@ pub use completing::{Shell, completions};
 pub use hint::Hint;
 pub use option_name::OptionName;
 pub use plain::{CatOptions, DumpOptions, FormatOptions, Plain, RecoverOptions};
-pub use second::{SYSTEM_TEXT, hint_parts, put_hint};
+pub use second::{HintParts, ReasonParts, SYSTEM_TEXT, hint_parts, put_hint, put_reason};
 pub use settings::{
-    AnswerForm, ProgressLine, SecondLine, Settings, Statuses, settings_in, words_left,
+    AnswerForm, ProgressLine, SecondLine, SecondPart, Settings, Statuses, settings_in, words_left,
 };
 pub use words::{parse, show_help};

@@ -19,12 +19,23 @@ pub enum AnswerForm {
 /// Whether a line on standard error has a second one after it, which says what to do.
 #[derive(Clone, Copy)]
 pub enum SecondLine {
-    /// Where standard error is a terminal.
+    /// Where standard error is a terminal; elsewhere it says only why the system refused a call.
     OnTerminal,
     /// Always.
     Always,
     /// Never.
     Never,
+}
+
+/// What of the second line after a line on standard error is written.
+#[derive(Clone, Copy)]
+pub enum SecondPart {
+    /// Nothing.
+    Nothing,
+    /// Why the system refused a call, where it did.
+    Reason,
+    /// What to do, and the reason after it.
+    Whole,
 }
 
 /// Whether a long run shows on standard error how far it has come.
@@ -82,7 +93,7 @@ macro_rules! setting_rows {
             $($of)?
             Json, "--json" => "Answers, and says what went wrong, in JSON";
             Hints, "--hints" => "Says on a second line what to do; without it on a terminal alone";
-            Quiet, "-q", "--quiet" => "Says neither what to do nor how far it has come";
+            Quiet, "-q", "--quiet" => "Says neither what to do nor the system's reason, and shows no progress";
             Status, "--status" => "Ends with a finer status: 3, 4 or 5 in place of some 1";
             NoProgress, "--no-progress" => "Does not show how far it has come";
         }
@@ -107,7 +118,7 @@ pub(crate) fn setting_of(word: &str) -> Option<Setting>
 }
 
 impl Settings {
-    ghost use Rattle.jb_args.specs.Settings.{first_settings, is_advised as advises, setting_of as setting_in};
+    ghost use Rattle.jb_args.specs.Settings.{first_settings, second_part as part_by, setting_of as setting_in};
     ghost use Rattle.jb_args.specs.Settings.{with_found, with_setting};
 
     /// The settings of a run without words that set any, where the environment asks for the second line, or for finer
@@ -131,16 +142,21 @@ impl Settings {
         }
     }
 
-    /// Whether a line on standard error has a second one after it, where that is a terminal or not; what is said in
-    /// JSON has it within.
-    pub fn is_advised(self, on_terminal: bool) -> bool
-        ensures { result ≡ advises self on_terminal }
+    /// What of the second line after a line on standard error is written, where that is a terminal or not; what is said
+    /// in JSON has it within.
+    pub fn second_part(self, on_terminal: bool) -> SecondPart
+        ensures { result ≡ part_by self on_terminal }
     {
         match (self.form, self.second) {
-            (AnswerForm::Json, _) => false,
-            (AnswerForm::Text, SecondLine::OnTerminal) => on_terminal,
-            (AnswerForm::Text, SecondLine::Always) => true,
-            (AnswerForm::Text, SecondLine::Never) => false,
+            (AnswerForm::Json, _) | (AnswerForm::Text, SecondLine::Never) => SecondPart::Nothing,
+            (AnswerForm::Text, SecondLine::Always) => SecondPart::Whole,
+            (AnswerForm::Text, SecondLine::OnTerminal) => {
+                if on_terminal {
+                    SecondPart::Whole
+                } else {
+                    SecondPart::Reason
+                }
+            }
         }
     }
 

@@ -211,16 +211,14 @@ macro_rules! diagnostics {
                     "out of memory: run jb recover on the image, and load the handles"
                     " from this one on with fewer threads";
                 HandleAborted, 4, "handle #: Aborted", "",
-                    "a read, write or sync of the image failed: run jb recover on it, and"
-                    " see what it holds";
+                    "run jb recover on the image, and see what it holds": "CALL: REASON";
                 CommitRefused, 3, "commit Refused", "",
                     "the transactions have no number left: run jb recover and jb renumber"
                     " on the image";
                 CommitMemory, 5, "commit Memory", "",
                     "out of memory: run jb recover on the image, and see what it holds";
                 CommitAborted, 4, "commit Aborted", "",
-                    "a read, write or sync of the image failed: run jb recover on it, and"
-                    " see what it holds";
+                    "run jb recover on the image, and see what it holds": "CALL: REASON";
                 CheckpointMemory, 5, "checkpoint Memory", "",
                     "out of memory: run jb recover on the image, which writes home what"
                     " is committed";
@@ -228,12 +226,10 @@ macro_rules! diagnostics {
                     "the commits ended early, as the line before says: run jb recover on"
                     " the image, which writes home what is committed";
                 CheckpointAborted, 4, "checkpoint Aborted", "",
-                    "a read, write or sync of the image failed: run jb recover on it, and"
-                    " see what it holds";
+                    "run jb recover on the image, and see what it holds": "CALL: REASON";
                 Accounts, 1, "Accounts", "", "this cannot happen: the program is wrong";
                 DeviceFault, 4, "DeviceFault", "",
-                    "a read, write or sync of the image failed: run the command again"
-                    " once its device is well";
+                    "run the command again, once its device is well": "CALL: REASON";
                 Memory, 5, "Memory", "", "out of memory: the command needs more";
                 WriteFault, 4, "WriteFault", "",
                     "standard output is closed or full; what the command does to an image"

@@ -93,7 +93,7 @@ TellsHomes IsRefused homes hex n done text out_old out_new (Err fault) =
 -- how the count of failed calls changes: it rises where one is why the command ended, and else stays
 abbrev pub CatFaults : Result ℕ CommandFault → ℕ → ℕ → Type 0
 CatFaults (Ok status) old new = new ≡ old
-CatFaults (Err DeviceFault) old new = MoreFaults old new
+CatFaults (Err (DeviceFault failure)) old new = MoreFaults old new
 CatFaults (Err _) old new = new ≡ old
 
 -- the homes of a disk from the first one on were peeked at and written, as many as were asked for, or up to a fault;

@@ -2,6 +2,7 @@
 use Rattle.std.specs.Prelude.{ℕ, ◌==◌, ◌&&◌, ◌||◌, if◌then◌else◌, List, [], ◌∷◌, Option, None, codes}
 use Rattle.jb_args.specs.declared.hint.Hint.{Hint}
 use Rattle.jb_args.specs.declared.hint.Hint.TheVariants as hint
+use Rattle.jb_disk.specs.declared.failure.Failure.{Failure}
 use Rattle.jb_dump.specs.declared.fault.DumpFault.{DumpFault}
 use Rattle.jb_dump.specs.declared.fault.DumpFault.TheVariants as dumping
 use Rattle.jb_ext.specs.declared.fault.OwnFault.{OwnFault}
@@ -66,7 +67,7 @@ status_of NumbersSpent = 1
 status_of BlockSize = 1
 status_of Accounts = 1
 status_of Geometry = 1
-status_of DeviceFault = 1
+status_of (DeviceFault failure) = 1
 status_of Memory = 1
 status_of WriteFault = 1
 
@@ -136,7 +137,7 @@ fault_words NumbersSpent = (codes "NumbersSpent", numbers.None)
 fault_words BlockSize = (codes "BlockSize", numbers.None)
 fault_words Accounts = (codes "Accounts", numbers.None)
 fault_words Geometry = (codes "Geometry", numbers.None)
-fault_words DeviceFault = (codes "DeviceFault", numbers.None)
+fault_words (DeviceFault failure) = (codes "DeviceFault", numbers.None)
 fault_words Memory = (codes "Memory", numbers.None)
 fault_words WriteFault = (codes "WriteFault", numbers.None)
 
@@ -221,9 +222,14 @@ hint_of NumbersSpent = hint.NumbersSpent
 hint_of BlockSize = hint.BlockSize
 hint_of Accounts = hint.Accounts
 hint_of Geometry = hint.Geometry
-hint_of DeviceFault = hint.DeviceFault
+hint_of (DeviceFault failure) = hint.DeviceFault failure
 hint_of Memory = hint.Memory
 hint_of WriteFault = hint.WriteFault
+
+-- a fault, with this call of the disk where one of it failed that is not known yet
+abbrev pub with_failure : Option Failure → CommandFault → CommandFault
+with_failure failure (DeviceFault None) = DeviceFault failure
+with_failure failure fault = fault
 
 -- the line for a word of the command line that is not UTF-8
 abbrev pub not_utf8 : List ℕ
@@ -246,12 +252,12 @@ dump_fault dumping.Memory = Memory
 
 -- what a fault of making a journal is reported as
 abbrev pub format_fault : FormatFault → CommandFault
-format_fault formatting.DeviceFault = DeviceFault
+format_fault formatting.DeviceFault = DeviceFault None
 format_fault formatting.Geometry = Geometry
 
 -- what a fault of a recovery is reported as, of an image with this many home blocks, where that is known
 abbrev pub recover_fault : Option ℕ → CheckedFault → CommandFault
-recover_fault homes recovering.DeviceFault = DeviceFault
+recover_fault homes recovering.DeviceFault = DeviceFault None
 recover_fault homes (recovering.Super fault) = super_fault fault
 recover_fault homes (recovering.BadChecksum what place) = BadChecksum what place
 recover_fault homes (recovering.BadRevoke place) = BadRevoke place
@@ -260,7 +266,7 @@ recover_fault homes recovering.Memory = Memory
 
 -- what a fault of a peek is reported as, into an image with this many home blocks, where that is known
 abbrev pub peek_fault : Option ℕ → CheckedPeekFault → CommandFault
-peek_fault homes peeking.DeviceFault = DeviceFault
+peek_fault homes peeking.DeviceFault = DeviceFault None
 peek_fault homes (peeking.Super fault) = super_fault fault
 peek_fault homes (peeking.BadChecksum what place) = BadChecksum what place
 peek_fault homes (peeking.BadRevoke place) = BadRevoke place
@@ -268,6 +274,6 @@ peek_fault homes (peeking.HomeOutOfRange home) = NoHome home homes
 
 -- what a fault of a change of a clean journal is reported as
 abbrev pub change_fault : ChangeFault → CommandFault
-change_fault changing.DeviceFault = DeviceFault
+change_fault changing.DeviceFault = DeviceFault None
 change_fault (changing.Super fault) = Super fault
 change_fault changing.NeedsRecovery = NeedsRecovery

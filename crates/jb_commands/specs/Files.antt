@@ -92,7 +92,7 @@ IsUnnamed name _ = ⊥
 
 -- the same, or the journal was not written
 abbrev pub IsNotMade : List ℕ → CommandFault → Type 0
-IsNotMade name DeviceFault = ⊤
+IsNotMade name (DeviceFault failure) = ⊤
 IsNotMade name fault = IsUnnamed name fault
 
 -- the file of this name was not made: an option is bad; or none is, and a journal may not have this many blocks

@@ -90,7 +90,7 @@ SaysFront sums (System size) =
 abbrev pub of_find : FindFault → CommandFault
 of_find (find.Own fault) = Own fault
 of_find (find.Super fault) = Super fault
-of_find find.DeviceFault = DeviceFault
+of_find find.DeviceFault = DeviceFault None
 of_find find.Memory = Memory
 
 -- the journal of the file system in a file was looked for since its length was asked, and nothing else was asked of it;

@@ -1,6 +1,7 @@
 -- What a whole run did: what it took from its input, what it wrote, and how it ended.
 use Rattle.std.specs.Prelude.{◌≡◌, ◌⊎◌, ℕ, Bool, false, List, Option, Some, None, Result, Ok, Err, codes}
 use Rattle.std.specs.Str.{bytes_eq}
+use Rattle.jb_disk.specs.declared.failure.Failure.{Failure}
 use Rattle.jb_disk.specs.declared.file.FileDisk.{FileDisk}
 use Rattle.jb_disk.specs.declared.start.Start.{Ghosts as Starts}
 use Rattle.jb_format.specs.Renumber.{IsRenumbering, Renumbers, RenumbersAs}
@@ -8,6 +9,7 @@ use Rattle.jb_format.specs.Widen.{IsWidened, Widens, WidensAs}
 use Rattle.jb_text.specs.Puts.{PutsPart}
 use Rattle.jb_image.specs.Files.{FileImage}
 use Rattle.jb_image.specs.declared.image.ImageDisk.{ImageDisk}
+use Rattle.jb_args.specs.Advice.{SystemSaid}
 use Rattle.jb_args.specs.PlainCommand.{Asked}
 use Rattle.jb_args.specs.declared.settings.AnswerForm.{AnswerForm}
 use Rattle.jb_args.specs.declared.settings.AnswerForm.TheVariants.{Json, Text}
@@ -27,7 +29,7 @@ use Rattle.jb_commands.specs.AnswerSaid.{Said}
 use Rattle.jb_commands.specs.Outputs.{Outputs, Tells}
 use Rattle.jb_commands.specs.Ends.{of_fault}
 use Rattle.jb_commands.specs.FaultReports.{fault_facts}
-use Rattle.jb_commands.specs.Reports.{TellsEnd, said_end, status_end}
+use Rattle.jb_commands.specs.Reports.{TellsEnd, image_tells, said_end, status_end}
 use Rattle.jb_commands.specs.ListText.{reads_list}
 use Rattle.jb_commands.specs.Faults.{line_of}
 use Rattle.jb_commands.specs.Lines.{PairNames, names_of}
@@ -64,12 +66,12 @@ EndsOfClaim Says other old new end =
     × Tells words old new end)
     ⊎ ((fault : CommandFault) × (end ≡ Err fault) × HasNoTextWithin cert_limit other None fault × (new ≡ old))
 
--- what is said of a fault on standard error, as far as that took it: its line, or its JSON with some text of the
--- system's, over the files of these names where they are two
+-- what is said of a fault on standard error, as far as that took it: its line, or its JSON where the system
+-- says this, over the files of these names where they are two
 abbrev pub TellsFault : AnswerForm → Option PairNames → CommandFault → Option (List ℕ) → Option (List ℕ) → Type 0
 TellsFault Text names fault err_old err_new = PutsPart err_old err_new (line_of names fault)
 TellsFault Json names fault err_old err_new =
-    (system : List ℕ) × PutsPart err_old err_new (json_line (fault_facts names system fault))
+    (said : SystemSaid) × PutsPart err_old err_new (json_line (fault_facts names said fault))
 
 -- the program's end, and what is said of a command that ended without an answer
 abbrev pub Closes : AnswerForm → Option PairNames → Result ProgramEnd CommandFault → Outputs → Outputs → ProgramEnd
@@ -122,15 +124,15 @@ module _ {S T : Type 0} {start : Starts S} {other : Starts T} where
   EndsAsked form (AsksWiden name extents) input old new image end =
       EndsOfChange Widens IsWidened WidensAs ReportsWidened name extents input image end × (new ≡ old)
 
--- what a command has to say, once its image is closed
-abbrev pub TellsDone : AnswerForm → Result Report CommandFault → Outputs → Outputs → Result ProgramEnd CommandFault
-    → Type 0
-TellsDone form end old new told = TellsEnd form end old.out new.out told × (new.err ≡ old.err)
+-- what a command has to say, once its image is closed, which tells so of its last call that failed
+abbrev pub TellsDone : (Failure → Type 0) → AnswerForm → Result Report CommandFault → Outputs → Outputs
+    → Result ProgramEnd CommandFault → Type 0
+TellsDone Told form end old new told = TellsEnd Told form end old.out new.out told × (new.err ≡ old.err)
 
 -- the whole run of the command that the words ask for, in this form
 abbrev pub Runs : AnswerForm → Asked → Option (List ℕ) → Outputs → Outputs → ProgramEnd → Type 0
 Runs form asked input old new ended =
     (image : Option FileImage) × (end : Result Report CommandFault) × (done : Outputs)
     × EndsAsked form asked input old done image end
-    × ((told : Result ProgramEnd CommandFault) × (mid : Outputs) × TellsDone form end done mid told
+    × ((told : Result ProgramEnd CommandFault) × (mid : Outputs) × TellsDone (image_tells image) form end done mid told
     × Closes form (names_of asked) told mid new ended)

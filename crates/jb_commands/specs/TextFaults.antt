@@ -14,7 +14,7 @@ use Rattle.jb_commands.specs.FaultReports.{facts_with}
 abbrev pub text_fault_text : AnswerForm → List ℕ → List ℕ → List (List ℕ) → Hint → List ℕ
 text_fault_text Text name ns reason hint = codes "jb: " ++ (spelled reason ++ codes "\n")
 text_fault_text Json name ns reason hint =
-    json_line (facts_with name ns (spelled reason) None (spelled (advice_of hint ∷ [])))
+    json_line (facts_with name ns (spelled reason) None (spelled (advice_of hint ∷ [])) None)
 
 -- the same with the exit status and the hint, on standard error
 abbrev pub text_fault : AnswerForm → List ℕ → List ℕ → List (List ℕ) → Hint → Said

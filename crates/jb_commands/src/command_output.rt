@@ -111,7 +111,15 @@ fn put_text_fault<W: Write>(
         AnswerForm::Text => put_reason(fault.reason, writer),
         AnswerForm::Json => {
             let hint = [fault.hint.advice()];
-            put_told(writer, fault.name, fault.numbers, fault.reason, None, &hint)
+            put_told(
+                writer,
+                fault.name,
+                fault.numbers,
+                fault.reason,
+                None,
+                &hint,
+                None,
+            )
         }
     }
 }

@@ -1,6 +1,7 @@
 ghost use Rattle.std.specs.Prelude.{◌≡◌};
 
 use jb_args::OptionName;
+use jb_disk::Failure;
 use jb_dump::DumpFault;
 use jb_ext::OwnFault;
 use jb_format::{ChangeFault, FormatFault};
@@ -72,8 +73,8 @@ pub enum CommandFault<'a> {
     Accounts,
     /// The options make no journal: fewer than 9 blocks, or more than 2^31 - 1.
     Geometry,
-    /// A call on an image that is used as a disk failed.
-    DeviceFault,
+    /// A call on an image that is used as a disk failed: this one, where it is known.
+    DeviceFault(Option<Failure>),
     /// Memory ran out.
     Memory,
     /// Standard output could not be written.
@@ -128,7 +129,7 @@ impl<'a> From<FormatFault> for CommandFault<'a> {
 
     fn from(fault: FormatFault) -> CommandFault<'a> {
         match fault {
-            FormatFault::DeviceFault => CommandFault::DeviceFault,
+            FormatFault::DeviceFault => CommandFault::DeviceFault(None),
             FormatFault::Geometry => CommandFault::Geometry,
         }
     }
@@ -142,7 +143,7 @@ impl<'a> From<ChangeFault> for CommandFault<'a> {
 
     fn from(fault: ChangeFault) -> CommandFault<'a> {
         match fault {
-            ChangeFault::DeviceFault => CommandFault::DeviceFault,
+            ChangeFault::DeviceFault => CommandFault::DeviceFault(None),
             ChangeFault::Super(fault) => CommandFault::Super(fault),
             ChangeFault::NeedsRecovery => CommandFault::NeedsRecovery,
         }
@@ -150,14 +151,24 @@ impl<'a> From<ChangeFault> for CommandFault<'a> {
 }
 
 impl<'a> CommandFault<'a> {
-    ghost use Rattle.jb_commands.specs.Faults.{peek_fault, recover_fault, super_fault};
+    ghost use Rattle.jb_commands.specs.Faults.{peek_fault, recover_fault, super_fault, with_failure};
+
+    /// The fault, with this call of the disk where one of it failed that is not known yet.
+    pub fn with_failure(self, failure: Option<Failure>) -> CommandFault<'a>
+        ensures value { result ≡ with_failure failure self.entry }
+    {
+        match self {
+            CommandFault::DeviceFault(None) => CommandFault::DeviceFault(failure),
+            fault => fault,
+        }
+    }
 
     /// A fault of a recovery of an image with this many home blocks, where that is known.
     pub(crate) fn of_recovery(fault: CheckedFault, homes: Option<u64>) -> CommandFault<'a>
         ensures value { result ≡ recover_fault homes fault }
     {
         match fault {
-            CheckedFault::DeviceFault => CommandFault::DeviceFault,
+            CheckedFault::DeviceFault => CommandFault::DeviceFault(None),
             CheckedFault::Super(fault) => CommandFault::of_super(fault),
             CheckedFault::BadChecksum(what, place) => CommandFault::BadChecksum(what, place),
             CheckedFault::BadRevoke(place) => CommandFault::BadRevoke(place),
@@ -173,7 +184,7 @@ impl<'a> CommandFault<'a> {
         ensures value { result ≡ peek_fault homes fault }
     {
         match fault {
-            CheckedPeekFault::DeviceFault => CommandFault::DeviceFault,
+            CheckedPeekFault::DeviceFault => CommandFault::DeviceFault(None),
             CheckedPeekFault::Super(fault) => CommandFault::of_super(fault),
             CheckedPeekFault::BadChecksum(what, place) => CommandFault::BadChecksum(what, place),
             CheckedPeekFault::BadRevoke(place) => CommandFault::BadRevoke(place),

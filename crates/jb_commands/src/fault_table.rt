@@ -54,7 +54,8 @@ macro_rules! fault_rows {
             CommandFault::BlockSize => ("BlockSize", Numbers::None), none, 1, Hint::BlockSize;
             CommandFault::Accounts => ("Accounts", Numbers::None), none, 1, Hint::Accounts;
             CommandFault::Geometry => ("Geometry", Numbers::None), none, 1, Hint::Geometry;
-            CommandFault::DeviceFault => ("DeviceFault", Numbers::None), none, 1, Hint::DeviceFault;
+            CommandFault::DeviceFault(failure) =>
+                ("DeviceFault", Numbers::None), none, 1, Hint::DeviceFault(failure);
             CommandFault::Memory => ("Memory", Numbers::None), none, 1, Hint::Memory;
             CommandFault::WriteFault => ("WriteFault", Numbers::None), none, 1, Hint::WriteFault;
         }

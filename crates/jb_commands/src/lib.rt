@@ -22,7 +22,7 @@ mod running;
 mod streams;
 
 pub use check::check_answer;
-pub use command_end::CommandEnd;
+pub use command_end::{CommandEnd, failure_of};
 pub use command_output::CommandOutput;
 pub use cost::cost_answer;
 pub use fault::CommandFault;

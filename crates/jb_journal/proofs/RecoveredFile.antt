@@ -91,21 +91,21 @@ module _ {S : Type 0} {start : Starts S} where
           durable = λ honest c left. was.durable (before honest) c (left_before honest c left) ∙ sym (same honest);
         }
 
-    -- ---- why an image is not opened, by what its file tells
+  -- ---- why an image is not opened, by what its file tells
 
-    pub unrecovered : (size : BlockSize) (fault : RecoverFault) (was : WasRefused start size fault) (told : Option Failure) → told ≡ failure_of was.file → RefusesImage start size (unrecovered_by fault told)
-    unrecovered size recovering.DeviceFault was None is = (was, λ _. sym is)
-    unrecovered size recovering.DeviceFault was (Some failure) is = inl (was, sym is)
-    unrecovered size (recovering.Super fault) was told is = (was, λ other. cc other)
-    unrecovered size (recovering.BadRevoke at) was told is = (was, λ other. cc other)
-    unrecovered size (recovering.HomeOutOfRange home number) was told is = (was, λ other. cc other)
-    unrecovered size recovering.Memory was told is = (was, λ other. cc other)
+  pub unrecovered : (size : BlockSize) (fault : RecoverFault) (was : WasRefused start size fault) (told : Option Failure) → told ≡ failure_of was.file → RefusesImage start size (unrecovered_by fault told)
+  unrecovered size recovering.DeviceFault was None is = (was, λ _. sym is)
+  unrecovered size recovering.DeviceFault was (Some failure) is = inl (was, sym is)
+  unrecovered size (recovering.Super fault) was told is = (was, λ other. cc other)
+  unrecovered size (recovering.BadRevoke at) was told is = (was, λ other. cc other)
+  unrecovered size (recovering.HomeOutOfRange home number) was told is = (was, λ other. cc other)
+  unrecovered size recovering.Memory was told is = (was, λ other. cc other)
 
-    pub unread : (size : BlockSize) (before after : FileDisk S start) → WasRecovered size before → (fault : HomeFault) → HomeFaults (Err fault) (faults_of before) (faults_of after) → (told : Option Failure) → told ≡ failure_of after
-        → RefusesImage start size (unread_by fault told)
-    unread size before after was Length counted told is = tt
-    unread size before after was (Peek reading.DeviceFault) counted None is = tt
-    unread size before after was (Peek reading.DeviceFault) counted (Some failure) is = inr (record { before = before; after = after; recovered = was; counted = counted; told = sym is })
-    unread size before after was (Peek (reading.Super fault)) counted told is = tt
-    unread size before after was (Peek (reading.BadRevoke at)) counted told is = tt
-    unread size before after was (Peek (reading.HomeOutOfRange home)) counted told is = tt
+  pub unread : (size : BlockSize) (before after : FileDisk S start) → WasRecovered size before → (fault : HomeFault) → HomeFaults (Err fault) (faults_of before) (faults_of after) → (told : Option Failure) → told ≡ failure_of after
+      → RefusesImage start size (unread_by fault told)
+  unread size before after was Length counted told is = tt
+  unread size before after was (Peek reading.DeviceFault) counted None is = tt
+  unread size before after was (Peek reading.DeviceFault) counted (Some failure) is = inr (record { before = before; after = after; recovered = was; counted = counted; told = sym is })
+  unread size before after was (Peek (reading.Super fault)) counted told is = tt
+  unread size before after was (Peek (reading.BadRevoke at)) counted told is = tt
+  unread size before after was (Peek (reading.HomeOutOfRange home)) counted told is = tt

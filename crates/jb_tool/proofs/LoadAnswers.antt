@@ -1,9 +1,11 @@
 -- What a load answers, by what the run of its journal answers.
 use Rattle.std.proofs.Common.{◌≡◌, ◌≢◌, ℕ, Bool, true, false, List, length, Result, Ok, Err, Option, IfOk, IfErr, subst, sym}
+use Rattle.std.specs.Prelude.{IfSome}
 use Rattle.jb_block.specs.Size.{bytes_of}
 use Rattle.jb_block.specs.declared.size.BlockSize.{BlockSize}
 use Rattle.jb_deck.specs.Done.{Follow}
 use Rattle.jb_disk.specs.declared.disk.Disk.{Ghosts}
+use Rattle.jb_disk.specs.declared.failure.Failure.{Failure}
 use Rattle.jb_handle.specs.declared.stopped.Stopped.{Stopped}
 use Rattle.jb_book.specs.Origin.{Begun}
 use Rattle.jb_handle.specs.declared.shape.Shape.{Shape}
@@ -32,11 +34,12 @@ not-meanwhile false commits is = λ same. let h : ⊥ = cc in h
 module _ {D : Type 0} (G : Ghosts D) (b : Begun) (disk : D) (bs : BlockSize) (queue : List Stopped) (options : LoadOptions) (same : bytes_of bs ≡ G.size disk) where
   -- it has no answer
   module _ {T : Type 0} (commits : Commits) (may : Shape → Type 0 → ℕ → ℕ → List Stop → Known → T → Type 0) (workers : ℕ) (only : commits ≢ Meanwhile) where
-    pub answers-fault : (fault : RunFault) (after : D) (answers : List T) → RefusesRun G disk b commits may workers fault after answers → AnswersLoad G b disk bs queue options (Err (not_run fault))
-    answers-fault (Open why) after answers is = (same, (after, is.0))
-    answers-fault Memory after answers is = (same, (after, is.0))
-    answers-fault NoThread after answers is = absurd (only is.1)
-    answers-fault Accounts after answers is = (same, (is.0, is.1))
+    pub answers-fault : (told : Option Failure) (fault : RunFault) (after : D) (answers : List T) → RefusesRun G disk b commits may workers fault after answers → IfSome told (G.tells after)
+        → AnswersLoad G b disk bs queue options (Err (not_run told fault))
+    answers-fault told (Open why) after answers is tells = (same, (after, is.0, tells))
+    answers-fault told Memory after answers is tells = (same, (after, is.0))
+    answers-fault told NoThread after answers is tells = absurd (only is.1)
+    answers-fault told Accounts after answers is tells = (same, (is.0, is.1))
 
     -- no thread is missing
     pub not-thread : (fault : RunFault) (after : D) (answers : List T) → RefusesRun G disk b commits may workers fault after answers → fault ≢ NoThread

@@ -1,4 +1,6 @@
 -- The faults of a journal and of its handles, as a load reports them.
+use Rattle.std.specs.Prelude.{Option}
+use Rattle.jb_disk.specs.declared.failure.Failure.{Failure}
 use Rattle.jb_journal.specs.declared.fault.HandleFault.{HandleFault as ChangeFault}
 use Rattle.jb_journal.specs.declared.fault.HandleFault.TheVariants as change
 use Rattle.jb_journal.specs.declared.fault.RunFault.{RunFault}
@@ -38,10 +40,10 @@ not_stopped change.Aborted = Aborted
 not_stopped change.NotOpen = NotOpen
 not_stopped change.Memory = Memory
 
--- why a queue was not loaded, where its journal was not run or has no answer; for want of a thread a load has always
--- one
-abbrev pub not_run : RunFault → LoadFault
-not_run (run.Open fault) = load.Open fault
-not_run run.Memory = load.Memory
-not_run run.NoThread = load.Accounts
-not_run run.Accounts = load.Accounts
+-- why a queue was not loaded, where its journal was not run or has no answer, and its disk tells this of its last
+-- failed call; for want of a thread a load has always one
+abbrev pub not_run : Option Failure → RunFault → LoadFault
+not_run told (run.Open fault) = load.Open fault told
+not_run told run.Memory = load.Memory
+not_run told run.NoThread = load.Accounts
+not_run told run.Accounts = load.Accounts

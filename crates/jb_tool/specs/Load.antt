@@ -1,5 +1,5 @@
 -- How `jb load` ends over files.
-use Rattle.std.specs.Prelude.{◌≡◌, ◌⊎◌, ◌≤◌, ℕ, Bool, true, false, List, Option, None, Result, Ok, Err, Some}
+use Rattle.std.specs.Prelude.{◌≡◌, ◌⊎◌, ◌≤◌, ℕ, Bool, true, false, List, Option, None, Result, Ok, Err, Some, IfSome}
 use Rattle.jb_args.specs.declared.hint.Hint.{Hint}
 use Rattle.jb_args.specs.declared.settings.AnswerForm.{AnswerForm}
 use Rattle.jb_args.specs.declared.option_name.OptionName.TheVariants.{Threads}
@@ -11,6 +11,7 @@ use Rattle.jb_commands.specs.declared.command_output.CommandOutput.{CommandOutpu
 use Rattle.jb_deck.specs.declared.fault.OpenFault.{OpenFault}
 use Rattle.jb_deck.specs.declared.fault.OpenFault.TheVariants as opening
 use Rattle.jb_disk.specs.declared.disk.Disk.{Ghosts as Disks}
+use Rattle.jb_disk.specs.declared.failure.Failure.{Failure}
 use Rattle.jb_disk.specs.declared.file.FileDisk.{FileDisk}
 use Rattle.jb_disk.specs.declared.start.Start.{Ghosts as Starts}
 use Rattle.jb_image.specs.Files.{FileImage, as_files}
@@ -31,8 +32,10 @@ use Rattle.jb_tool.specs.declared.loading.options.LoadOptions.{LoadOptions}
 use Rattle.jb_queue.specs.Queue.{Queue, queue_of}
 use Rattle.jb_queue.specs.declared.fault.QueueFault.{QueueFault}
 use Rattle.jb_args.specs.Command.{Loading}
+use Rattle.jb_commands.specs.Faults.{with_failure}
 use Rattle.jb_commands.specs.Lines.{names_with}
 use Rattle.jb_commands.specs.JournalPlace.{IsBadOption, IsOpenedAt, IsShutAt, JudgesBeside, is_beside}
+use Rattle.jb_commands.specs.Reports.{image_tells}
 use Rattle.jb_commands.specs.Runs.{Closes}
 use Rattle.jb_commands.specs.Outputs.{Outputs, Tells}
 use Rattle.jb_commands.specs.Texts.{HasNoText, IsText}
@@ -55,18 +58,18 @@ pub record AreOptionsOf (load : Loading) (options : LoadOptions) : Type 0 where
   pub hold : options.hold ≡ load.hold
   pub checkpoint : options.checkpoint ≡ load.checkpoint
 
--- what a fault of opening a journal is reported as
-abbrev pub open_fault : OpenFault → CommandFault
-open_fault opening.DeviceFault = DeviceFault
-open_fault (opening.Super fault) = Super fault
-open_fault opening.NeedsRecovery = NeedsRecovery
-open_fault opening.NumbersSpent = NumbersSpent
-open_fault opening.Memory = Memory
+-- what a fault of opening a journal is reported as, whose disk tells this of its last failed call
+abbrev pub open_fault : Option Failure → OpenFault → CommandFault
+open_fault told opening.DeviceFault = DeviceFault told
+open_fault told (opening.Super fault) = Super fault
+open_fault told opening.NeedsRecovery = NeedsRecovery
+open_fault told opening.NumbersSpent = NumbersSpent
+open_fault told opening.Memory = Memory
 
 -- what a fault of a load is reported as
 abbrev pub load_fault : LoadFault → CommandFault
 load_fault loading.BlockSize = BlockSize
-load_fault (loading.Open fault) = open_fault fault
+load_fault (loading.Open fault told) = open_fault told fault
 load_fault loading.Memory = Memory
 load_fault loading.Accounts = Accounts
 
@@ -75,18 +78,27 @@ abbrev pub end_with_hint : Option Hint → Result ℕ WriteFault → Result Prog
 end_with_hint hint (Ok status) = Ok (record { status = status; hint = hint })
 end_with_hint hint (Err fault) = Err CommandWriteFault
 
--- what a load has to say is told in this form: what it did, or its text's first fault
-abbrev pub TellsLoadReport : AnswerForm → LoadReport → Outputs → Outputs → Result ProgramEnd CommandFault → Type 0
-TellsLoadReport form (ReportsLoaded loaded homes) old new end =
-    (told : Result ℕ WriteFault) × (end ≡ end_with_hint (load_hint homes loaded) told)
-    × TellsLoad form (load_hint homes loaded) loaded old.out new.out old.err new.err told
-TellsLoadReport form (ReportsText answer) old new end = Tells (said answer) old new end
-
--- what a load ended with is told, or it ended with a fault, and then nothing is written
-abbrev pub TellsLoadEnd : AnswerForm → Result LoadReport CommandFault → Outputs → Outputs
+-- what a load has to say is told in this form: what it did to an image whose last call that failed was this one, or its
+-- text's first fault
+abbrev pub TellsLoadReport : Option Failure → AnswerForm → LoadReport → Outputs → Outputs
     → Result ProgramEnd CommandFault → Type 0
-TellsLoadEnd form (Ok report) old new end = TellsLoadReport form report old new end
-TellsLoadEnd form (Err fault) old new end = (end ≡ Err fault) × (new ≡ old)
+TellsLoadReport failure form (ReportsLoaded loaded homes) old new end =
+    (told : Result ℕ WriteFault) × (end ≡ end_with_hint (load_hint failure homes loaded) told)
+    × TellsLoad form (load_hint failure homes loaded) loaded old.out new.out old.err new.err told
+TellsLoadReport failure form (ReportsText answer) old new end = Tells (said answer) old new end
+
+-- what a load ended with is told; or it ended with a fault, and then nothing is written, and where that is a failed
+-- call of its disk, it is this one
+abbrev pub TellsLoadWith : Option Failure → AnswerForm → Result LoadReport CommandFault → Outputs → Outputs
+    → Result ProgramEnd CommandFault → Type 0
+TellsLoadWith failure form (Ok report) old new end = TellsLoadReport failure form report old new end
+TellsLoadWith failure form (Err fault) old new end = (end ≡ Err (with_failure failure fault)) × (new ≡ old)
+
+-- the same of a disk that tells so of its last call that failed
+abbrev pub TellsLoadEnd : (Failure → Type 0) → AnswerForm → Result LoadReport CommandFault → Outputs → Outputs
+    → Result ProgramEnd CommandFault → Type 0
+TellsLoadEnd Told form done old new end =
+    (failure : Option Failure) × IfSome failure Told × TellsLoadWith failure form done old new end
 
 module _ {S T : Type 0} {start : Starts S} {other : Starts T} where
   -- a queue was loaded into an open image, and this is the image then: the groups that the load counts are in its
@@ -188,5 +200,6 @@ module _ {S T : Type 0} {start : Starts S} {other : Starts T} where
 abbrev pub RunsLoad : AnswerForm → Loading → Option (List ℕ) → Outputs → Outputs → ProgramEnd → Type 0
 RunsLoad form load input old new ended =
     (image : Option FileImage) × (end : Result LoadReport CommandFault) × EndsOfLoad form load input image end
-    × ((told : Result ProgramEnd CommandFault) × (mid : Outputs) × TellsLoadEnd form end old mid told
+    × ((told : Result ProgramEnd CommandFault) × (mid : Outputs)
+    × TellsLoadEnd (image_tells image) form end old mid told
     × Closes form (names_with load.image load.journal) told mid new ended)

@@ -7,7 +7,7 @@ use Rattle.jb_text.specs.TextParts.{spelled}
 use Rattle.jb_json.specs.Facts.{Fact, Counted, Listed, Named, Worded}
 use Rattle.jb_json.specs.Objects.{json_line}
 use Rattle.jb_json.specs.Reports.{report_lines}
-use Rattle.jb_args.specs.Advice.{hint_text}
+use Rattle.jb_args.specs.Advice.{SystemSaid, hint_text, reason_text}
 use Rattle.jb_args.specs.declared.hint.Hint.{Hint}
 use Rattle.jb_args.specs.declared.settings.AnswerForm.{AnswerForm}
 use Rattle.jb_args.specs.declared.settings.AnswerForm.TheVariants.{Json, Text}
@@ -137,21 +137,29 @@ load_ends l =
     Named (codes "refused") (refused_name l.refused) ∷ Listed (codes "numbers") [] (refused_numbers l.refused)
     ∷ Named (codes "commit") (commit_word l) ∷ Named (codes "checkpoint") (checkpoint_word l) ∷ []
 
--- how much a load says: its counts alone, as a line; all of it in JSON, without what to do or with it
-abbrev pub part_text : LoadPart → List ℕ → Loaded → List ℕ
-part_text part.Counts hint l = counts_line l
-part_text part.All hint l = json_line (load_counts l ++ load_ends l)
-part_text part.Advised hint l = json_line (load_counts l ++ (load_ends l ++ Worded (codes "hint") hint ∷ []))
+-- how much a load says: its counts alone, as a line; all of it in JSON, without what to do or with it, and with why the
+-- system refused a call
+abbrev pub part_text : LoadPart → List ℕ → List ℕ → Loaded → List ℕ
+part_text part.Counts hint system l = counts_line l
+part_text part.All hint system l = json_line (load_counts l ++ load_ends l)
+part_text part.Advised hint system l = json_line (load_counts l ++ (load_ends l ++ Worded (codes "hint") hint ∷ []))
+part_text part.Reasoned hint system l =
+    json_line (load_counts l ++ (load_ends l ++ Worded (codes "hint") hint ∷ Worded (codes "system") system ∷ []))
 
--- what a load says in JSON, with this hint and this text of the system's
-abbrev pub json_text : List ℕ → Option Hint → Loaded → List ℕ
-json_text system None l = part_text part.All [] l
-json_text system (Some hint) l = part_text part.Advised (hint_text system hint) l
+-- all that a load says in JSON, with what to do, and why the system refused a call, where it did
+abbrev pub advised_text : List ℕ → Option (List ℕ) → Loaded → List ℕ
+advised_text hint None l = part_text part.Advised hint [] l
+advised_text hint (Some system) l = part_text part.Reasoned hint system l
+
+-- what a load says in JSON, with this hint, where the system says this
+abbrev pub json_text : SystemSaid → Option Hint → Loaded → List ℕ
+json_text said None l = part_text part.All [] [] l
+json_text said (Some hint) l = advised_text (hint_text said hint) (reason_text said hint) l
 
 -- what a load says on standard output, in this form
-abbrev pub load_out : AnswerForm → List ℕ → Option Hint → Loaded → List ℕ
-load_out Text system hint l = counts_line l
-load_out Json system hint l = json_text system hint l
+abbrev pub load_out : AnswerForm → SystemSaid → Option Hint → Loaded → List ℕ
+load_out Text said hint l = counts_line l
+load_out Json said hint l = json_text said hint l
 
 -- what it says on standard error: in JSON all is on standard output
 abbrev pub load_err : AnswerForm → Loaded → List ℕ
@@ -177,8 +185,8 @@ status_if false = 1
 abbrev pub TellsLoad : AnswerForm → Option Hint → Loaded → Option (List ℕ) → Option (List ℕ) → Option (List ℕ)
     → Option (List ℕ) → Result ℕ WriteFault → Type 0
 TellsLoad form hint l out_old out_new err_old err_new (Ok status) =
-    ((system : List ℕ) × Appends out_old out_new (load_out form system hint l))
+    ((said : SystemSaid) × Appends out_old out_new (load_out form said hint l))
     × PutsPart err_old err_new (load_err form l)
     × (status ≡ status_if (is_whole l))
 TellsLoad form hint l out_old out_new err_old err_new (Err fault) =
-    ((system : List ℕ) × PutsPart out_old out_new (load_out form system hint l)) × (err_new ≡ err_old)
+    ((said : SystemSaid) × PutsPart out_old out_new (load_out form said hint l)) × (err_new ≡ err_old)

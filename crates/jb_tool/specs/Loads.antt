@@ -1,5 +1,5 @@
 -- What a load answers, and what it has left on its disk.
-use Rattle.std.specs.Prelude.{◌≡◌, ◌≢◌, ℕ, Bool, true, false, List, length, Option, Result, Ok, Err}
+use Rattle.std.specs.Prelude.{◌≡◌, ◌≢◌, ℕ, Bool, true, false, List, length, Option, IfSome, Result, Ok, Err}
 use Rattle.std.specs.Duration.{as_nanos}
 use Rattle.std.specs.List.{sum_by}
 use Rattle.jb_block.specs.Size.{bytes_of}
@@ -68,11 +68,12 @@ module _ {D : Type 0} (G : Ghosts D) (b : Begun) where
     pub counts : CountsRun (length queue) ran loaded
 
   -- What a load answers to a queue of blocks of this size. Only where the size is not the disk's does it answer so.
-  -- Where the journal was not opened, or only opened, some disk that this one has become is lost
+  -- Where the journal was not opened, or only opened, some disk that this one has become is lost; of the first it is
+  -- known what that told of its last call that failed
   abbrev pub AnswersLoad : D → BlockSize → List Stopped → LoadOptions → Result (Loaded × D) LoadFault → Type 0
   AnswersLoad disk bs queue options (Err fault.BlockSize) = bytes_of bs ≢ G.size disk
-  AnswersLoad disk bs queue options (Err (fault.Open why)) =
-      (bytes_of bs ≡ G.size disk) × ((after : D) × NotOpened G disk after why)
+  AnswersLoad disk bs queue options (Err (fault.Open why told)) =
+      (bytes_of bs ≡ G.size disk) × ((after : D) × NotOpened G disk after why × IfSome told (G.tells after))
   AnswersLoad disk bs queue options (Err fault.Memory) =
       (bytes_of bs ≡ G.size disk) × ((after : D) × IsOpenedOnly G b disk after)
   AnswersLoad disk bs queue options (Err fault.Accounts) =

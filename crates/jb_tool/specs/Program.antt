@@ -3,11 +3,13 @@ use Rattle.std.specs.Prelude.{◌≡◌, ◌≢◌, ◌⊎◌, ℕ, Bool, true, 
 use Rattle.std.specs.Prelude.{Ok, Err, IfSome, codes}
 use Rattle.std.specs.declared.io.ErrorKind.{ErrorKind}
 use Rattle.std.specs.declared.io.ErrorKind.TheVariants.{InvalidData}
-use Rattle.jb_args.specs.Advice.{hint_line}
+use Rattle.jb_args.specs.Advice.{SystemSaid, hint_line, reason_line}
 use Rattle.jb_args.specs.declared.hint.Hint.{Hint}
 use Rattle.jb_args.specs.declared.settings.AnswerForm.{AnswerForm}
 use Rattle.jb_args.specs.declared.settings.AnswerForm.TheVariants.{Text}
-use Rattle.jb_args.specs.Settings.{is_advised, settings_in, words_left}
+use Rattle.jb_args.specs.Settings.{second_part, settings_in, words_left}
+use Rattle.jb_args.specs.declared.settings.SecondPart.{SecondPart}
+use Rattle.jb_args.specs.declared.settings.SecondPart.TheVariants as parts
 use Rattle.jb_args.specs.declared.settings.Settings.{Settings}
 use Rattle.jb_text.specs.Puts.{PutsPart}
 use Rattle.jb_args.specs.Faults.{fault_kinds}
@@ -62,15 +64,18 @@ pub record RefusesKind (kind : ErrorKind) (old new : Outputs) (ended : ProgramEn
   pub memory : kind ≢ InvalidData → (ended ≡ of_fault Memory) × PutsPart old.err new.err (line_of None Memory)
   pub out : new.out ≡ old.out
 
--- where it is advised a second line follows an end that has a hint, as far as standard error took it; else nothing does
-abbrev pub Advises : Bool → Option Hint → Option (List ℕ) → Option (List ℕ) → Type 0
-Advises true (Some hint) err_old err_new = (system : List ℕ) × PutsPart err_old err_new (hint_line system hint)
-Advises true None err_old err_new = err_new ≡ err_old
-Advises false hint err_old err_new = err_new ≡ err_old
+-- so much of a second line follows an end that has a hint, as far as standard error took it; nothing follows another
+-- end
+abbrev pub Advises : SecondPart → Option Hint → Option (List ℕ) → Option (List ℕ) → Type 0
+Advises parts.Whole (Some hint) err_old err_new = (said : SystemSaid) × PutsPart err_old err_new (hint_line said hint)
+Advises parts.Reason (Some hint) err_old err_new =
+    (said : SystemSaid) × PutsPart err_old err_new (reason_line said hint)
+Advises parts.Nothing (Some hint) err_old err_new = err_new ≡ err_old
+Advises part None err_old err_new = err_new ≡ err_old
 
 -- the program's status and outputs by what it answered: the status is the answer's, or a finer one where the settings
--- ask for it, and where they or a terminal ask for it the second line follows
+-- ask for it, and so much of the second line follows as they and a terminal ask for
 abbrev pub EndsProgram : Settings → Bool → (Outputs → Outputs → ProgramEnd → Type 0) → Outputs → Outputs → ℕ → Type 0
 EndsProgram settings on_terminal Answers old new status =
     (ended : ProgramEnd) × (mid : Outputs) × Answers old mid ended × (status ≡ exit_status settings.statuses ended)
-    × (new.out ≡ mid.out) × Advises (is_advised settings on_terminal) ended.hint mid.err new.err
+    × (new.out ≡ mid.out) × Advises (second_part settings on_terminal) ended.hint mid.err new.err

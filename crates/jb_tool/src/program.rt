@@ -1,6 +1,6 @@
 //! The whole program over its words and its three streams, whatever they are.
 ghost use Rattle.std.specs.Prelude.{◌≡◌, MatchResult, None, map, true};
-ghost use Rattle.jb_args.specs.Settings.{is_advised};
+ghost use Rattle.jb_args.specs.Settings.{second_part};
 ghost use Rattle.jb_text.specs.Puts.{PutsPart};
 ghost use Rattle.jb_commands.specs.Ends.{exit_status, of_fault};
 ghost use Rattle.jb_commands.specs.Faults.{line_of};
@@ -9,7 +9,7 @@ ghost use Rattle.jb_tool.specs.Program.{Advises, AnswersGiven, AnswersWords, End
 ghost use Rattle.jb_tool.specs.Program.{settings_given};
 
 use crate::command_line::run;
-use jb_args::{Settings, put_hint, settings_in, show_help, words_left};
+use jb_args::{SecondPart, Settings, put_hint, put_reason, settings_in, show_help, words_left};
 use jb_commands::{CommandFault, ProgramEnd, refuse_words};
 use std::alloc::Global;
 use std::convert::AsStr;
@@ -30,8 +30,9 @@ pub struct Terminals {
 }
 
 /// Runs the program with these words, its name left out, or with the reason for which the system has not handed them
-/// over, and gives its exit status: what was answered, and the second line after it where the settings or a terminal
-/// ask for it. The settings are those that were given, as the words change them; a command has the words that are left.
+/// over, and gives its exit status: what was answered, and as much of the second line after it as the settings and a
+/// terminal ask for. The settings are those that were given, as the words change them; a command has the words that are
+/// left.
 pub fn run_program<
     R: Files<File = File> + AllocGlobal + Threads + Wait + Clock + Sync,
     S: AsStr,
@@ -48,8 +49,9 @@ pub fn run_program<
     err: &mut E,
 ) -> u8
     /// The whole program, over any words and streams: its status is that of the answer, or a finer one where the
-    /// settings ask for it, both outputs are as the answer has left them, and where the settings or a terminal ask for
-    /// it the second line of its hint follows, as far as standard error took it.
+    /// settings ask for it, both outputs are as the answer has left them, and the second line of its hint follows, as
+    /// far as standard error took it: whole where the settings or a terminal ask for that, and else the system's reason
+    /// alone, unless they ask for neither.
     ensures ends { EndsProgram (settings_given (λ w. map S.text w.now) given words.entry) terminals.err
         (λ old new ended. MatchResult words.entry
         (λ ws. AnswersGiven (settings_given (λ w. map S.text w.now) given words.entry).form
@@ -73,28 +75,30 @@ fn settings_of<S: AsStr>(given: Settings, words: Result<&[S], ErrorKind>) -> Set
     }
 }
 
-/// Writes the second line that an end has where it is advised, and gives the exit status. A fault of the writer is
-/// ignored.
+/// Writes as much of the second line that an end has as is asked for, and gives the exit status. A fault of the writer
+/// is ignored.
 fn finish<E: Write>(ended: ProgramEnd, settings: Settings, on_terminal: bool, err: &mut E) -> u8
     ensures status { result ≡ exit_status settings.statuses ended }
-    ensures advises { Advises (is_advised settings on_terminal) ended.hint (E.contents err.old)
+    ensures advises { Advises (second_part settings on_terminal) ended.hint (E.contents err.old)
         (E.contents err.new) }
 {
-    if settings.is_advised(on_terminal) {
-        advise(ended, err);
-    }
+    advise(settings.second_part(on_terminal), ended, err);
     ended.exit_status(settings.statuses)
 }
 
-/// Writes the second line that an end has.
-fn advise<E: Write>(ended: ProgramEnd, err: &mut E)
-    ensures advises { Advises true ended.hint (E.contents err.old) (E.contents err.new) }
+/// Writes so much of the second line that an end has.
+fn advise<E: Write>(part: SecondPart, ended: ProgramEnd, err: &mut E)
+    ensures advises { Advises part ended.hint (E.contents err.old) (E.contents err.new) }
 {
-    match ended.hint {
-        Some(hint) => {
+    match (part, ended.hint) {
+        (SecondPart::Whole, Some(hint)) => {
             let _ignored = put_hint(err, hint);
         }
-        None => {}
+        (SecondPart::Reason, Some(hint)) => {
+            let _ignored = put_reason(err, hint);
+        }
+        (SecondPart::Nothing, Some(_)) => {}
+        (_, None) => {}
     }
 }
 

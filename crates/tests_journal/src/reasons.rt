@@ -162,7 +162,12 @@ fn lost_on<D: Disk + Drop + Send>(rt: &impl Host, disk: D) -> Option<NotDurable>
 /// Why a journal on a disk was not run.
 fn unrun_on<D: Disk + Drop + Send>(rt: &impl Host, disk: D) -> Option<JournalFault> {
     let back = run_on(rt, disk, by(1), &PAIRS).err()?;
-    Some(JournalFault::from(back))
+    let why = back.why();
+    if JournalFault::from(back) == why {
+        Some(why)
+    } else {
+        None
+    }
 }
 
 /// Checks runs in files that may only be read, or only be written.

@@ -1,14 +1,32 @@
 //! The line of each hint.
 
 use crate::checks::{check_at, check_text};
-use jb_args::{Hint, OptionName, put_hint};
+use jb_args::{Hint, OptionName, put_hint, put_reason};
+use jb_disk::{FailedCall, Failure, FailureReason, SystemFault};
+use jb_tool::CommandFault;
 use std::alloc::Global;
 use std::process::Abort;
+
+/// Calls of a disk that failed.
+const NO_ROOM: Option<Failure> = Some(Failure {
+    call: FailedCall::Write(17),
+    reason: FailureReason::System(SystemFault { code: Some(28) }),
+});
+
+const NOT_SYNCED: Option<Failure> = Some(Failure {
+    call: FailedCall::Sync,
+    reason: FailureReason::System(SystemFault { code: Some(5) }),
+});
+
+const SHORTER: Option<Failure> = Some(Failure {
+    call: FailedCall::Read(18446744073709551615),
+    reason: FailureReason::Short,
+});
 
 /// A hint, and its line.
 type Row = (Hint, &'static str);
 
-static ROWS: [Row; 9] = [
+static ROWS: [Row; 13] = [
     (
         Hint::NeedsRecovery,
         "jb:  run jb recover on the image first\n",
@@ -48,6 +66,44 @@ static ROWS: [Row; 9] = [
         "jb:  take another name, or see to its folder, the permission and the room, and to a file of the \
          name with .jb-unfinished after it\n",
     ),
+    (
+        Hint::DeviceFault(None),
+        "jb:  run the command again, once its device is well\n",
+    ),
+    (
+        Hint::DeviceFault(NO_ROOM),
+        "jb:  make room on its file system; then run the command again, once its device is well: write at \
+         block 17: No space left on device (os error 28)\n",
+    ),
+    (
+        Hint::CommitAborted(NOT_SYNCED),
+        "jb:  look at the system's log, and copy the image to another device if this one fails; then run \
+         jb recover on the image, and see what it holds: sync: Input/output error (os error 5)\n",
+    ),
+    (
+        Hint::CheckpointAborted(SHORTER),
+        "jb:  the file is shorter than it was: put back a copy of it; then run jb recover on the image, and \
+         see what it holds: read at block 18446744073709551615: fewer bytes were moved than asked for\n",
+    ),
+];
+
+/// Hints, and the line that has the reason of each alone.
+static REASONS: [Row; 6] = [
+    (Hint::NeedsRecovery, ""),
+    (Hint::NoHome(Some(16)), ""),
+    (Hint::CannotRead(None), ""),
+    (
+        Hint::CannotRead(Some(2)),
+        "jb:  No such file or directory (os error 2)\n",
+    ),
+    (
+        Hint::HandleAborted(NO_ROOM),
+        "jb:  write at block 17: No space left on device (os error 28)\n",
+    ),
+    (
+        Hint::DeviceFault(SHORTER),
+        "jb:  read at block 18446744073709551615: fewer bytes were moved than asked for\n",
+    ),
 ];
 
 /// Checks the line of each hint.
@@ -64,7 +120,33 @@ fn check_rows(rt: &impl Abort, alloc: Global) {
     }
 }
 
+/// Checks the line that has the reason of each hint alone.
+fn check_reasons(rt: &impl Abort, alloc: Global) {
+    for (row, (hint, wanted)) in REASONS.iter().enumerate() {
+        let mut told = Vec::new(alloc);
+        check_at(
+            rt,
+            put_reason(&mut told, *hint).is_ok(),
+            "the reason of row",
+            row,
+        );
+        check_text(rt, &told, wanted, "the reason of row", row)
+    }
+}
+
+/// Checks that a failed call is put into a fault of the disk, and into no other.
+fn check_failures(rt: &impl Abort) {
+    let failed = CommandFault::DeviceFault(None).with_failure(NO_ROOM);
+    let met = matches!(failed, CommandFault::DeviceFault(told) if told == NO_ROOM);
+    check_at(rt, met, "a fault of the disk", 0);
+    let other = CommandFault::Memory.with_failure(NO_ROOM);
+    let same = matches!(other, CommandFault::Memory);
+    check_at(rt, same, "another fault", 1)
+}
+
 #[test]
 fn each_hint_has_its_line(rt: HostRuntime) {
-    check_rows(&rt, rt.alloc())
+    check_rows(&rt, rt.alloc());
+    check_reasons(&rt, rt.alloc());
+    check_failures(&rt)
 }

@@ -33,7 +33,7 @@ fn is_changed<D: Disk>(
         Ok(report) => report.tell(AnswerForm::Text, &mut out),
         Err(fault) => Err(fault),
     };
-    let met = matches!(answer, Err(CommandFault::DeviceFault));
+    let met = matches!(answer, Err(CommandFault::DeviceFault(None)));
     let wanted = if met { "" } else { line };
     check_text(rt, &out, wanted, "a disk that fails its call", call);
     check_at(rt, met || answer.is_ok(), "the answer to call", call);

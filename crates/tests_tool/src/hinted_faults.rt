@@ -105,7 +105,7 @@ static FAULTS: [(CommandFault<'static>, &str); 68] = [
     (CommandFault::BlockSize, ""),
     (CommandFault::Accounts, ""),
     (CommandFault::Geometry, ""),
-    (CommandFault::DeviceFault, ""),
+    (CommandFault::DeviceFault(None), ""),
     (CommandFault::Memory, ""),
     (CommandFault::WriteFault, ""),
 ];

@@ -105,7 +105,7 @@ fn is_whole(rt: &impl Abort, answer: &Result<Loaded, LoadFault>, found: u64, cal
             false
         }
         Err(fault) => {
-            let is_device = matches!(fault, LoadFault::Open(OpenFault::DeviceFault));
+            let is_device = matches!(fault, LoadFault::Open(OpenFault::DeviceFault, None));
             check_at(rt, is_device, "why it is not loaded, fault", call);
             check_at(rt, found == 0, "what recovery finds, fault", call);
             false

@@ -28,12 +28,25 @@ const LAST: &str = "-q load a b --threads 0 --hints";
 
 const NO_FILE: &str = "cost --status -- --status";
 
-static ROWS: [Row; 17] = [
+const UNREAD: &str = "jb: cannot read \njb:  No such file or directory (os error 2)\n";
+
+const UNREAD_HINTED: &str =
+    "jb: cannot read \njb:  it is to be a file that may be read; an image is a \
+                             regular file or block device, and may be written too: No such file or \
+                             directory (os error 2)\n";
+
+static ROWS: [Row; 19] = [
     (Ok("cost -"), [false, false], FITS),
     (Ok("cost -"), [true, true], FITS),
     (Ok(""), [false, false], FITS),
     (Ok(""), [false, true], FITS),
-    (Ok("cost ''"), [false, false], (2, "", "jb: cannot read \n")),
+    (Ok("cost ''"), [true, false], (2, "", UNREAD)),
+    (
+        Ok("cost '' --hints -q"),
+        [false, true],
+        (2, "", "jb: cannot read \n"),
+    ),
+    (Ok("cost ''"), [false, true], (2, "", UNREAD_HINTED)),
     (Ok(LOAD), [true, false], (2, "", "jb: bad option\n")),
     (Ok(LOAD), [false, true], (2, "", TOO_FEW)),
     (Ok(HINTED), [false, false], (2, "", TOO_FEW)),
@@ -44,7 +57,11 @@ static ROWS: [Row; 17] = [
     (
         Ok(NO_FILE),
         [false, false],
-        (2, "", "jb: cannot read --status\n"),
+        (
+            2,
+            "",
+            "jb: cannot read --status\njb:  No such file or directory (os error 2)\n",
+        ),
     ),
     (Err(InvalidData), [false, true], (2, "", NO_TEXT)),
     (Err(OutOfMemory), [true, false], (1, "", "jb: Memory\n")),

@@ -175,7 +175,11 @@ fn loads_answer_as_worked_by_hand(rt: HostRuntime) {
 /// What is loaded after a transaction of this number, and why it is not.
 static REFUSED: [(u32, &str, LoadFault); 2] = [
     (1, "bs 2048\nlimit 6\nh w1\n", LoadFault::BlockSize),
-    (0xffff_ffff, FOUR, LoadFault::Open(OpenFault::NumbersSpent)),
+    (
+        0xffff_ffff,
+        FOUR,
+        LoadFault::Open(OpenFault::NumbersSpent, None),
+    ),
 ];
 
 /// Checks that a load is refused, and that the journal stays as it was.
@@ -193,7 +197,7 @@ fn check_second(rt: &impl Loads, alloc: Global) {
     let (disk, first) = load_lent(rt, alloc, disk, Fails::Never, Duration::ZERO, FOUR, HELD);
     check_at(rt, first.is_ok(), "the answer of load", 1);
     let (mut disk, second) = load_lent(rt, alloc, disk, Fails::Never, Duration::ZERO, FOUR, HELD);
-    let fault = LoadFault::Open(OpenFault::NeedsRecovery);
+    let fault = LoadFault::Open(OpenFault::NeedsRecovery, None);
     check_at(rt, second == Err(fault), "the answer of load", 2);
     check_recovered(rt, alloc, &mut disk, ((2, 5), FOUR_HOMES), 2)
 }

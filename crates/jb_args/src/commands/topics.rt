@@ -104,15 +104,18 @@ macro_rules! diagnostics_text {
         options { $($option:ident, $name:literal, $values:literal $($rest_values:literal)*;)* }
     ) => {
         concat!(
-            "Diagnostics: what went wrong is one line on standard error. Where that is a
-terminal, or --hints is given, what to do follows on a second line; nothing is
-said on a terminal where nobody reads standard output any more, as after jb
-dump journal.bin | head -1. With --journal the line ends with the name of the
-file that it is about, but for DeviceFault, which is of either. A character of
-a name that is a control character, or turns the direction of the text, is \\x
-and two digits for each of its bytes. # is a number, REASON the system's own
-text, where it has one, and [#] the status with --status; the options that may
-be bad stand last.",
+            "Diagnostics: what went wrong is one line on standard error. Where the system
+has refused a call, its reason is a second line, which begins with jb: and two
+spaces. On a terminal, or with --hints, that line says what to do, and then
+the reason; with -q there is none. Nothing is said on a terminal where nobody
+reads standard output any more, as after jb dump journal.bin | head -1. With
+--journal the line ends with the name of the file that it is about, but for
+DeviceFault, which is of either. A character of a name that is a control
+character, or turns the direction of the text, is \\x and two digits for each
+of its bytes. # is a number, REASON the system's own text, where it has one,
+CALL the call that failed and its block, before which stands what to do about
+the reason, and [#] the status with --status; the options that may be bad
+stand last.",
             $("\n  jb: ", $begins, $rest, " [", $status, "]\n          ",
               $advice $(, "\n         ", $more)* $(, ": ", $beside)?),*,
             $("\n  ", $name, "\n          is ", $values $(, "\n         ", $rest_values)*),*

@@ -109,7 +109,8 @@ fn unmade<'a>(name: &'a str, fault: MakeFault) -> CommandFault<'a>
 {
     match fault {
         MakeFault::Geometry => unreachable!(),
-        MakeFault::DeviceFault | MakeFault::Device(_) => CommandFault::DeviceFault,
+        MakeFault::DeviceFault => CommandFault::DeviceFault(None),
+        MakeFault::Device(failure) => CommandFault::DeviceFault(Some(failure)),
         MakeFault::Exists => CommandFault::CannotMake(name, Some(EXISTS)),
         MakeFault::NoLinks => CommandFault::NoLinks(name),
         MakeFault::Image(fault) => unnamed(name, fault),

@@ -103,7 +103,7 @@ pub(crate) fn fault_of_find<'a>(fault: FindFault) -> CommandFault<'a>
     match fault {
         FindFault::Own(fault) => CommandFault::Own(fault),
         FindFault::Super(fault) => CommandFault::Super(fault),
-        FindFault::DeviceFault => CommandFault::DeviceFault,
+        FindFault::DeviceFault => CommandFault::DeviceFault(None),
         FindFault::Memory => CommandFault::Memory,
     }
 }

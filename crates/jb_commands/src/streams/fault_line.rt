@@ -2,6 +2,7 @@
 ghost use Rattle.std.specs.Prelude.{◌≡◌, map, option_map};
 ghost use Rattle.jb_text.specs.Puts.{Puts, PutsPart};
 ghost use Rattle.jb_text.specs.TextParts.{spelled};
+ghost use Rattle.jb_args.specs.Advice.{reason_spelled};
 ghost use Rattle.jb_json.specs.Objects.{json_line};
 ghost use Rattle.jb_commands.specs.FaultLines.{parts_of};
 ghost use Rattle.jb_commands.specs.FaultReports.{facts_with, told_facts};
@@ -14,7 +15,7 @@ use crate::names::TwoFiles;
 use crate::streams::putting::put_line;
 use arrayvec::ArrayVec;
 use itoa::Buffer;
-use jb_args::{SYSTEM_TEXT, hint_parts};
+use jb_args::{ReasonParts, SYSTEM_TEXT, hint_parts};
 use jb_json::{Field, put_json};
 use jb_scan::Summed;
 use jb_text::WriteFault;
@@ -29,8 +30,8 @@ pub(crate) enum Numbers {
 }
 
 impl<'a> CommandFault<'a> {
-    ghost use Rattle.std.specs.Prelude.{ℕ, List};
     ghost use Rattle.jb_text.specs.Puts.{PutsPart};
+    ghost use Rattle.jb_args.specs.Advice.{SystemSaid};
     ghost use Rattle.jb_json.specs.Objects.{json_line};
     ghost use Rattle.jb_commands.specs.FaultReports.{fault_facts};
     ghost use Rattle.jb_commands.specs.Faults.{line_of};
@@ -52,14 +53,15 @@ impl<'a> CommandFault<'a> {
     /// ignored. The name of the file is in it as it is.
     pub fn tell_json<E: Write>(self, files: Option<TwoFiles<'_>>, err: &mut E)
         /// The JSON of each fault: the name, the numbers and the file of its line, and what its second line says.
-        ensures { (system : List ℕ) × PutsPart (E.contents err.old) (E.contents err.new)
-            (json_line (fault_facts (names_said files.entry) system self.entry)) }
+        ensures { (said : SystemSaid) × PutsPart (E.contents err.old) (E.contents err.new)
+            (json_line (fault_facts (names_said files.entry) said self.entry)) }
     {
         let (words, numbers) = words_of(self);
         let mut text: ArrayVec<u8, SYSTEM_TEXT> = ArrayVec::new();
         let mut digits = Buffer::new();
         let hint = hint_parts(self.hint(), &mut text, &mut digits);
-        let _ignored = put_fault(err, words, numbers, name_after(self, files), &hint);
+        let name = name_after(self, files);
+        let _ignored = put_fault(err, words, numbers, name, &hint.advice, hint.reason);
     }
 }
 
@@ -98,7 +100,8 @@ fn put_numbers<W: Write>(writer: &mut W, words: &str, numbers: Numbers, name: Op
     }
 }
 
-/// Writes the JSON of a fault with this name, these numbers, this file and this advice.
+/// Writes the JSON of a fault with this name, these numbers, this file, this advice, and the system's reason where
+/// there is one.
 ///
 /// # Errors
 /// `WriteFault` where the writer took only the beginning of it.
@@ -108,48 +111,57 @@ fn put_fault<W: Write>(
     numbers: Numbers,
     file: Option<&str>,
     hint: &[&str],
+    system: Option<ReasonParts<'_>>,
 ) -> Result<(), WriteFault>
     ensures puts { Puts (W.contents writer.old) (W.contents writer.new)
         (json_line (told_facts words.now numbers (option_map (λ name. name.now) file.entry)
-        (spelled (map (λ part. part.now) hint.now)))) result }
+        (spelled (map (λ part. part.now) hint.now)) (option_map reason_spelled system.entry))) result }
 {
     let mut first = Buffer::new();
     let mut second = Buffer::new();
     match numbers {
-        Numbers::None => put_told(writer, words, &[], &[words], file, hint),
+        Numbers::None => put_told(writer, words, &[], &[words], file, hint, system),
         Numbers::One(number) => {
             let reason = [words, " ", first.format(number)];
-            put_told(writer, words, &[number], &reason, file, hint)
+            put_told(writer, words, &[number], &reason, file, hint, system)
         }
         Numbers::Two(one, two) => {
             let reason = [words, " ", first.format(one), " ", second.format(two)];
-            put_told(writer, words, &[one, two], &reason, file, hint)
+            put_told(writer, words, &[one, two], &reason, file, hint, system)
         }
     }
 }
 
-/// Writes the JSON of a fault with its numbers as they are, with what is said of it and what to do.
+/// Writes the JSON of a fault with its numbers as they are, with what is said of it, what to do, and the system's
+/// reason where there is one.
 ///
 /// # Errors
 /// `WriteFault` where the writer took only the beginning of it.
-pub(crate) fn put_told<W: Write>(
+pub(crate) fn put_told<'b, W: Write>(
     writer: &mut W,
-    words: &str,
-    numbers: &[u64],
-    reason: &[&str],
-    file: Option<&str>,
-    hint: &[&str],
+    words: &'b str,
+    numbers: &'b [u64],
+    reason: &'b [&'b str],
+    file: Option<&'b str>,
+    hint: &'b [&'b str],
+    system: Option<ReasonParts<'b>>,
 ) -> Result<(), WriteFault>
     ensures puts { Puts (W.contents writer.old) (W.contents writer.new)
         (json_line (facts_with words.now numbers.now (spelled (map (λ part. part.now) reason.now))
-        (option_map (λ name. name.now) file.entry) (spelled (map (λ part. part.now) hint.now)))) result }
+        (option_map (λ name. name.now) file.entry) (spelled (map (λ part. part.now) hint.now))
+        (option_map reason_spelled system.entry))) result }
 {
-    let fields = [
-        Field::Named("fault", Some(words)),
-        Field::Listed("numbers", "", numbers),
-        Field::Named("file", file),
-        Field::Worded("reason", reason),
-        Field::Worded("hint", hint),
-    ];
-    put_json(writer, &fields)
+    let name = Field::Named("fault", Some(words));
+    let numbers = Field::Listed("numbers", "", numbers);
+    let file = Field::Named("file", file);
+    let reason = Field::Worded("reason", reason);
+    let hint = Field::Worded("hint", hint);
+    match system {
+        None => put_json(writer, &[name, numbers, file, reason, hint]),
+        Some(parts) => {
+            let said = [parts.call, parts.place, parts.between, parts.text];
+            let system = Field::Worded("system", &said);
+            put_json(writer, &[name, numbers, file, reason, hint, system])
+        }
+    }
 }

@@ -1,3 +1,4 @@
+use jb_disk::Failure;
 use jb_handle::TouchFault;
 use jb_journal::{BeginFault, HandleFault, OpenFault};
 
@@ -6,8 +7,8 @@ use jb_journal::{BeginFault, HandleFault, OpenFault};
 pub enum LoadFault {
     /// The block size of the queue is not that of the disk.
     BlockSize,
-    /// The journal on the disk was not opened, for this.
-    Open(OpenFault),
+    /// The journal on the disk was not opened, for this; and the last call of the disk that failed, where it tells one.
+    Open(OpenFault, Option<Failure>),
     /// Memory ran out.
     Memory,
     /// The accounts of the desk do not agree. This cannot happen.

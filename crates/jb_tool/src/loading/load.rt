@@ -11,6 +11,7 @@ use crate::loading::fault::LoadFault;
 use crate::loading::loaded::{Loaded, Refused};
 use crate::loading::options::LoadOptions;
 use crate::loading::worker::Loader;
+use jb_disk::Failure;
 use jb_journal::{Clock, Commits, Disk, Options, Origin, RunFault, run_on};
 use jb_queue::QueueLines;
 use std::alloc::Global;
@@ -27,7 +28,7 @@ use std::time;
 /// # Errors
 /// - `BlockSize` where the block size of the queue is not the disk's.
 /// The disk is lost: what is said of it holds of some disk that this one has become.
-/// - `Open` where the journal was not opened.
+/// - `Open` where the journal was not opened, with what the disk tells of its last call that failed.
 /// - `Memory` where there was none for the desk or for what the threads leave: no handle was run.
 /// - `Accounts` where the desk's sums do not agree, its journal has another shape, or its trail was taken, which cannot
 ///   happen.
@@ -69,7 +70,10 @@ pub fn load_on<
     );
     match ran {
         Ok(ran) => count_up(queue.len() as u64, ran),
-        Err(back) => Err(fault_of(back.fault)),
+        Err(back) => {
+            let told = back.disk.failure();
+            Err(fault_of(back.fault, told))
+        }
     }
 }
 
@@ -89,13 +93,14 @@ fn run_options(options: LoadOptions) -> Options
     }
 }
 
-/// Why a queue was not loaded, where its journal was not run or has no answer.
-fn fault_of(fault: RunFault) -> LoadFault
+/// Why a queue was not loaded, where its journal was not run or has no answer, and its disk tells this of a failed
+/// call.
+fn fault_of(fault: RunFault, told: Option<Failure>) -> LoadFault
     requires threads { fault ≢ NoThread }
-    ensures { result ≡ not_run fault }
+    ensures { result ≡ not_run told fault }
 {
     match fault {
-        RunFault::Open(fault) => LoadFault::Open(fault),
+        RunFault::Open(fault) => LoadFault::Open(fault, told),
         RunFault::Memory => LoadFault::Memory,
         RunFault::Accounts => LoadFault::Accounts,
         RunFault::NoThread => unreachable!(),

@@ -1,7 +1,8 @@
 //! What a load says, in lines and in JSON.
 ghost use Rattle.jb_text.specs.Puts.{Puts};
 ghost use Rattle.jb_text.specs.TextParts.{spelled};
-ghost use Rattle.std.specs.Prelude.{◌≡◌, ℕ, List, Some, map, option_map};
+ghost use Rattle.std.specs.Prelude.{◌≡◌, Some, map, option_map};
+ghost use Rattle.jb_args.specs.Advice.{SystemSaid};
 ghost use Rattle.jb_tool.specs.LoadLines.{TellsLoad, aborted_word as aborted_said, checkpoint_word as checkpoint_said};
 ghost use Rattle.jb_tool.specs.LoadLines.{commit_word as commit_said, end_word as end_said, ends_text, faults_text};
 ghost use Rattle.jb_tool.specs.LoadLines.{json_text, load_err, load_out, part_text, refused_name as name_refused};
@@ -23,8 +24,10 @@ pub(crate) enum LoadPart {
     Counts,
     /// All of it in JSON, but for what to do.
     All,
-    /// All of it in JSON.
+    /// All of it in JSON, but for why the system refused a call.
     Advised,
+    /// All of it in JSON.
+    Reasoned,
 }
 
 /// Writes what a load did, part by part and without memory, and gives its status. As text, its counts on `out`, and on
@@ -59,36 +62,44 @@ fn put_told<O: Write>(
     hint: Option<Hint>,
     out: &mut O,
 ) -> Result<(), WriteFault>
-    ensures { (system : List ℕ) × Puts (O.contents out.old) (O.contents out.new)
-        (load_out form system hint loaded.now) result }
+    ensures { (said : SystemSaid) × Puts (O.contents out.old) (O.contents out.new)
+        (load_out form said hint loaded.now) result }
 {
     match (form, hint) {
-        (AnswerForm::Text, _) => put_part(LoadPart::Counts, loaded, &[], out),
-        (AnswerForm::Json, None) => put_part(LoadPart::All, loaded, &[], out),
+        (AnswerForm::Text, _) => put_part(LoadPart::Counts, loaded, &[], &[], out),
+        (AnswerForm::Json, None) => put_part(LoadPart::All, loaded, &[], &[], out),
         (AnswerForm::Json, Some(hint)) => put_advised(loaded, hint, out),
     }
 }
 
-/// Writes all of it in JSON, with what to do.
+/// Writes all of it in JSON, with what to do, and why the system refused a call, where it did.
 fn put_advised<O: Write>(loaded: &Loaded, hint: Hint, out: &mut O) -> Result<(), WriteFault>
-    ensures { (system : List ℕ) × Puts (O.contents out.old) (O.contents out.new)
-        (json_text system (Some hint) loaded.now) result }
+    ensures { (said : SystemSaid) × Puts (O.contents out.old) (O.contents out.new)
+        (json_text said (Some hint) loaded.now) result }
 {
     let mut text: ArrayVec<u8, SYSTEM_TEXT> = ArrayVec::new();
     let mut digits = Buffer::new();
-    let parts = hint_parts(hint, &mut text, &mut digits);
-    put_part(LoadPart::Advised, loaded, &parts, out)
+    let said = hint_parts(hint, &mut text, &mut digits);
+    match said.reason {
+        None => put_part(LoadPart::Advised, loaded, &said.advice, &[], out),
+        Some(parts) => {
+            let system = [parts.call, parts.place, parts.between, parts.text];
+            put_part(LoadPart::Reasoned, loaded, &said.advice, &system, out)
+        }
+    }
 }
 
-/// Writes so much of it, with what to do in these parts.
+/// Writes so much of it, with what to do, and why the system refused a call, in these parts.
 fn put_part<O: Write>(
     part: LoadPart,
     loaded: &Loaded,
     hint: &[&str],
+    system: &[&str],
     out: &mut O,
 ) -> Result<(), WriteFault>
     ensures { Puts (O.contents out.old) (O.contents out.new)
-        (part_text part (spelled (map (λ part. part.now) hint.now)) loaded.now) result }
+        (part_text part (spelled (map (λ part. part.now) hint.now)) (spelled (map (λ part. part.now) system.now))
+        loaded.now) result }
 {
     let numbers = refused_numbers(loaded.refused);
     let fields = [
@@ -102,11 +113,13 @@ fn put_part<O: Write>(
         Field::Named("commit", commit_word(loaded)),
         Field::Named("checkpoint", checkpoint_word(loaded)),
         Field::Worded("hint", hint),
+        Field::Worded("system", system),
     ];
     match part {
         LoadPart::Counts => put_report(out, &fields[..5]),
         LoadPart::All => put_json(out, &fields[..9]),
-        LoadPart::Advised => put_json(out, &fields),
+        LoadPart::Advised => put_json(out, &fields[..10]),
+        LoadPart::Reasoned => put_json(out, &fields),
     }
 }
 

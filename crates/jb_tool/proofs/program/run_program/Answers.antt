@@ -1,5 +1,5 @@
 use Rattle.std.proofs.Common.{◌≡◌, refl, subst}
-use Rattle.jb_args.specs.Settings.{is_advised}
+use Rattle.jb_args.specs.Settings.{second_part}
 use Rattle.jb_args.specs.declared.settings.Settings.{Settings}
 use Rattle.jb_commands.specs.Ends.{exit_status}
 use Rattle.jb_tool.specs.Program.{Advises}
@@ -17,6 +17,6 @@ returns g c =
         (rw c.settings_of-settings.ensures at c.answered-ended.ensures.answers),
         subst (λ (s : Settings). c.finish.result ≡ exit_status s.statuses ended) c.settings_of-settings.ensures c.finish.ensures.status,
         refl,
-        subst (λ (s : Settings). Advises (is_advised s c.args.terminals.err) ended.hint mid new) c.settings_of-settings.ensures c.finish.ensures.advises,
+        subst (λ (s : Settings). Advises (second_part s c.args.terminals.err) ended.hint mid new) c.settings_of-settings.ensures c.finish.ensures.advises,
       );
     }

@@ -5,7 +5,7 @@ use Rattle.jb_commands.specs.declared.fault.CommandFault.TheVariants.{DeviceFaul
 use Rattle.jb_commands.proofs.files.making.unmade.Goals as goal
 
 not-named : (name : List ℕ) (fault : CommandFault) → IsUnnamed name fault → IsNotMade name fault
-not-named name DeviceFault is = tt
+not-named name (DeviceFault failure) is = tt
 not-named name _ is = is
 
 pub returns-in-Image : goal.returns-in-Image

@@ -29,5 +29,5 @@ returns-in-Err g c = record {
       subst (λ f. AnswersLoad g.D.Disk g.H.Origin.begun c.args.disk c.args.queue.now.bs (handles_of c.args.queue.now) c.args.options (Err f)) (sym c.fault_of.ensures)
       (answers-fault g.D.Disk g.H.Origin.begun c.args.disk c.args.queue.now.bs (handles_of c.args.queue.now) c.args.options (omega arith)
       c.run_options-run.result.commits _ c.run_options-run.result.workers (not-meanwhile c.args.options.hold c.run_options-run.result.commits c.run_options-run.ensures.commits)
-      c.in-Err.back.fault c.in-Err.back.disk c.in-Err.back.answers.items c.in-Err.ensures.refused);
+      c.failure-told.result c.in-Err.back.fault c.in-Err.back.disk c.in-Err.back.answers.items c.in-Err.ensures.refused c.failure-told.ensures);
 }

@@ -1,4 +1,12 @@
+use Rattle.std.proofs.Common.{sym}
 use Rattle.jb_tool.proofs.loading.telling.put_advised.Goals as goal
 
-pub returns : goal.returns
-returns g c = (c.hint_parts-parts.ensures.0, rw c.hint_parts-parts.ensures.1 at c.put_part.ensures)
+pub returns-in-None : goal.returns-in-None
+returns-in-None g c =
+    let said = c.hint_parts-said.ensures in
+    (said.0, rw (sym said.1.0, sym said.1.1) (rw c.in-None.is c.put_part.ensures))
+
+pub returns-in-Some : goal.returns-in-Some
+returns-in-Some g c =
+    let said = c.hint_parts-said.ensures in
+    (said.0, rw (sym said.1.0, sym said.1.1) (rw c.in-Some.is c.put_part-in-Some.ensures))

@@ -10,3 +10,7 @@ returns-in-All g c =
 pub returns-in-Advised : goal.returns-in-Advised
 returns-in-Advised g c =
     rw c.in-Advised.is (rw (c.refused_name.ensures, c.as_slice.ensures.value, c.refused_numbers-numbers.ensures, c.commit_word.ensures, c.checkpoint_word.ensures) at c.put_json-in-Advised.ensures)
+
+pub returns-in-Reasoned : goal.returns-in-Reasoned
+returns-in-Reasoned g c =
+    rw c.in-Reasoned.is (rw (c.refused_name.ensures, c.as_slice.ensures.value, c.refused_numbers-numbers.ensures, c.commit_word.ensures, c.checkpoint_word.ensures) at c.put_json-in-Reasoned.ensures)
