@@ -1,16 +1,18 @@
 #!/usr/bin/env python3
-"""durable.py [--delay] EXAMPLE_DURABLE [SECONDS [FOLDER]]: how many handles a second are durable, beside SQLite, and beside the limit of the disk.
+"""durable.py [--delay] EXAMPLE_DURABLE [SECONDS [FOLDER]]: how many handles a second are durable, beside SQLite and LMDB, and beside the
+limit of the disk.
 
 So many threads (1, 2, 4, .., 64) each change two home blocks by a handle and wait until it is durable, again and again; then as many
-threads each change two rows by a transaction of SQLite and commit it (a connection each, a log, synchronous=FULL). Each for so many
-seconds (2), one after the other, with nothing checkpointed until half of the log is in use, and once more with each transaction written
-home at once (level 0). First with the syncs of the disk that FOLDER is on, then in memory (/dev/shm), where a C library in front of the
+threads each change two rows of SQLite (a log, synchronous=FULL), once by a transaction and a connection each, and once by a leader, a thread
+that commits for all that wait by one transaction; then two entries of LMDB by a leader (MDB_NOSYNC, and a sync for each transaction). Each
+for so many seconds (2), one after the other, with nothing checkpointed until half of the log is in use, and once more with each transaction
+written home at once (level 0). First with the syncs of the disk that FOLDER is on, then in memory (/dev/shm), where a C library in front of the
 system's lets each sync take 1, 4 and 10 ms. The limit is what two syncs for as many handles as there are threads allow; a sync's own time
 is measured before each row, by a program that writes a block and syncs it.
 
 A line for each: handles a second, how many times the limit that is, syncs a handle, handles a transaction, and milliseconds until a handle
 is durable, the median and 99 of 100. The syncs are those from the first handle to the program's end, at which all is written home. Needs a
-C compiler and SQLite's library (libsqlite3-dev).
+C compiler and the libraries of SQLite and LMDB (libsqlite3-dev, liblmdb-dev).
 
 With --delay only what a delay before each commit changes: 8 and 64 threads, with the disk's own sync and with syncs of 4 ms in memory; no
 delay, and then at most 100, 500, 2,000 and 8,000 microseconds, until as many handles wait as there are threads, and until half as many do."""
@@ -51,7 +53,7 @@ def row(what, threads, ran, limit):
                  "%.1f" % (handles / max(groups, 1)), "%.1f" % (median / 1000), "%.1f" % (most / 1000)), flush=True)
 
 
-def measure(program, sqlite, shim, seconds, micros):
+def measure(program, sqlite, lmdb, shim, seconds, micros):
     """All rows with syncs that take so much longer."""
     for threads in THREADS:
         fresh("probe")
@@ -61,12 +63,13 @@ def measure(program, sqlite, shim, seconds, micros):
             fresh("image")
             run(shim, 0, [program, "image", "1", "0"])
             row(what, threads, run(shim, micros, [program, "image", str(threads), str(seconds), level]), limit)
-        fresh("rows", "rows-wal", "rows-shm")
-        row("SQLite", threads, run(shim, micros, [sqlite, "rows", str(threads), str(seconds)]), limit)
+        for what, words in (("SQLite", [sqlite]), ("SQLite, leader", [sqlite, "leader"]), ("LMDB, leader", [lmdb])):
+            fresh("rows", "rows-wal", "rows-shm", "rows-lock")
+            row(what, threads, run(shim, micros, [words[0], "rows", str(threads), str(seconds), *words[1:]]), limit)
         print(ROW % ("the limit", threads, "%.0f" % limit, "", "", "", "", ""), flush=True)
 
 
-def measure_delays(program, sqlite, shim, seconds, micros):
+def measure_delays(program, sqlite, _lmdb, shim, seconds, micros):
     """Rows without a delay and with several, with syncs that take so much longer."""
     for threads in (8, 64):
         fresh("probe")
@@ -87,16 +90,17 @@ def main():
     seconds = int(words[1]) if len(words) > 1 else 2
     folder = os.path.realpath(words[2] if len(words) > 2 else ".")
     with tempfile.TemporaryDirectory() as made:
-        shim, sqlite = os.path.join(made, "slow_sync.so"), os.path.join(made, "sqlite")
+        shim, sqlite, lmdb = (os.path.join(made, name) for name in ("slow_sync.so", "sqlite", "lmdb"))
         subprocess.run(["cc", "-shared", "-fPIC", "-O2", "-o", shim, os.path.join(HERE, "slow_sync.c"), "-ldl"], check=True)
-        subprocess.run(["cc", "-O2", "-o", sqlite, os.path.join(HERE, "sqlite.c"), "-lsqlite3", "-lpthread"], check=True)
+        for peer, library in ((sqlite, "-lsqlite3"), (lmdb, "-llmdb")):
+            subprocess.run(["cc", "-O2", "-o", peer, os.path.join(HERE, os.path.basename(peer) + ".c"), library, "-lpthread"], check=True)
         slow = (4000,) if is_delayed else (1000, 4000, 10000)
         for micros, where in [(0, folder)] + [(micros, "/dev/shm") for micros in slow]:
             with tempfile.TemporaryDirectory(dir=where) as at:
                 os.chdir(at)
                 print("\n%s, load %.1f" % ("syncs of %d ms" % (micros // 1000) if micros else "the disk's own sync", os.getloadavg()[0]))
                 print(ROW % ("", "threads", "handles/s", "limit", "syncs", "a group", "median", "99th"))
-                (measure_delays if is_delayed else measure)(program, sqlite, shim, seconds, micros)
+                (measure_delays if is_delayed else measure)(program, sqlite, lmdb, shim, seconds, micros)
                 os.chdir("/")
 
 

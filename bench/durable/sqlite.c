@@ -1,45 +1,32 @@
-/* sqlite FILE THREADS SECONDS: threads that change two rows by each transaction of SQLite, with a connection each, a log (WAL) and
-   synchronous=FULL; prints what example_durable prints. With 0 threads it writes a block and syncs it, again and again. */
+/* sqlite FILE THREADS SECONDS [leader]: threads that change two rows by each transaction of SQLite, with a connection each, or by a leader
+   that has the one connection and commits for all that wait; a log (WAL) and synchronous=FULL. Prints what example_durable prints. With 0
+   threads it writes a block and syncs it, again and again. */
+#include "peer.h"
 #include <fcntl.h>
-#include <pthread.h>
 #include <sqlite3.h>
-#include <stdint.h>
-#include <stdio.h>
-#include <stdlib.h>
-#include <time.h>
-#include <unistd.h>
+#include <string.h>
 
-#define MOST 4000000
-static const char *file;
-static long seconds, start, ended, handles, waits[MOST];
-
-static long now(void) {
-    struct timespec t;
-    clock_gettime(CLOCK_MONOTONIC, &t);
-    return t.tv_sec * 1000000 + t.tv_nsec / 1000;
-}
-
-static void must(int is_so, const char *what) {
-    if (!is_so) {
-        fprintf(stderr, "%s\n", what);
-        _exit(1);
-    }
-}
-
-static void durable(long begun) {
-    long end = now(), at = __atomic_fetch_add(&handles, 1, __ATOMIC_SEQ_CST);
-    must(at < MOST, "too many");
-    waits[at] = end - begun;
-    for (long seen = ended; seen < end && !__atomic_compare_exchange_n(&ended, &seen, end, 0, __ATOMIC_SEQ_CST, __ATOMIC_SEQ_CST);)
-        ;
-}
-
-static sqlite3 *opened(void) {
+struct connection {
     sqlite3 *db;
-    must(sqlite3_open(file, &db) == SQLITE_OK, "open");
-    sqlite3_busy_timeout(db, 60000);
-    must(sqlite3_exec(db, "PRAGMA journal_mode=WAL; PRAGMA synchronous=FULL", 0, 0, 0) == SQLITE_OK, "pragma");
-    return db;
+    sqlite3_stmt *begin, *change, *commit;
+};
+
+static struct connection of_leader;
+
+static struct connection opened(void) {
+    struct connection made;
+    must(sqlite3_open(file, &made.db) == SQLITE_OK, "open");
+    sqlite3_busy_timeout(made.db, 60000);
+    must(sqlite3_exec(made.db, "PRAGMA journal_mode=WAL; PRAGMA synchronous=FULL", 0, 0, 0) == SQLITE_OK, "pragma");
+    return made;
+}
+
+static struct connection prepared(void) {
+    struct connection made = opened();
+    must(sqlite3_prepare_v2(made.db, "BEGIN IMMEDIATE", -1, &made.begin, 0) == SQLITE_OK, "begin");
+    must(sqlite3_prepare_v2(made.db, "UPDATE t SET v=?2 WHERE k=?1", -1, &made.change, 0) == SQLITE_OK, "update");
+    must(sqlite3_prepare_v2(made.db, "COMMIT", -1, &made.commit, 0) == SQLITE_OK, "commit");
+    return made;
 }
 
 static int step(sqlite3_stmt *statement) {
@@ -48,40 +35,48 @@ static int step(sqlite3_stmt *statement) {
     return answer == SQLITE_DONE;
 }
 
-static void *work(void *place) {
-    sqlite3 *db = opened();
-    sqlite3_stmt *begin, *change, *commit;
-    must(sqlite3_prepare_v2(db, "BEGIN IMMEDIATE", -1, &begin, 0) == SQLITE_OK, "begin");
-    must(sqlite3_prepare_v2(db, "UPDATE t SET v=?2 WHERE k=?1", -1, &change, 0) == SQLITE_OK, "update");
-    must(sqlite3_prepare_v2(db, "COMMIT", -1, &commit, 0) == SQLITE_OK, "commit");
-    uint64_t draw = (uint64_t)(intptr_t)place;
-    for (long begun, number = 0; (begun = now()) - start < seconds * 1000000; number++) {
-        draw = draw * 6364136223846793005u + 1442695040888963407u;
-        while (!step(begin))
-            ;
-        for (int shift = 8; shift <= 24; shift += 16) {
-            sqlite3_bind_int64(change, 1, draw >> shift & 1023);
-            sqlite3_bind_int64(change, 2, number);
-            must(step(change), "change");
+static void commit_all(struct change *group, struct connection *by) {
+    while (!step(by->begin))
+        ;
+    for (; group; group = group->next)
+        for (int at = 0; at < 2; at++) {
+            sqlite3_bind_int64(by->change, 1, group->keys[at]);
+            sqlite3_bind_int64(by->change, 2, group->number);
+            must(step(by->change), "change");
         }
-        must(step(commit), "no commit");
-        durable(begun);
-    }
+    must(step(by->commit), "no commit");
+}
+
+static void commit_led(struct change *group) { commit_all(group, &of_leader); }
+
+static void change_alone(struct change *mine, void *by) { commit_all(mine, by); }
+
+static void change_led(struct change *mine, void *by) {
+    (void)by;
+    change_by_leader(mine, commit_led);
+}
+
+static void *work_alone(void *place) {
+    struct connection own = prepared();
+    change_again((intptr_t)place, change_alone, &own);
     return NULL;
 }
 
-static int order(const void *a, const void *b) { return (*(long *)a > *(long *)b) - (*(long *)a < *(long *)b); }
+static void *work_led(void *place) {
+    change_again((intptr_t)place, change_led, NULL);
+    return NULL;
+}
 
 static void make(void) {
-    sqlite3 *db = opened();
     const char *rows = "CREATE TABLE t(k INTEGER PRIMARY KEY, v INTEGER); WITH RECURSIVE n(k) AS (SELECT 0 UNION ALL SELECT k+1 FROM n "
                        "WHERE k<1023) INSERT INTO t SELECT k, 0 FROM n";
-    must(sqlite3_exec(db, rows, 0, 0, 0) == SQLITE_OK, "rows");
+    must(sqlite3_exec(opened().db, rows, 0, 0, 0) == SQLITE_OK, "rows");
 }
 
 static void probe(void) {
     static char block[4096];
     int fd = open(file, O_RDWR | O_CREAT, 0600);
+    start = now();
     for (long begun; (begun = now()) - start < seconds * 1000000; durable(begun)) {
         must(pwrite(fd, block, sizeof block, handles % 256 * sizeof block) == sizeof block, "write");
         must(fdatasync(fd) == 0, "sync");
@@ -89,21 +84,16 @@ static void probe(void) {
 }
 
 int main(int argc, char **argv) {
-    must(argc == 4, "sqlite FILE THREADS SECONDS");
-    pthread_t threads[64];
+    must(argc == 4 || (argc == 5 && !strcmp(argv[4], "leader")), "sqlite FILE THREADS SECONDS [leader]");
     int count = atoi(argv[2]);
     file = argv[1], seconds = atol(argv[3]);
-    must(count <= 64, "threads");
-    if (count)
-        make();
-    start = now();
-    if (!count)
+    if (!count) {
         probe();
-    for (intptr_t at = 0; at < count; at++)
-        must(pthread_create(&threads[at], 0, work, (void *)at) == 0, "thread");
-    for (int at = 0; at < count; at++)
-        pthread_join(threads[at], NULL);
-    qsort(waits, handles, sizeof *waits, order);
-    printf("%ld handles in %ld us, %ld transactions, each in %ld us, 99 of 100 in %ld us\n", handles, ended - start, handles,
-           waits[handles * 50 / 100], waits[handles * 99 / 100]);
+    } else {
+        make();
+        if (argc == 5)
+            of_leader = prepared();
+        run_threads(count, argc == 5 ? work_led : work_alone);
+    }
+    print_line();
 }
