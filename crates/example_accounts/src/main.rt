@@ -19,8 +19,8 @@ mod running;
 use crate::accounts::{ACCOUNTS, Balances, Block, SIZE, balance, total};
 use crate::running::{Outcome, move_in_image, move_on_disk};
 use jb_journal::{
-    Disk, Failure, HomeFault, ImageGeometry, JournalFault, MemoryDisk, PeekFault, Ran, Unknown,
-    Width, format, read_home,
+    Disk, Failure, HomeFault, ImageGeometry, JournalFault, MemoryDisk, PeekFault, Ran,
+    ReadHomeFault, Unknown, Width, format, read_home,
 };
 use std::alloc::Global;
 use std::env;
@@ -38,10 +38,24 @@ const JOURNAL: u32 = 1024;
 /// What the accounts hold, once all that was moved is committed.
 fn held_after<D: Disk + Drop>(ran: Ran<Outcome, D>) -> Result<Balances, JournalFault> {
     let (mut disk, answers) = ran.durable()?;
+    let failure = disk.failure();
     for answer in answers {
-        answer?;
+        if let Err(fault) = answer {
+            return Err(with_reason(fault, failure));
+        }
     }
     read_all(&mut disk)
+}
+
+/// Why a worker ended; with the system's reason, where it did not read an account and its disk tells this of the last
+/// call that failed.
+fn with_reason(fault: JournalFault, told: Option<Failure>) -> JournalFault {
+    match (fault, told) {
+        (JournalFault::Read(ReadHomeFault::DeviceFault), Some(failure)) => {
+            JournalFault::Device(failure)
+        }
+        (fault, _) => fault,
+    }
 }
 
 /// Why an account was not read, where its disk tells this of the last call that failed.

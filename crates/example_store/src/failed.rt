@@ -1,5 +1,5 @@
 //! What may go wrong here.
-use jb_journal::JournalFault;
+use jb_journal::{Failure, JournalFault, ReadHomeFault};
 use std::alloc::AllocError;
 use std::io;
 use thiserror::Error;
@@ -22,4 +22,17 @@ pub enum Failed {
     /// There was no memory.
     #[error("out of memory")]
     Memory(#[from(alloc)] AllocError),
+}
+
+impl Failed {
+    /// The same; with the system's reason, where a home was not read and its disk tells this of the last call that
+    /// failed.
+    pub fn with_reason(self, told: Option<Failure>) -> Failed {
+        match (self, told) {
+            (Failed::Journal(JournalFault::Read(ReadHomeFault::DeviceFault)), Some(failure)) => {
+                Failed::Journal(JournalFault::Device(failure))
+            }
+            (failed, _) => failed,
+        }
+    }
 }

@@ -79,14 +79,25 @@ fn durable_answers<D: Disk + Drop>(ran: Ran<Served, D>) -> Result<Vec<Served>, J
     Ok(answers)
 }
 
-/// How the worker ended.
-fn answered<D: Disk + Drop>(ran: Ran<Served, D>) -> Result<(), Failed>
+/// How the worker ended, by its answer.
+fn last_answer<D: Disk + Drop>(ran: Ran<Served, D>) -> Result<(), Failed>
     ensures { OnOk result (EndedWell ran) }
 {
     let mut answers = durable_answers(ran)?;
     match answers.pop() {
         Some(Served { ended, .. }) => ended,
         None => Ok(()),
+    }
+}
+
+/// The same; with the system's reason, where the worker ended as a home was not read.
+fn answered<D: Disk + Drop>(ran: Ran<Served, D>) -> Result<(), Failed>
+    ensures { OnOk result (EndedWell ran) }
+{
+    let told = ran.disk.failure();
+    match last_answer(ran) {
+        Ok(()) => Ok(()),
+        Err(failed) => Err(failed.with_reason(told)),
     }
 }
 

@@ -6,7 +6,7 @@ use Rattle.jb_journal.specs.declared.ran.Ran.{Ran}
 use Rattle.example_store.specs.Keeps.{EndedWell}
 use Rattle.example_store.specs.declared.failed.Failed.{Failed}
 use Rattle.example_store.specs.declared.served.Served.{Served}
-use Rattle.example_store.proofs.answered.Goals as goal
+use Rattle.example_store.proofs.last_answer.Goals as goal
 
 -- the last answer is the only one
 one-whole : {D : Type 0} (ran : Ran Served D) → AllSettled ran → (front : List Served) (served : Served) → ran.answers.items ≡ front ++ served ∷ [] → (ended : Result (Unit {0}) Failed) → served.ended ≡ ended → OnOk ended (EndedWell ran)
