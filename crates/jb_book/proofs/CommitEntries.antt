@@ -116,10 +116,10 @@ commits-as before after p stamp old new (Ok done) planned is = (
   is.2.first,
   subst (Follow p.batch.first 0 (end_of p.batch)) (sym is.2.entries) (for-follow (cost_in p.batch.shape p.batch.handles) (length p.batch.handles) p.batch.first old.log.next p.groups planned.least.fitting.cut),
 )
-commits-as before after p stamp old new (Err (Aborted back)) planned is = is.1
-commits-as before after p stamp old new (Err (WrongTicket back expected)) planned is = is.3
-commits-as before after p stamp old new (Err (OtherShape back)) planned is = is.3
-commits-as before after p stamp old new (Err (NumbersSpent back)) planned is = is.4
+commits-as before after p stamp old new (Err (Aborted back)) planned is = is.0.1
+commits-as before after p stamp old new (Err (WrongTicket back expected)) planned is = is.0.3
+commits-as before after p stamp old new (Err (OtherShape back)) planned is = is.0.3
+commits-as before after p stamp old new (Err (NumbersSpent back)) planned is = is.0.4
 commits-as before after p stamp old new (Err (Memory back)) planned is = is.2
 commits-as before after p stamp old new (Err (DeviceFault settled)) planned is =
     let some = is.2 in

@@ -34,6 +34,7 @@ use Rattle.jb_book.specs.SinceMark.{HasSettledOf, IsMarkedOf, Lasts, MarksSettle
 use Rattle.jb_book.proofs.CommitEntries.{cut-rise, cut-within}
 use Rattle.jb_book.proofs.TrailEntries.{follow-length}
 use Rattle.jb_deck.specs.declared.batched.BatchFault.TheVariants as batch
+use Rattle.jb_log.specs.Stood.{stood_of}
 
 -- ---- images with a first part of the handles that a journal was given
 
@@ -78,12 +79,12 @@ module _ (b : Begun) where
 
     -- where all that were given are the first groups, so many
     module _ (bounds : List ℕ) (groups : ℕ) (at : slice_get bounds groups ≡ Some (length given)) where
-      pub first-none : (least next : ℕ) (c : Image) → least ≤ length given → next ≡ b.own.sequence + 1 + groups → RecoversWith own next n m homes [] c → HasFirst b given bounds least c
+      pub first-none : (least next : ℕ) (c : Image) → least ≤ length given → next ≡ b.own.sequence + 1 + groups → RecoversWith (stood_of own next n m homes) [] c → HasFirst b given bounds least c
       first-none least next c low few none =
           subst (λ hs. HasFirst b hs bounds least c) (append-nil given)
           (first-more given [] bounds groups 0 least next c (at ∙ ap Some (let h : length given ≡ length given + 0 = omega arith in h)) (omega arith) (omega (arith, low)) few (recovered-more [] next c none.follows none.headers))
 
-      pub first-some : (hs : List Stopped) (cuts : List ℕ) (least most low next : ℕ) (c : Image) → next ≡ b.own.sequence + 1 + groups → IsCut (length given) bounds → IsCut (length hs) cuts → most ≤ groups_in cuts → low ≤ length given + slice_index cuts least → FollowsSome own next n m homes hs cuts least most c
+      pub first-some : (hs : List Stopped) (cuts : List ℕ) (least most low next : ℕ) (c : Image) → next ≡ b.own.sequence + 1 + groups → IsCut (length given) bounds → IsCut (length hs) cuts → most ≤ groups_in cuts → low ≤ length given + slice_index cuts least → FollowsSome (stood_of own next n m homes) hs cuts least most c
           → HasFirst b (given ++ hs) (bounds ++ further (length given) cuts) low c
       first-some hs cuts least most low next c few whole cut within below some =
           let inside : some.groups ≤ groups_in cuts = omega (arith, within) in
@@ -128,7 +129,7 @@ module _ {D : Type 0} where
 
   pub marks-settled : (before after : ℕ) (p : Planned) (stamp : Stamp) (ms : List (OpenDeck D)) (old new : OpenDeck D) (r : Result Done BatchFault) → AnswersBatch before after p stamp old new r → MarksSettled (ms ++ new ∷ []) r
   marks-settled before after p stamp ms old new (Ok done) answers = marked-more ms old new (entries_of done) answers.2.trail
-  marks-settled before after p stamp ms old new (Err (batch.Aborted back)) answers = failed-more ms new (ap (λ (d : OpenDeck D). d.aborted) answers.2 ∙ answers.0)
+  marks-settled before after p stamp ms old new (Err (batch.Aborted back)) answers = failed-more ms new (ap (λ (d : OpenDeck D). d.aborted) answers.1 ∙ answers.0.0)
   marks-settled before after p stamp ms old new (Err (batch.DeviceFault settled)) answers = (marked-more ms old new (entries_of settled) answers.2.trail, failed-more ms new answers.2.aborted)
   marks-settled before after p stamp ms old new (Err refused) answers = tt
 

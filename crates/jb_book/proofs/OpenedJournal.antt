@@ -26,6 +26,7 @@ use Rattle.jb_deck.specs.Since.{LiveOf, deck_homes}
 use Rattle.jb_book.specs.Origin.{Begun, own_on, revoking_in}
 use Rattle.jb_book.specs.OpenDisk.{WasOpenedAs}
 use Rattle.jb_book.specs.Since.{IsBegunOn, IsCosted, IsSince, NoneAfterAtDesk}
+use Rattle.jb_log.specs.Stood.{stood_by}
 use Rattle.jb_book.proofs.MarksLast.{first-none}
 use Rattle.jb_deck.proofs.OpenedJournal.{revoking-same}
 
@@ -60,7 +61,7 @@ module _ {D : Type 0} (G : Ghosts D) (disk : D) where
   pub open-since : ((d : D) (t : ℕ) (c : Image) → G.honest d → t ≤ G.moment d → G.may_leave d c → G.left_since d t c)
       → (b : Begun) → IsBegunOn G b disk → (r : Opened) → KeptOn G (CountsOpen r) disk (disk_in r) → IfOk r IsNew → OpensAs r
       → (G.honest (disk_in r) → LeavesOnly G.moment G.left_since disk (disk_in r) (λ c. G.may_leave disk c ⊎ FollowsEntry (G.size disk) (G.count disk) (G.newest disk) c))
-      → (G.honest (disk_in r) → IfOk r (λ deck. AllHave G.may_leave deck.disk (RecoversWith deck.log.sb deck.log.next (G.size disk) (G.count disk) (recovered_home (G.size disk) (G.count disk) (G.newest disk)) [])))
+      → (G.honest (disk_in r) → IfOk r (λ deck. AllHave G.may_leave deck.disk (RecoversWith (stood_by G deck.log disk (recovered_home (G.size disk) (G.count disk) (G.newest disk))) [])))
       → (G.honest (disk_in r) → IfOk r (λ deck. (home : ℕ) → deck_homes G.newest deck home ≡ recovered_home (G.size disk) (G.count disk) (G.newest disk) home))
       → IfOk r (IsSince G b)
   open-since counts_now b begun (Ok deck) kept new opens leaves now stands =

@@ -21,7 +21,7 @@ use Rattle.jb_handle.proofs.Tickets.{tickets-append}
 use Rattle.jb_deck.specs.Calls.{IsCall}
 use Rattle.jb_deck.specs.CommitBatch.{AnswersBatch, CommitsBatch, CommitsOnDisk, FindsLive, LeavesGroups, RefusesBatch, SettlesSome, TakesBatch}
 use Rattle.jb_deck.specs.Conduct.{HasCalled, commit_batch}
-use Rattle.jb_deck.specs.Deck.{OpenDeck}
+use Rattle.jb_deck.specs.Deck.{OpenDeck, stood_on}
 use Rattle.jb_deck.specs.Done.{entries_of, past_after, start_of}
 use Rattle.jb_deck.specs.GroupByGroup.{FollowsSome}
 use Rattle.jb_deck.specs.declared.batched.BatchFault.{BatchFault}
@@ -57,7 +57,7 @@ module _ {D : Type 0} (G : Ghosts D) (b : Begun) (known : Stopped → Type 0) (p
   cut = planned.least.fitting.cut
 
   abbrev Left : ℕ → ℕ → Image → Type 0
-  Left least most c = FollowsSome old.log.sb old.log.next (G.size old.disk) (G.count old.disk) (deck_homes G.newest old) hs p.groups least most c
+  Left least most c = FollowsSome (stood_on G old) hs p.groups least most c
 
   -- the entries of its groups, for a batch that begins at this ticket
   abbrev entries : ℕ → List Entry
@@ -198,7 +198,7 @@ module _ {D : Type 0} (G : Ghosts D) (b : Begun) (known : Stopped → Type 0) (p
   -- ---- whatever the commit answered
 
   abbrev Now : Result Done BatchFault → Type 0
-  Now r = old.aborted ≡ false → G.honest new.disk → (c : Image) → G.may_leave new.disk c → LeavesGroups old.log.sb old.log.next (G.size old.disk) (G.count old.disk) (deck_homes G.newest old) p r c
+  Now r = old.aborted ≡ false → G.honest new.disk → (c : Image) → G.may_leave new.disk c → LeavesGroups (stood_on G old) p r c
 
   pub commit-marked : (ms : List (OpenDeck D)) (r : Result Done BatchFault) → AnswersBatch (G.faults old.disk) (G.faults new.disk) p stamp old new r → (G.honest new.disk → OnOk r (CommitsOnDisk G.newest p stamp old new)) → Leaves → Now r → IsMarkedOf G b known ms old → IsMarkedOf G b known ms new
   commit-marked ms (Ok done) answers on_disk leaves now is =
@@ -206,10 +206,6 @@ module _ {D : Type 0} (G : Ghosts D) (b : Begun) (known : Stopped → Type 0) (p
       more-marked answers.0 (groups_in p.groups) (entries_of done) (all-settled done answers.1 commits) ms (commit_batch p stamp (Ok done) kept answers) (λ low few none. commits.up)
       (λ held given live on. ended-is-call G.newest given old hs new live (committed p stamp done new planned commits (on_disk held)))
       (groups_in p.groups) (omega arith) (now answers.0.up) leaves is
-  commit-marked ms (Err (batch.Aborted back)) answers on_disk leaves now is = subst (IsMarkedOf G b known ms) (sym answers.2) is
-  commit-marked ms (Err (batch.WrongTicket back expected)) answers on_disk leaves now is = subst (IsMarkedOf G b known ms) (sym answers.4) is
-  commit-marked ms (Err (batch.OtherShape back)) answers on_disk leaves now is = subst (IsMarkedOf G b known ms) (sym answers.4) is
-  commit-marked ms (Err (batch.NumbersSpent back)) answers on_disk leaves now is = subst (IsMarkedOf G b known ms) (sym answers.5) is
   commit-marked ms (Err (batch.Memory back)) answers on_disk leaves now is = subst (IsMarkedOf G b known ms) (sym answers.3) is
   commit-marked ms (Err (batch.DeviceFault settled)) answers on_disk leaves now is =
       let some = answers.2 in
@@ -218,6 +214,7 @@ module _ {D : Type 0} (G : Ghosts D) (b : Begun) (known : Stopped → Type 0) (p
       (λ low few none. absurd (more-counted b.faults (G.faults old.disk) (G.faults new.disk) low answers.1 few none))
       (λ held given live on. cc (some.aborted, on))
       (some.groups + 1) (omega arith) (λ held x may. subst (λ n. Left n (n + 1) x) (long answers.0 some.groups (entries_of settled) st) (now answers.0.up held x may)) leaves is
+  commit-marked ms (Err refused) answers on_disk leaves now is = subst (IsMarkedOf G b known ms) (sym answers.1) is
 
   module _ (plain : (h : Stopped) → known h → b.stops h.words) (ms : List (OpenDeck D)) where
     -- the journal that refuses a batch is as it was
@@ -248,10 +245,10 @@ module _ {D : Type 0} (G : Ghosts D) (b : Begun) (known : Stopped → Type 0) (p
       on_disk = λ known_start held. on_disk held;
       finds = λ known_start held. finds held;
     }
-    commit-ends (Err (batch.Aborted back)) answers on_disk finds leaves now is = record { deck = old; since = plain-is G b known plain old is.since; failed = answers.0 }
-    commit-ends (Err (batch.WrongTicket back expected)) answers on_disk finds leaves now is = refuses-round (batch.WrongTicket back expected) answers.0 (answers.0, answers.1, answers.2, answers.3) is
-    commit-ends (Err (batch.OtherShape back)) answers on_disk finds leaves now is = refuses-round (batch.OtherShape back) answers.0 (answers.0, answers.1, answers.2, answers.3) is
-    commit-ends (Err (batch.NumbersSpent back)) answers on_disk finds leaves now is = refuses-round (batch.NumbersSpent back) answers.0 (answers.0, answers.1, answers.2, answers.3, answers.4) is
+    commit-ends (Err (batch.Aborted back)) answers on_disk finds leaves now is = record { deck = old; since = plain-is G b known plain old is.since; failed = answers.0.0 }
+    commit-ends (Err (batch.WrongTicket back expected)) answers on_disk finds leaves now is = refuses-round (batch.WrongTicket back expected) answers.0.0 answers.0 is
+    commit-ends (Err (batch.OtherShape back)) answers on_disk finds leaves now is = refuses-round (batch.OtherShape back) answers.0.0 answers.0 is
+    commit-ends (Err (batch.NumbersSpent back)) answers on_disk finds leaves now is = refuses-round (batch.NumbersSpent back) answers.0.0 answers.0 is
     commit-ends (Err (batch.Memory back)) answers on_disk finds leaves now is = tt
     commit-ends (Err (batch.DeviceFault settled)) answers on_disk finds leaves now is = record {
       planned = planned;

@@ -14,7 +14,7 @@ use Rattle.jb_scan.specs.Found.{log_blocks}
 use Rattle.jb_super.specs.Journal.{SameJournal}
 use Rattle.jb_deck.specs.Checkpoints.{as_run, AnswersRun, Checkpoints}
 use Rattle.jb_group.specs.declared.group.Group.{Group}
-use Rattle.jb_deck.specs.Deck.{OpenDeck, on_disk}
+use Rattle.jb_deck.specs.Deck.{OpenDeck, on_disk, stood_on}
 use Rattle.jb_deck.specs.Done.{past_after, start_of}
 use Rattle.jb_log.specs.Follows.{RecoversWith, StandsBy}
 use Rattle.jb_log.specs.Log.{transactions, standing}
@@ -103,7 +103,7 @@ still-as {D = D} G old new failed is more = record {
 
 module _ {D : Type 0} (G : Ghosts D) (counts_now : CountsNow G) (b : Begun) (known : Stopped → Type 0) (old new : OpenDeck D) (kept : KeptOn G CountsAny old.disk new.disk) where
   abbrev pub None : Image → Type 0
-  None c = RecoversWith old.log.sb old.log.next (G.size old.disk) (G.count old.disk) (deck_homes G.newest old) [] c
+  None c = RecoversWith (stood_on G old) [] c
 
   abbrev pub LeavesNone : Type 0
   LeavesNone = old.aborted ≡ false → G.honest new.disk → LeavesOnly G.moment G.left_since old.disk new.disk None
@@ -202,7 +202,7 @@ module _ {D : Type 0} (G : Ghosts D) (counts_now : CountsNow G) (b : Begun) (kno
 
   -- what a crash leaves of a read
   abbrev As : Image → Type 0
-  As c = IsAsBefore old.log.sb old.log.next (G.size old.disk) (G.count old.disk) (deck_homes G.newest old) (G.newest old.disk) c
+  As c = IsAsBefore (stood_on G old) (G.newest old.disk) c
 
   abbrev LeavesAs : Type 0
   LeavesAs = old.aborted ≡ false → G.honest new.disk → LeavesOnly G.moment G.left_since old.disk new.disk As

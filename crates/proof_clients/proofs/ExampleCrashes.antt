@@ -6,6 +6,7 @@ use Rattle.jb_handle.specs.Words.{word}
 use Rattle.jb_cost.specs.Pieces.{joined}
 use Rattle.jb_log.specs.Follows.{Follows, RecoversWith, HoldsBy, OldHeaders, next_on}
 use Rattle.jb_deck.specs.GroupByGroup.{handles_to}
+use Rattle.jb_log.specs.Stood.{stood_of}
 use Rattle.jb_deck.proofs.Lives.{one-super}
 use Rattle.proof_clients.specs.Examples.{wrote_from}
 use Rattle.proof_clients.specs.ExampleCrashes.{three_writes, three_groups, with_new, MayBeLeft}
@@ -22,7 +23,7 @@ holds-wrote old new own x rest rise home = ap (λ w. HoldsBy w old own x) (word-
 
 -- an image whose homes hold what these handles wrote follows with them
 pub follows-wrote : (own : Superblock) (number size count : ℕ) (old new : List ℕ) (rest : List (List ℕ)) (c : Image) → Rise new rest
-    → RecoversWith own number size count (with_new (joined rest) old new) [] c → Follows own size count (λ home. old) (wrote_from new 0 rest) c
+    → RecoversWith (stood_of own number size count (with_new (joined rest) old new)) [] c → Follows own size count (λ home. old) (wrote_from new 0 rest) c
 follows-wrote own number size count old new rest c rise none = record {
   sb = none.follows.sb;
   same = none.follows.same;
@@ -33,7 +34,7 @@ follows-wrote own number size count old new rest c rise none = record {
 
 -- and what follows with them holds it
 pub wrote-follows : (own : Superblock) (number size count : ℕ) (s : ℕ → List ℕ) (old new : List ℕ) (rest : List (List ℕ)) (c : Image) → Rise new rest
-    → RecoversWith own number size count s [] c → Follows own size count (λ home. old) (wrote_from new 0 rest) c → (home : ℕ) → s home ≡ with_new (joined rest) old new home
+    → RecoversWith (stood_of own number size count s) [] c → Follows own size count (λ home. old) (wrote_from new 0 rest) c → (home : ℕ) → s home ≡ with_new (joined rest) old new home
 wrote-follows own number size count s old new rest c rise none follows home =
     let same : none.follows.sb ≡ follows.sb = one-super size count c none.follows.sb follows.sb none.follows.taken follows.taken in
     rw (← none.follows.each home, same) (subst (λ (P : Type 0). P) (holds-wrote old new _ _ rest rise home) (follows.each home))
@@ -44,7 +45,7 @@ lists = (1 ∷ []) ∷ (2 ∷ 3 ∷ []) ∷ (4 ∷ []) ∷ []
 
 module _ (own : Superblock) (next size count : ℕ) (old new : List ℕ) (c : Image) where
   -- an image with the first two groups may be left, where at most these were settled
-  pub left-two : (least : ℕ) → least ≤ 2 → RecoversWith own (next + 2) size count (with_new (1 ∷ 2 ∷ 3 ∷ []) old new) [] c → MayBeLeft own next size count least old new c
+  pub left-two : (least : ℕ) → least ≤ 2 → RecoversWith (stood_of own (next + 2) size count (with_new (1 ∷ 2 ∷ 3 ∷ []) old new)) [] c → MayBeLeft own next size count least old new c
   left-two least from none = record {
     groups = 2;
     from = from;
@@ -53,7 +54,7 @@ module _ (own : Superblock) (next size count : ℕ) (old new : List ℕ) (c : Im
   }
 
   -- so may one with none of them, where none was settled
-  pub left-none : RecoversWith own next size count (with_new [] old new) [] c → MayBeLeft own next size count 0 old new c
+  pub left-none : RecoversWith (stood_of own next size count (with_new [] old new)) [] c → MayBeLeft own next size count 0 old new c
   left-none none = record {
     groups = 0;
     from = omega arith;
@@ -66,7 +67,7 @@ module _ (own : Superblock) (next size count : ℕ) (old new : List ℕ) (c : Im
   Never least number s k = least ≤ k → number ≡ next + k → ((home : ℕ) → s home ≡ with_new (joined (take k lists)) old new home) → ⊥
 
   -- an image that is none of a first part of the groups is not left
-  pub not-left : (least number : ℕ) (s : ℕ → List ℕ) → RecoversWith own number size count s [] c → MayBeLeft own next size count least old new c
+  pub not-left : (least number : ℕ) (s : ℕ → List ℕ) → RecoversWith (stood_of own number size count s) [] c → MayBeLeft own next size count least old new c
       → Never least number s 0 → Never least number s 1 → Never least number s 2 → Never least number s 3 → ⊥
   not-left least number s none left no0 no1 no2 no3 =
       let same : none.headers.sb ≡ left.recovers.headers.sb = one-super size count c none.headers.sb left.recovers.headers.sb none.headers.taken left.recovers.headers.taken in

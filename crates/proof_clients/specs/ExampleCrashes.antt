@@ -12,6 +12,7 @@ use Rattle.jb_super.specs.Features.{wide_in}
 use Rattle.jb_format.specs.Front.{homes_in, super_on}
 use Rattle.jb_recover.specs.Refusals.{image_refusal}
 use Rattle.jb_recover.specs.Window.{found_on}
+use Rattle.jb_log.specs.Stood.{stood_of}
 use Rattle.jb_deck.specs.GroupByGroup.{FollowsSome}
 use Rattle.proof_clients.specs.Examples.{wrote_from}
 
@@ -31,7 +32,7 @@ with_new bs old new home = cond (list_any (eq_by_cmp nat_cmp home) bs) new old
 -- old bytes
 abbrev pub MayBeLeft : Superblock → ℕ → ℕ → ℕ → ℕ → List ℕ → List ℕ → Image → Type 0
 MayBeLeft own next size count settled old new c =
-    FollowsSome own next size count (λ home. old) (three_writes new) three_groups settled 3 c
+    FollowsSome (stood_of own next size count (λ home. old)) (three_writes new) three_groups settled 3 c
 
 -- ---- recovery
 

@@ -6,7 +6,7 @@ ghost use Rattle.jb_disk.specs.Time.{LeavesOnly};
 ghost use Rattle.jb_plan.specs.Prepare.{IsPlanned};
 ghost use Rattle.jb_deck.specs.GroupsOfBatch.{groups_in};
 ghost use Rattle.jb_disk.specs.Throughout.{AllHave};
-ghost use Rattle.jb_log.specs.Log.{standing};
+ghost use Rattle.jb_deck.specs.Deck.{stood_on};
 ghost use Rattle.jb_deck.specs.GroupByGroup.{FollowsSome};
 ghost use Rattle.jb_deck.specs.Changes.{settles};
 ghost use Rattle.jb_deck.specs.Since.{IsEnded, LeftInCommit};
@@ -58,9 +58,8 @@ pub(crate) fn commit<D: Disk>(
         (LeftInCommit D.newest (D.size deck.old.disk) (D.count deck.old.disk) deck.old batch) }
     ensures now { deck.old.aborted ≡ false → D.honest deck.new.disk
         → OnOk result (AllHave D.may_leave deck.new.disk
-        (FollowsSome deck.old.log.sb deck.old.log.next (D.size deck.old.disk) (D.count deck.old.disk)
-        (standing deck.old.log deck.old.groups (D.newest deck.old.disk)) batch.batch.handles batch.groups
-        (groups_in batch.groups) (groups_in batch.groups))) }
+        (FollowsSome (stood_on D.Disk deck.old) batch.batch.handles batch.groups (groups_in batch.groups)
+        (groups_in batch.groups))) }
 {
     let _bounds = batch.groups().len(); // for the proof alone: only this method says that the cut is a least one
     match deck.commit_batch(batch, stamp) {

@@ -3,6 +3,7 @@ ghost use Rattle.std.specs.Prelude.{◌≡◌, ◌≢◌, ◌+◌, ◌==◌, ℕ
 ghost use Rattle.jb_disk.specs.Image.{Image};
 ghost use Rattle.jb_super.specs.Superblock.{Superblock};
 ghost use Rattle.jb_log.specs.Follows.{RecoversWith};
+ghost use Rattle.jb_log.specs.Stood.{stood_of};
 ghost use Rattle.jb_disk.specs.Image.{block};
 ghost use Rattle.jb_super.specs.Sound.{FitsFields};
 ghost use Rattle.jb_scan.specs.declared.transaction.Transaction.{Transaction};
@@ -17,28 +18,28 @@ ghost use Rattle.proof_clients.specs.ExampleCrashes.{with_new, MayBeLeft, HasLog
 /// of the second, to the first two with another home changed, or to the first one at the number after none.
 pub fn follows_some()
     ensures meets { (own : Superblock) (next size count : ℕ) (old new : List ℕ) (c : Image)
-        → RecoversWith own (next + 2) size count (with_new (1 ∷ 2 ∷ 3 ∷ []) old new) [] c
+        → RecoversWith (stood_of own (next + 2) size count (with_new (1 ∷ 2 ∷ 3 ∷ []) old new)) [] c
         → MayBeLeft own next size count 0 old new c }
     ensures meets_settled { (own : Superblock) (next size count : ℕ) (old new : List ℕ) (c : Image)
-        → RecoversWith own (next + 2) size count (with_new (1 ∷ 2 ∷ 3 ∷ []) old new) [] c
+        → RecoversWith (stood_of own (next + 2) size count (with_new (1 ∷ 2 ∷ 3 ∷ []) old new)) [] c
         → MayBeLeft own next size count 2 old new c }
     ensures meets_none { (own : Superblock) (next size count : ℕ) (old new : List ℕ) (c : Image)
-        → RecoversWith own next size count (with_new [] old new) [] c
+        → RecoversWith (stood_of own next size count (with_new [] old new)) [] c
         → MayBeLeft own next size count 0 old new c }
     ensures not_lost { (own : Superblock) (next size count number : ℕ) (old new : List ℕ) (c : Image) → old ≢ new
-        → RecoversWith own number size count (with_new (1 ∷ []) old new) [] c
+        → RecoversWith (stood_of own number size count (with_new (1 ∷ []) old new)) [] c
         → MayBeLeft own next size count 2 old new c → ⊥ }
     ensures not_without_second { (own : Superblock) (next size count number : ℕ) (old new : List ℕ) (c : Image)
-        → old ≢ new → RecoversWith own number size count (with_new (1 ∷ 4 ∷ []) old new) [] c
+        → old ≢ new → RecoversWith (stood_of own number size count (with_new (1 ∷ 4 ∷ []) old new)) [] c
         → MayBeLeft own next size count 0 old new c → ⊥ }
     ensures not_half { (own : Superblock) (next size count number : ℕ) (old new : List ℕ) (c : Image) → old ≢ new
-        → RecoversWith own number size count (with_new (1 ∷ 2 ∷ []) old new) [] c
+        → RecoversWith (stood_of own number size count (with_new (1 ∷ 2 ∷ []) old new)) [] c
         → MayBeLeft own next size count 0 old new c → ⊥ }
     ensures not_other_home { (own : Superblock) (next size count number : ℕ) (old new : List ℕ) (c : Image)
-        → old ≢ new → RecoversWith own number size count (with_new (1 ∷ 2 ∷ 3 ∷ 7 ∷ []) old new) [] c
+        → old ≢ new → RecoversWith (stood_of own number size count (with_new (1 ∷ 2 ∷ 3 ∷ 7 ∷ []) old new)) [] c
         → MayBeLeft own next size count 0 old new c → ⊥ }
     ensures not_number { (own : Superblock) (next size count : ℕ) (old new : List ℕ) (c : Image) → old ≢ new
-        → RecoversWith own next size count (with_new (1 ∷ []) old new) [] c
+        → RecoversWith (stood_of own next size count (with_new (1 ∷ []) old new)) [] c
         → MayBeLeft own next size count 0 old new c → ⊥ }
 {}
 
