@@ -31,13 +31,13 @@ use Rattle.proof_clients.specs.ExampleMarks.{idle_stops, idle_group}
 use Rattle.proof_clients.proofs.ExampleCosts.{cost-wrote}
 
 -- a handle that changed nothing
-abbrev idle : ℕ → Stopped
+abbrev pub idle : ℕ → Stopped
 idle ticket = record { ticket = ticket; words = map.empty }
 
-abbrev g : Geometry
+abbrev pub g : Geometry
 g = geometry_of six
 
-one-idle : (t : ℕ) → cost g (idle t ∷ []) ≡ 1
+pub one-idle : (t : ℕ) → cost g (idle t ∷ []) ≡ 1
 one-idle t = subst (λ (w : WordMap). cost g (record { ticket = t; words = w } ∷ []) ≡ 1) view-empty (cost-wrote [] g t ([] ∷ []) (tt, tt))
 
 two-idle : cost g (idle 0 ∷ idle 1 ∷ []) ≡ 1
@@ -144,7 +144,7 @@ module _ (bounds : Vec ℕ Global) (are : bounds.items ≡ (0 ∷ 2 ∷ [])) whe
 
   -- ---- the desk
 
-  stopped : AreAllStops history ((0, map.empty) ∷ (2, map.empty) ∷ (1, map.empty) ∷ [])
+  pub stopped : AreAllStops history ((0, map.empty) ∷ (2, map.empty) ∷ (1, map.empty) ∷ [])
   stopped = record {
     stand = All-cons (StandsIn history) (0, map.empty) ((2, map.empty) ∷ (1, map.empty) ∷ []) refl (All-cons (StandsIn history) (2, map.empty) ((1, map.empty) ∷ []) refl (All-cons (StandsIn history) (1, map.empty) [] refl (All-nil (StandsIn history))));
     once = λ weight. omega arith;
@@ -157,7 +157,7 @@ module _ (bounds : Vec ℕ Global) (are : bounds.items ≡ (0 ∷ 2 ∷ [])) whe
     abbrev given : List Stopped
     given = idle 0 ∷ idle 1 ∷ []
 
-    was : WasGiven (IsStop unknown history) given (0 ∷ 2 ∷ []) ended
+    pub was : WasGiven (IsStop unknown history) given (0 ∷ 2 ∷ []) ended
     was = record {
       stopped = All-cons (IsStop unknown history) (idle 0) (idle 1 ∷ []) (tt, refl) (All-cons (IsStop unknown history) (idle 1) [] (tt, refl) (All-nil (IsStop unknown history)));
       tickets = (refl, (refl, tt));
@@ -171,7 +171,7 @@ module _ (bounds : Vec ℕ Global) (are : bounds.items ≡ (0 ∷ 2 ∷ [])) whe
       next = refl;
     }
 
-    pub ends-idle : EndsMarked G unknown idle_stops 3 six d.disk (idle_group ∷ []) [] []
+    abbrev pub ends-idle : EndsMarked G unknown idle_stops 3 six d.disk (idle_group ∷ []) [] []
     ends-idle = record {
       ends = record {
         log = history;

@@ -7,7 +7,13 @@ pub mod ExampleCrashes
 pub mod ExampleCuts
 pub mod ExampleEnds
 pub mod ExampleIdle
+pub mod ExampleLives
 pub mod ExampleMarks
+pub mod ExampleReads
+pub mod ExampleRecovered
+pub mod ExampleRounds
+pub mod ExampleRuns
+pub mod ExampleWords
 pub mod FuseCalls
 pub mod OneLife
 pub mod ProgramCalls

@@ -48,7 +48,7 @@ one-given words (h ∷ i ∷ given) tickets are told lt = absurd (omega (arith, 
 own-word : (bytes : List ℕ) → map.get (one_block home bytes) home ≡ Some (Copy bytes)
 own-word bytes = map.get-insert nat_cmp_total map.empty home (Copy bytes) home
 
-two-of : {A : Type 0} (xs : List A) (d : A) → length xs ≡ 2 → xs ≡ get_or xs 0 d ∷ get_or xs 1 d ∷ []
+pub two-of : {A : Type 0} (xs : List A) (d : A) → length xs ≡ 2 → xs ≡ get_or xs 0 d ∷ get_or xs 1 d ∷ []
 two-of [] d is = absurd (omega (arith, is))
 two-of (x ∷ []) d is = absurd (omega (arith, is))
 two-of (x ∷ y ∷ []) d is = refl

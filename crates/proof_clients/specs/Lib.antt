@@ -3,8 +3,12 @@ pub mod Client
 pub mod CutCalls
 pub mod CutRun
 pub mod CutShort
+pub mod ExampleCalls
+pub mod ExampleChanges
 pub mod ExampleCrashes
 pub mod ExampleMarks
+pub mod ExampleNotes
+pub mod ExampleRecovered
 pub mod Examples
 pub mod Files
 pub mod Lives

@@ -47,6 +47,8 @@ pub fn follows_some()
 /// Where its log has two copies for a home, no image recovers as it does with the older copy in that home; where the
 /// only copy is revoked later, none with that copy there, if the home held something else. Nor does one that is
 /// refused.
+///
+/// Of `RecoversAs`.
 pub fn recovers_as()
     ensures meets { (size count : ℕ) (base : Image) → RecoversAs size count base base }
     ensures meets_recovered { (size count : ℕ) (sb : Superblock) (ts : List Transaction) (base : Image)
