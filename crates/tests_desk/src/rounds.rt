@@ -14,7 +14,7 @@ use jb_desk::{BeginFault, Origin, RoundFault, Seat, WaitFault};
 use std::alloc::Global;
 use std::process::Abort;
 use std::sync::Wait;
-use std::time::Clock;
+use std::time::{Clock, Duration};
 
 /// A handle has stopped.
 const STOPPED: Front = Front {
@@ -58,18 +58,24 @@ fn check_idle<R: Abort + Wait, H: Origin>(rt: &R, desk: &Small<H>, seat: Seat<H>
     seat
 }
 
-/// A seat commits its own handle.
-fn check_commit<R: Abort + Wait, H: Origin>(rt: &R, desk: &Small<H>, seat: Seat<H>) -> Seat<H>
+/// A seat commits its own handle, for which it waits in vain before.
+fn check_commit<R: Abort + Wait + Clock, H: Origin>(
+    rt: &R,
+    desk: &Small<H>,
+    seat: Seat<H>,
+) -> Seat<H>
     requires any { (words : WordMap) → H.begun.stops words }
     requires desk { desk_of seat ≡ desk_id desk.now }
     ensures { desk_of result ≡ desk_id desk.now }
 {
     let (mut seat, ticket) = write(rt, desk, seat, 1, &[1]);
     let before = desk.front(&mut seat);
+    let late = desk.wait_for(rt, &mut seat, &mut desk.sights(rt), 0, Duration::ZERO);
     let (mut seat, came, is_retired) = round_of(rt, desk, seat);
     let after = desk.front(&mut seat);
     check(rt, ticket == Some(0), "the ticket");
     check(rt, before == STOPPED, "the front before the round");
+    check(rt, late == Ok(None), "the wait before the round");
     check(rt, is_one(came, 0, 2), "the round");
     check(rt, is_retired, "the committer does not retire");
     check(rt, after == SETTLED, "the front after the round");
@@ -77,7 +83,7 @@ fn check_commit<R: Abort + Wait, H: Origin>(rt: &R, desk: &Small<H>, seat: Seat<
 }
 
 /// The group is brought home, and its ticket is asked for beside one that nobody has.
-fn check_settled<R: Abort + Wait, H: Origin>(rt: &R, desk: &Small<H>, seat: &mut Seat<H>)
+fn check_settled<R: Abort + Wait + Clock, H: Origin>(rt: &R, desk: &Small<H>, seat: &mut Seat<H>)
     requires desk { desk_of seat.old ≡ desk_id desk.now }
     ensures { desk_of seat.new ≡ desk_id desk.now }
 {
@@ -90,8 +96,14 @@ fn check_settled<R: Abort + Wait, H: Origin>(rt: &R, desk: &Small<H>, seat: &mut
         "the second checkpoint",
     );
     let settled = desk.wait(rt, seat, &mut desk.sights(rt), 0);
+    let in_time = desk.wait_for(rt, seat, &mut desk.sights(rt), 0, Duration::ZERO);
     let unknown = desk.wait(rt, seat, &mut desk.sights(rt), 1);
     check(rt, settled == Ok(2), "the number of the ticket");
+    check(
+        rt,
+        in_time == Ok(Some(2)),
+        "the number that is told in time",
+    );
     check(
         rt,
         unknown == Err(WaitFault::Unknown),
