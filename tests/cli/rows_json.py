@@ -1,6 +1,7 @@
 """Rows with --json: each answer and each fault as an object, with the values of the text's row."""
 import re
 
+from holders import HELD
 from images import image, superblock
 from json_text import are_json, is_json
 from rows import BAD_QUEUES, BAD_SUPERS, BASIC, CLEAN, CLEARED, FOUR, FULL, HANDLE, MADE, OLD, OUT_OF_RANGE, PICTURE, PLANS, RECOVERED, ROWS, SMALL, THREE, TWO_COPIES
@@ -142,6 +143,7 @@ NOT_THERE = ("it is to be a file that may be read; an image is a regular file or
 # the hint has what a second line says, also where that is not asked for; a terminal has no second line then
 for words in ("recover a --json", "recover a --json -q", "recover a --hints --json"):
     row(words, 2, err=fault("cannot read", file="a", hint=NOT_THERE, system=MISSING), terminal="err")
+row("recover a --json", 2, err=fault("in use", file="a", system=HELD), files={"a": FULL}, locked="a")
 row("recover a --json", 1, err=fault("DeviceFault", system=WRITE % 38), files={"a": FULL}, how="trap '' XFSZ; ulimit -f 36")
 # what is wrong with the words is text
 row("recover --json", 2, err=begins("error: "))

@@ -38,7 +38,7 @@ macro_rules! diagnostics {
                     " block device, and may be written too": "REASON";
                 InUse, 2, "in use ", "NAME",
                     "it is mounted, or another jb works on it: unmount it, or run the"
-                    " command again when that one has ended";
+                    " command again when that one has ended": "HOLDER";
                 MountsUnknown, 2, "mounts unknown ", "NAME",
                     "the system does not say whether it is mounted: see to /proc, /sys"
                     " and ulimit -n; recover --force goes on, where it is surely not"

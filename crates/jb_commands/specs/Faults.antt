@@ -42,7 +42,7 @@ use Rattle.jb_commands.specs.declared.streams.fault_line.Numbers.TheVariants as 
 -- the exit status
 abbrev pub status_of : CommandFault → ℕ
 status_of (CannotRead name code) = 2
-status_of (InUse name) = 2
+status_of (InUse name holder) = 2
 status_of (MountsUnknown name) = 2
 status_of (NoLinks name) = 2
 status_of (SameFile name) = 2
@@ -112,7 +112,7 @@ extents_words (extents.Broken place) = (codes "Extents Broken", numbers.One plac
 -- the name of a fault, and its numbers
 abbrev pub fault_words : CommandFault → List ℕ × Numbers
 fault_words (CannotRead name code) = (codes "cannot read", numbers.None)
-fault_words (InUse name) = (codes "in use", numbers.None)
+fault_words (InUse name holder) = (codes "in use", numbers.None)
 fault_words (MountsUnknown name) = (codes "mounts unknown", numbers.None)
 fault_words (NoLinks name) = (codes "no links", numbers.None)
 fault_words (SameFile name) = (codes "same file", numbers.None)
@@ -197,7 +197,7 @@ own_hint own.Short = hint.OwnShort
 -- what a second line is about after the line of a fault
 abbrev pub hint_of : CommandFault → Hint
 hint_of (CannotRead name code) = hint.CannotRead code
-hint_of (InUse name) = hint.InUse
+hint_of (InUse name holder) = hint.InUse holder
 hint_of (MountsUnknown name) = hint.MountsUnknown
 hint_of (NoLinks name) = hint.NoLinks
 hint_of (SameFile name) = hint.SameFile

@@ -1,6 +1,6 @@
 ghost use Rattle.std.specs.Prelude.{◌≡◌};
 
-use jb_args::OptionName;
+use jb_args::{Holder, OptionName};
 use jb_disk::Failure;
 use jb_dump::DumpFault;
 use jb_ext::OwnFault;
@@ -18,8 +18,9 @@ pub enum CommandFault<'a> {
     /// The file of this name, or standard input for `-`, could not be opened or read; with the number of the system's
     /// error, where it has one.
     CannotRead(&'a str, Option<i32>),
-    /// Another program has locked the image of this name, or it would be changed and is mounted.
-    InUse(&'a str),
+    /// Another program has locked the image of this name, or it would be changed and is mounted; with which program or
+    /// where, as far as the system says it.
+    InUse(&'a str, Option<Holder>),
     /// The image of this name would be changed, and the system does not say whether it is mounted.
     MountsUnknown(&'a str),
     /// The file of this name was not made: its file system has no links.

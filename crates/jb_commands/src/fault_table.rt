@@ -23,7 +23,8 @@ macro_rules! fault_rows {
             [$($with)+]
             CommandFault::CannotRead(name, code) =>
                 ("cannot read", Numbers::None), own(name), 2, Hint::CannotRead(code);
-            CommandFault::InUse(name) => ("in use", Numbers::None), own(name), 2, Hint::InUse;
+            CommandFault::InUse(name, holder) =>
+                ("in use", Numbers::None), own(name), 2, Hint::InUse(holder);
             CommandFault::MountsUnknown(name) =>
                 ("mounts unknown", Numbers::None), own(name), 2, Hint::MountsUnknown;
             CommandFault::NoLinks(name) => ("no links", Numbers::None), own(name), 2, Hint::NoLinks;

@@ -20,7 +20,7 @@ static FAULTS: [(CommandFault<'static>, &str); 68] = [
         ": No such file or directory (os error 2)",
     ),
     (CommandFault::CannotRead("a", None), ""),
-    (CommandFault::InUse("a"), ""),
+    (CommandFault::InUse("a", None), ""),
     (CommandFault::MountsUnknown("a"), ""),
     (CommandFault::NoLinks("a"), ""),
     (CommandFault::SameFile("a"), ""),
