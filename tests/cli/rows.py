@@ -200,7 +200,7 @@ row("dump a --super", 0, shown(superblock(2, 1)), files={"a": image(superblock(2
 row("dump a --super", 0, shown(SMALL), files={"a": image(SMALL)[:20 * BS]})
 row("dump - --super", 0, shown(SMALL), stdin=SMALL)
 row("dump a --super", 1, err="jb: WriteFault\n", files={"a": FULL}, to="full")
-row("dump a --super", 1, err="jb: ReadFault\n", files={"a": None})
+row("dump a --super", 1, err="jb: ReadFault\n", files={"a": None}, beside=FOLDER)
 row("dump a --super", 2, err="jb: cannot read a\n", beside=MISSING)
 for content, name in BAD_SUPERS:
     if content != image(SMALL)[:20 * BS]:
@@ -210,7 +210,7 @@ row("dump a --super", 1, err="jb: WriteFault\n", files={"a": image(superblock(co
 row("dump a --last 1", 1, err="jb: WriteFault\n", files={"a": FULL}, to="full")
 row("dump a", 1, err="jb: BadRevoke 1\n", files={"a": image(superblock(2, 1), [revoke(2, [], 1025), commit(2)])})
 row("dump a", 2, err="jb: cannot read a\n", beside=MISSING)
-row("dump a", 1, err="jb: ReadFault\n", files={"a": None})
+row("dump a", 1, err="jb: ReadFault\n", files={"a": None}, beside=FOLDER)
 row("dump a", 1, err="jb: WriteFault\n", files={"a": FULL}, to="full")
 row("dump a", 1, err="jb: WriteFault\n", files={"a": FULL}, to="gone")
 for content, name in BAD_SUPERS:

@@ -5,7 +5,7 @@ from holders import HELD
 from images import image, superblock
 from json_text import are_json, is_json
 from rows import BAD_QUEUES, BAD_SUPERS, BASIC, CLEAN, CLEARED, FOUR, FULL, HANDLE, MADE, OLD, OUT_OF_RANGE, PICTURE, PLANS, RECOVERED, ROWS, SMALL, THREE, TWO_COPIES
-from rows import MISSING, WIDENED, WRITE, queue, row
+from rows import FOLDER, MISSING, WIDENED, WRITE, queue, row
 from rows_load import LOADED
 from rows_words import begins  # (the rows over words come before)
 
@@ -130,6 +130,7 @@ for content, name in BAD_SUPERS:
     numbers = list(map(int, numbers[0].split()))
     for words in ("dump a", "recover a", "renumber a", "widen a", "cat a 5"):
         row(words + " --json", 1, err=fault("Super " + name, *numbers), files={"a": content})
+row("dump a --json", 1, err=fault("ReadFault", system=FOLDER), files={"a": None})
 row("recover a --json", 1, err=fault("HomeOutOfRange", 16, 2), files={"a": image(superblock(2, 1), OUT_OF_RANGE)})
 row("recover a --json", 1, err=fault("WriteFault"), files={"a": FULL}, to="full", after={"a": RECOVERED})
 row("recover b --journal j --json", 1, err=fault("Super Geometry", file="j"), files={"b": FULL, "j": image(SMALL)[:20 * 1024]})

@@ -64,6 +64,7 @@ beside_of (hint.BadOption option) = BadOption option
 beside_of (hint.CannotMake code) = of_code code
 beside_of (hint.CannotRead code) = of_code code
 beside_of (hint.InUse holder) = of_holder holder
+beside_of (hint.ReadFault code) = of_code code
 beside_of (hint.HomeOutOfRange homes) = of_homes homes
 beside_of (hint.NoHome homes) = of_homes homes
 beside_of (hint.HandleOutOfRange homes) = Homes homes

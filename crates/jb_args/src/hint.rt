@@ -40,8 +40,8 @@ pub enum Hint {
     SameFile,
     /// A text is longer than it may be.
     TooLong,
-    /// A read of a journal failed.
-    ReadFault,
+    /// A read of a journal failed; the number of the system's error, where it has one.
+    ReadFault(Option<i32>),
     /// A superblock is cut short.
     SuperShortBlock,
     /// A superblock has not the magic number.
@@ -242,7 +242,9 @@ impl Hint {
     {
         match self {
             Hint::BadOption(option) => HintArg::BadOption(option),
-            Hint::CannotMake(Some(code)) | Hint::CannotRead(Some(code)) => HintArg::System(code),
+            Hint::CannotMake(Some(code))
+            | Hint::CannotRead(Some(code))
+            | Hint::ReadFault(Some(code)) => HintArg::System(code),
             Hint::InUse(Some(holder)) => HintArg::Held(holder),
             Hint::HomeOutOfRange(Some(homes)) | Hint::NoHome(Some(homes)) => HintArg::Homes(homes),
             Hint::HandleOutOfRange(homes) => HintArg::Homes(homes),

@@ -51,7 +51,7 @@ macro_rules! diagnostics {
                     "a queue text has at most 16777216 bytes, and a certificate 150994944";
                 ReadFault, 4, "ReadFault", "",
                     "the file cannot be read to the end of its journal: it is a folder,"
-                    " or its device fails";
+                    " or its device fails": "REASON";
                 SuperShortBlock, 3, "Super ShortBlock", "",
                     "a journal begins with a superblock of 1024 bytes, and the file is"
                     " shorter";

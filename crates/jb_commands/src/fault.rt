@@ -34,8 +34,8 @@ pub enum CommandFault<'a> {
     BadOption(OptionName),
     /// The file of this name has more bytes than a text may have.
     TooLong(&'a str),
-    /// A read of the journal failed.
-    ReadFault,
+    /// A read of the journal failed; with the number of the system's error, where it has one.
+    ReadFault(Option<i32>),
     /// Journal block 0 is refused for this; `Geometry` also where there are fewer blocks than `s_maxlen`.
     Super(SuperFault),
     /// The journal's `s_checksum_type` is this, and not 4, CRC-32C.
@@ -112,7 +112,7 @@ impl<'a> From<DumpFault> for CommandFault<'a> {
 
     fn from(fault: DumpFault) -> CommandFault<'a> {
         match fault {
-            DumpFault::ReadFault => CommandFault::ReadFault,
+            DumpFault::ReadFault => CommandFault::ReadFault(None),
             DumpFault::WriteFault => CommandFault::WriteFault,
             DumpFault::Super(fault) => CommandFault::of_super(fault),
             DumpFault::BadChecksum(what, place) => CommandFault::BadChecksum(what, place),
@@ -152,7 +152,7 @@ impl<'a> From<ChangeFault> for CommandFault<'a> {
 }
 
 impl<'a> CommandFault<'a> {
-    ghost use Rattle.jb_commands.specs.Faults.{peek_fault, recover_fault, super_fault, with_failure};
+    ghost use Rattle.jb_commands.specs.Faults.{peek_fault, recover_fault, super_fault, with_code, with_failure};
 
     /// The fault, with this call of the disk where one of it failed that is not known yet.
     pub fn with_failure(self, failure: Option<Failure>) -> CommandFault<'a>
@@ -160,6 +160,16 @@ impl<'a> CommandFault<'a> {
     {
         match self {
             CommandFault::DeviceFault(None) => CommandFault::DeviceFault(failure),
+            fault => fault,
+        }
+    }
+
+    /// The fault, with this number of the system's error where a read failed of which none is known yet.
+    pub(crate) fn with_code(self, code: Option<i32>) -> CommandFault<'a>
+        ensures value { result ≡ with_code code self.entry }
+    {
+        match self {
+            CommandFault::ReadFault(None) => CommandFault::ReadFault(code),
             fault => fault,
         }
     }
