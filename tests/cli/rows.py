@@ -1,5 +1,6 @@
 """The table: what is run, and what it must say and leave. The texts are those of docs/TEXTS.md. Further rows: rows_places.py, rows_load.py,
 rows_images.py and rows_words.py."""
+from holders import HELD
 from images import BS, COMMIT, ESCAPE, LAST_TAG, MAGIC, SAME_UUID, SUPER1
 from images import be32, commit, data, descriptor, image, padded, revoke, shown, superblock
 
@@ -15,13 +16,14 @@ def row(words, status, out="", err="", files=(), stdin=b"", after=(), how="", to
     after     the files that differ afterwards, or are new, or `...` for one that is gone; all others must be as they were, and there may
               be no other; a function judges the bytes instead
     how       a shell's `ulimit`, `trap` and `exec` before it starts, or a run before it, as `"$1" WORDS`
-    locked    the file that is locked meanwhile
+    locked    the file that is locked meanwhile; a line of `err` says by whom
     to        standard output: a pipe, a pipe that nobody reads (`gone`), or a full device (`full`)
     terminal  which of standard input (`in`) and standard error (`err`) is a terminal; on that one the line of `err` has a second one
               after it, what the program's own help says of the first
     beside    what that one says beside the words of the help; of an option its name alone, as the help says what it may be. The system's reason
-              is on a second line in a pipe, too
+              is on a second line in a pipe, too, and so is who has a file
     out, err  the two outputs, byte by byte; a function judges the text instead"""
+    beside = beside or HELD * bool(locked and err)
     ROWS.append(dict(words=words, status=status, out=out, err=err, files=dict(files), stdin=stdin, after=dict(after), how=how, to=to,
                      terminal=terminal, locked=locked, beside=beside))
 
@@ -198,7 +200,7 @@ row("dump a --super", 0, shown(superblock(2, 1)), files={"a": image(superblock(2
 row("dump a --super", 0, shown(SMALL), files={"a": image(SMALL)[:20 * BS]})
 row("dump - --super", 0, shown(SMALL), stdin=SMALL)
 row("dump a --super", 1, err="jb: WriteFault\n", files={"a": FULL}, to="full")
-row("dump a --super", 1, err="jb: ReadFault\n", files={"a": None})
+row("dump a --super", 1, err="jb: ReadFault\n", files={"a": None}, beside=FOLDER)
 row("dump a --super", 2, err="jb: cannot read a\n", beside=MISSING)
 for content, name in BAD_SUPERS:
     if content != image(SMALL)[:20 * BS]:
@@ -208,7 +210,7 @@ row("dump a --super", 1, err="jb: WriteFault\n", files={"a": image(superblock(co
 row("dump a --last 1", 1, err="jb: WriteFault\n", files={"a": FULL}, to="full")
 row("dump a", 1, err="jb: BadRevoke 1\n", files={"a": image(superblock(2, 1), [revoke(2, [], 1025), commit(2)])})
 row("dump a", 2, err="jb: cannot read a\n", beside=MISSING)
-row("dump a", 1, err="jb: ReadFault\n", files={"a": None})
+row("dump a", 1, err="jb: ReadFault\n", files={"a": None}, beside=FOLDER)
 row("dump a", 1, err="jb: WriteFault\n", files={"a": FULL}, to="full")
 row("dump a", 1, err="jb: WriteFault\n", files={"a": FULL}, to="gone")
 for content, name in BAD_SUPERS:

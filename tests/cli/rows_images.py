@@ -113,7 +113,7 @@ for content, out, err in [(JOURNAL, DUMPED, ""), (image(superblock(2, 32), [*ONE
 LINES = DUMPED.splitlines(True)
 for words, numbers in [("a --home 5", [3, 4]), ("--home=7 a --last 1", [2]), ("--last 0 a", [0, 1, 6])]:
     row("dump " + words, 0, "".join(LINES[n] for n in numbers), files={"a": JOURNAL})
-row("dump .", 1, err="jb: ReadFault\n")
+row("dump .", 1, err="jb: ReadFault\n", beside=FOLDER)
 
 # ---- cat, and journals in a file of their own --------------------------------------------------------------------------------
 

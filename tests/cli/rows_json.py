@@ -1,10 +1,11 @@
 """Rows with --json: each answer and each fault as an object, with the values of the text's row."""
 import re
 
+from holders import HELD
 from images import image, superblock
 from json_text import are_json, is_json
 from rows import BAD_QUEUES, BAD_SUPERS, BASIC, CLEAN, CLEARED, FOUR, FULL, HANDLE, MADE, OLD, OUT_OF_RANGE, PICTURE, PLANS, RECOVERED, ROWS, SMALL, THREE, TWO_COPIES
-from rows import MISSING, WIDENED, WRITE, queue, row
+from rows import FOLDER, MISSING, WIDENED, WRITE, queue, row
 from rows_load import LOADED
 from rows_words import begins  # (the rows over words come before)
 
@@ -129,6 +130,7 @@ for content, name in BAD_SUPERS:
     numbers = list(map(int, numbers[0].split()))
     for words in ("dump a", "recover a", "renumber a", "widen a", "cat a 5"):
         row(words + " --json", 1, err=fault("Super " + name, *numbers), files={"a": content})
+row("dump a --json", 1, err=fault("ReadFault", system=FOLDER), files={"a": None})
 row("recover a --json", 1, err=fault("HomeOutOfRange", 16, 2), files={"a": image(superblock(2, 1), OUT_OF_RANGE)})
 row("recover a --json", 1, err=fault("WriteFault"), files={"a": FULL}, to="full", after={"a": RECOVERED})
 row("recover b --journal j --json", 1, err=fault("Super Geometry", file="j"), files={"b": FULL, "j": image(SMALL)[:20 * 1024]})
@@ -142,6 +144,7 @@ NOT_THERE = ("it is to be a file that may be read; an image is a regular file or
 # the hint has what a second line says, also where that is not asked for; a terminal has no second line then
 for words in ("recover a --json", "recover a --json -q", "recover a --hints --json"):
     row(words, 2, err=fault("cannot read", file="a", hint=NOT_THERE, system=MISSING), terminal="err")
+row("recover a --json", 2, err=fault("in use", file="a", system=HELD), files={"a": FULL}, locked="a")
 row("recover a --json", 1, err=fault("DeviceFault", system=WRITE % 38), files={"a": FULL}, how="trap '' XFSZ; ulimit -f 36")
 # what is wrong with the words is text
 row("recover --json", 2, err=begins("error: "))

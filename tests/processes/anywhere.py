@@ -1,6 +1,7 @@
 """What safe_anywhere.py runs `jb` with: one run, the folder as it is before each, and what was not as it must be."""
 import errno
 import os
+import stat
 import subprocess
 import sys
 import tempfile
@@ -44,6 +45,20 @@ def reason(error):
     """The second line of a fault that has the system's reason alone."""
     number = getattr(errno, error)
     return b"jb:  %s (os error %d)\n" % (os.strerror(number).encode(), number)
+
+
+def held_by(process):
+    """The second line of a file that this process has locked."""
+    return b"jb:  locked by process %d (%s)\n" % (process, open("/proc/%d/comm" % process, "rb").read().rstrip(b"\n"))
+
+
+def mounted_at(device):
+    """The second line of a device that is mounted, as the list of mounts has it; nothing where that has not this device."""
+    numbers = os.stat(device)
+    wanted = "%d:%d" % (os.major(numbers.st_rdev), os.minor(numbers.st_rdev))
+    points = [line.split()[4] for line in open("/proc/self/mountinfo") if line.split()[2] == wanted]
+    # a space is told as the list writes it, and what turns the direction of the text as in each name
+    return b"jb:  mounted at %s\n" % points[0].replace("\u202e", r"\xe2\x80\xae").encode() if stat.S_ISBLK(numbers.st_mode) and points else b""
 
 
 def fresh(files):

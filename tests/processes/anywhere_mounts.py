@@ -6,7 +6,7 @@ import shutil
 import subprocess
 import tempfile
 
-from anywhere import JB, QUEUE, expect, fresh, made, reason, run
+from anywhere import JB, QUEUE, expect, fresh, made, mounted_at, reason, run
 
 
 def device():
@@ -46,7 +46,7 @@ def mounted(loaded):
     os.link("backing", "linked")
     name = subprocess.run(["losetup", "--find", "--show", "backing"], stdout=subprocess.PIPE).stdout.decode().strip()
     try:
-        with tempfile.TemporaryDirectory() as room:
+        with tempfile.TemporaryDirectory(prefix="a b\u202e") as room:
             made = subprocess.run(["mke2fs", "-q", "-F", "-b", "1024", name], stderr=subprocess.DEVNULL).returncode
             # to be read alone at first, since the kernel writes the superblock of one that may be written, whenever it likes
             if made != 0 or subprocess.run(["mount", "-o", "ro", name, room], stderr=subprocess.DEVNULL).returncode != 0:
@@ -57,13 +57,13 @@ def mounted(loaded):
                 for image in [name, "backing", "linked"]:
                     for words in [["recover", image], ["recover", image, "--journal", "journal"], ["renumber", image], ["widen", image]]:
                         got = run(words)
-                        expect("mounted: %s" % words, got == (2, b"", b"jb: in use %s\n" % image.encode()), got)
+                        expect("mounted: %s" % words, got == (2, b"", b"jb: in use %s\n" % image.encode() + mounted_at(image)), got)
                     got = run(["cat", image, "1", "--journal", "journal"])
                     expect("mounted: cat %s" % image, got[0] == 0 and len(got[1]) == 1024, got)
                 expect("a mounted device is as it was", open(name, "rb").read() == before)
                 subprocess.run(["mount", "-o", "remount,rw", room], check=True)
                 got = run(["recover", name])
-                expect("mounted to be written", got == (2, b"", b"jb: in use %s\n" % name.encode()), got)
+                expect("mounted to be written", got == (2, b"", b"jb: in use %s\n" % name.encode() + mounted_at(name)), got)
                 inside = os.path.join(room, "inside")
                 with open(inside, "wb") as file:
                     file.write(loaded)
@@ -111,7 +111,7 @@ def stacked():
                 try:
                     for image in refused:
                         got = run(["widen", image])
-                        expect("mounted %s: %s" % (mounted, image), got == (2, b"", b"jb: in use %s\n" % image.encode()), got)
+                        expect("mounted %s: %s" % (mounted, image), got == (2, b"", b"jb: in use %s\n" % image.encode() + mounted_at(image)), got)
                     for image in taken + ["image"]:
                         got = run(["renumber", image])
                         expect("mounted %s: %s" % (mounted, image), b"in use" not in got[2] and b"unknown" not in got[2], got)
@@ -142,7 +142,7 @@ def parted():
                     for image in refused + taken:
                         got = run(["widen", image])
                         free = b"jb: Super NoMagic\n" if image == two else b"jb: Own None\n"  # two has no file system yet
-                        want = (2, b"", b"jb: in use %s\n" % image.encode()) if image in refused else (1, b"", free)
+                        want = (2, b"", b"jb: in use %s\n" % image.encode() + mounted_at(image)) if image in refused else (1, b"", free)
                         expect("mounted %s: %s" % (mounted, image), got == want, got)
                 finally:
                     subprocess.run(["umount", room])
@@ -217,9 +217,9 @@ def no_devices():
                 got = run(["recover", "image"], by=hidden)
                 expect("a loop device without /sys", got == UNKNOWN and open("image", "rb").read() == loaded, got)
                 got = run(["widen", name], by=hidden)
-                expect("a mounted device without /sys", got == (2, b"", b"jb: in use %s\n" % name.encode()), got)
+                expect("a mounted device without /sys", got == (2, b"", b"jb: in use %s\n" % name.encode() + mounted_at(name)), got)
                 got = run(["recover", name, "--force"], by=hidden)
-                expect("a mounted device by force", got == (2, b"", b"jb: in use %s\n" % name.encode()), got)
+                expect("a mounted device by force", got == (2, b"", b"jb: in use %s\n" % name.encode() + mounted_at(name)), got)
                 got = run(["recover", "image", "--force"], by=hidden)
                 expect("a file by force", got[0] == 0, got)
                 for what in ["loop/backing_file", "loop/offset", "loop/sizelimit"]:

@@ -66,6 +66,8 @@ def unnamed(text, causes, is_advised):
             advice = UNMADE.get(cause, "")
         elif lines[0].startswith(("jb: cannot read", '{"fault":"cannot read"')):
             advice = UNREAD
+        elif lines[0].startswith(("jb: ReadFault", '{"fault":"ReadFault"')):
+            advice = "the file cannot be read to the end of its journal"
         elif "the image cannot be opened or made" in lines[0]:
             advice = ""
         return None if not is_advised or advice in text else "%s: it does not say %r: %r" % (cause, advice, text)

@@ -94,7 +94,7 @@ class Command(Program):
         super().__init__("jb " + words, [jb, *words.split()], b"", files)
         self.jb, self.verb, self.reads, self.handles, self.journal = jb, words.split()[0], reads, handles, journal
         if self.verb == "dump":
-            self.nameless = (b"jb: ReadFault", b"jb: DeviceFault")
+            self.nameless = (b"jb: DeviceFault",)
         self.lay(room)
         self.ample = run(self.words, room)
         assert self.ample[0] == 0, self.ample

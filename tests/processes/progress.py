@@ -3,9 +3,9 @@
 
     tests/processes/progress.py JB
 
-A journal of 300,000 copies is recovered, in a file with holes. The program is stopped for more than a second as soon as it has the image open, so that its line
-is due. On a terminal the line has to be written and erased again, and nothing else may be there; with -q, with --no-progress and in a pipe nothing is shown; each time
-the answer is the same. Ends with 1 where it was otherwise."""
+Each command of the table has much to do, on an image of its own. The program is stopped for more than a second once it has begun, so that its line is due. On a
+terminal the line has to be written and erased again, and nothing else may be there; with -q, with --no-progress and in a pipe nothing is shown, nor on the terminal
+that has the text of the command; each time the answer is the same. Ends with 1 where it was otherwise."""
 import os
 import pty
 import re
@@ -13,6 +13,7 @@ import signal
 import subprocess
 import sys
 import tempfile
+import threading
 import time
 import tty
 
@@ -22,24 +23,22 @@ from images import BS, SAME_UUID, LAST_TAG, commit, descriptor, superblock  # no
 
 JB = os.path.abspath(sys.argv[1])
 TAGS, GROUPS, HOMES = 124, 2420, 124
-PASS = rb"\rjb recover: pass [1-9]\d*, block \d+ of \d+, \d+%, \d+ s left\x1b\[K"
-SHOWN = re.compile(rb"(" + PASS + rb")+\r\x1b\[K")
-ANSWER = b"transactions %d copies %d revoked 0 next %d\n" % (GROUPS, GROUPS * TAGS, GROUPS + 2)
-wrong = 0
+count = wrong = 0
 
 
 def expect(what, is_so, *found):
-    global wrong
+    global count, wrong
+    count += 1
     if not is_so:
         wrong += 1
         print("WRONG:", what, *found)
 
 
-def lay(name):
+def lay_log():
     """The image: each transaction writes all homes with zeros, which are holes of the file."""
     maxlen = 1 + GROUPS * (TAGS + 2) + 8
     tags = [(home, SAME_UUID * (home > 0) | LAST_TAG * (home == TAGS - 1)) for home in range(TAGS)]
-    with open(name, "wb") as file:
+    with open("image", "wb") as file:
         file.truncate((maxlen + HOMES) * BS)
         file.write(superblock(1, 1, maxlen))
         for group in range(GROUPS):
@@ -58,6 +57,22 @@ def has_open(process, name):
         return process.poll() is not None
 
 
+def line(text):
+    """One or more lines of this form, and then none."""
+    return re.compile(rb"(\rjb " + text + rb", \d+ s left\x1b\[K)+\r\x1b\[K")
+
+
+# a name; the words; its answer; its line
+COPIED = b"transactions %d copies %d revoked 0 next %d\n" % (GROUPS, GROUPS * TAGS, GROUPS + 2)
+COMMANDS = [
+    ("recover", ["image"], COPIED.__eq__, rb"recover: pass [12] of 2, block \d+ of \d+, \d+%"),
+    ("recover", ["image", "--checksums"], COPIED.__eq__, rb"recover: pass [12] of at most 4, block \d+ of \d+, \d+%"),
+    ("recover", ["image", "--dry-run"], COPIED.__eq__, rb"recover: pass [12] of 2, block \d+ of \d+, \d+%"),
+    ("cat", ["image", "0", "-n", str(HOMES)], bytes(HOMES * BS).__eq__, rb"cat: block [1-9]\d* of %d, \d+%%" % HOMES),
+    ("dump", ["image"], lambda text: len(text) > GROUPS * TAGS * 9, rb"dump: \d+ of \d+ KiB, \d+%"),
+]
+
+
 def stopped_a_while(process, name):
     """Stops a process for more than a second once it has a file open; the program's own handle of the terminal comes a moment later."""
     while process.poll() is None and not has_open(process, name):
@@ -68,44 +83,63 @@ def stopped_a_while(process, name):
     process.send_signal(signal.SIGCONT)
 
 
-def read_all(ours):
-    shown = b""
+def read_all(ours, into):
     try:
         while part := os.read(ours, 65536):
-            shown += part
+            into.append(part)
     except OSError:
         pass  # the other end is closed
     os.close(ours)
-    return shown
 
 
-def ran(words, on_terminal):
-    """The answer of a recovery, and what was on standard error."""
-    lay("image")
+def ran(command, words, on_terminal, both=False):
+    """What is on standard output after a command, and what was on standard error; with `both` the one is the other."""
+    name, own, *_ = command
+    lay_log()
     ours, theirs = pty.openpty() if on_terminal else os.pipe()
     if on_terminal:
         tty.setraw(theirs)
-    process = subprocess.Popen([JB, "recover", "image", *words], stdout=subprocess.PIPE, stderr=theirs)
+    out, err = [], []
+    process = subprocess.Popen([JB, name, *own, *words], stdin=subprocess.DEVNULL, stdout=theirs if both else subprocess.PIPE, stderr=theirs)
     os.close(theirs)
+    readers = [threading.Thread(target=read_all, args=(ours, err))]
+    if not both:
+        readers.append(threading.Thread(target=read_all, args=(os.dup(process.stdout.fileno()), out)))
+    for reader in readers:
+        reader.start()
     stopped_a_while(process, "/image")
-    out = process.stdout.read()
     process.wait(120)
-    return out, read_all(ours)
+    for reader in readers:
+        reader.join()
+    return b"".join(out), b"".join(err)
 
 
-def check():
-    out, shown = ran([], True)
-    expect("the answer on a terminal", out == ANSWER, out)
-    expect("the progress on a terminal", SHOWN.fullmatch(shown), shown)
+def check(command):
+    name, own, is_answer, form = command
+    what = "%s %s" % (name, " ".join(own))
+    out, shown = ran(command, [], True)
+    expect("the answer on a terminal of " + what, is_answer(out), out[:200])
+    expect("the progress on a terminal of " + what, line(form).fullmatch(shown), shown)
     for words, on_terminal in [(["-q"], True), (["--no-progress"], True), ([], False)]:
-        out, shown = ran(words, on_terminal)
-        expect("the answer with %s" % words, out == ANSWER, out)
-        expect("nothing shown with %s" % words, shown == b"", shown)
+        out, shown = ran(command, words, on_terminal)
+        expect("the answer with %s of %s" % (words, what), is_answer(out), out[:200])
+        expect("nothing shown with %s of %s" % (words, what), shown == b"", shown)
+
+
+def check_own_text(command):
+    """A text that goes to the terminal has no progress among it."""
+    name, _, is_answer, _ = command
+    _, shown = ran(command, [], True, both=True)
+    expect("the text on a terminal of %s" % name, is_answer(shown), shown[:200])
 
 
 with tempfile.TemporaryDirectory() as room:
     os.chdir(room)
-    check()
+    for row in COMMANDS:
+        check(row)
+    for row in COMMANDS:
+        if row[0] in ("cat", "dump"):
+            check_own_text(row)
     os.chdir("/")
-print("%d of 8 wrong" % wrong)
+print("%d of %d wrong" % (wrong, count))
 sys.exit(wrong > 0)

@@ -5,10 +5,11 @@ Each command is run with each of the eight sets of closed descriptors 0, 1 and 2
 those of a run with all three open: a closed standard input is empty, a closed standard output ends in status 1 and `jb: WriteFault`
 where there is something for it, a closed standard error takes nothing, and the image is the same. Then: files of the wrong kind, a
 device (a loop device where one can be made: as root), loop devices over one another, a system that does not say what is mounted, files
-that cannot be made, links and locks that are refused, a limit of the file size, lines that are one write (with strace, where it is
+that cannot be made, links and locks that are refused, who has a locked file, a limit of the file size, lines that are one write (with strace, where it is
 there), a mount to be read alone (as root). Prints a line for each part, and each run that is not as it must be. Needs Linux."""
 import itertools
 import os
+import re
 import resource
 import shutil
 import signal
@@ -17,7 +18,8 @@ import subprocess
 import sys
 import tempfile
 
-from anywhere import JB, QUEUE, SIZES, all_files, expect, fresh, made, reason, run, wrong
+from anywhere import JB, QUEUE, SIZES, all_files, expect, fresh, held_by, made, reason, run, wrong
+from anywhere_holders import holders
 from anywhere_mounts import device, no_devices, parted, read_only, stacked, unknown
 from anywhere_refusals import links, locks
 
@@ -129,7 +131,7 @@ def locked():
         pass
     for words in [["recover", "image"], ["renumber", "image"], ["widen", "image"], ["load", "image", "queue"], ["cat", "image", "1"]]:
         got = run(words)
-        expect("locked: %s" % words, got == (2, b"", b"jb: in use image\n"), got)
+        expect("locked: %s" % words, got == (2, b"", b"jb: in use image\n" + held_by(p.pid)), got)
     expect("locked: dump", run(["dump", "image"]) == text)
     p.stdin.close()
     p.wait()
@@ -139,9 +141,11 @@ def locked():
     fresh({"image": loaded})
     ps = [subprocess.Popen([JB, "recover", "image"], stdout=subprocess.PIPE, stderr=subprocess.PIPE) for _ in range(16)]
     ends = [(*p.communicate(), p.returncode) for p in ps]
+    # one that has just ended is not named
+    pids = b"|".join(b"%d" % p.pid for p in ps)
     done = [out for out, err, status in ends if status == 0]
     refused = [err for out, err, status in ends if status != 0]
-    expect("at once: refused", all(err == b"jb: in use image\n" for err in refused), refused)
+    expect("at once: refused", all(re.fullmatch(rb"jb: in use image\n(jb:  locked by process (%s) \(jb\)\n)?" % pids, err) for err in refused), refused)
     expect("at once: done", done.count(b"transactions 2 copies 2 revoked 0 next 5\n") + done.count(b"transactions 1 copies 2 revoked 0 next 4\n") == 1, done)
     print("locks: 16 at once, %d done one after the other, %d refused" % (len(done), len(refused)))
 
@@ -248,6 +252,7 @@ with tempfile.TemporaryDirectory() as folder:
     links()
     locks()
     locked()
+    holders()
     read_only()
     both_synced()
     one_write()

@@ -46,14 +46,15 @@ def held(jb, store, accounts):
         queue.write("bs 1024\nlimit 8\nh w1\n")
     first = begin([accounts, "image", "60000"])
     time.sleep(0.3)
+    who = b"jb:  locked by process %d (%s)\n" % (first.pid, open("/proc/%d/comm" % first.pid, "rb").read().rstrip(b"\n"))
     rows = [
         ([accounts, "image", "1"], (1, REFUSED)),
         ([store, "image"], (1, REFUSED)),
-        ([jb, "recover", "image"], (2, b"jb: in use image\n")),
-        ([jb, "renumber", "image"], (2, b"jb: in use image\n")),
-        ([jb, "widen", "image"], (2, b"jb: in use image\n")),
-        ([jb, "load", "image", "queue"], (2, b"jb: in use image\n")),
-        ([jb, "cat", "image", "1"], (2, b"jb: in use image\n")),
+        ([jb, "recover", "image"], (2, b"jb: in use image\n" + who)),
+        ([jb, "renumber", "image"], (2, b"jb: in use image\n" + who)),
+        ([jb, "widen", "image"], (2, b"jb: in use image\n" + who)),
+        ([jb, "load", "image", "queue"], (2, b"jb: in use image\n" + who)),
+        ([jb, "cat", "image", "1"], (2, b"jb: in use image\n" + who)),
     ]
     for words, want in rows:
         found = end(begin(words))

@@ -9,9 +9,10 @@ use Rattle.jb_text.specs.TextParts.{spelled}
 use Rattle.jb_args.specs.contracts.hint.Hint as hints
 use Rattle.jb_args.specs.contracts.option_name.OptionName as options
 use Rattle.jb_args.specs.declared.hint.HintArg.{HintArg}
-use Rattle.jb_args.specs.declared.hint.HintArg.TheVariants.{Nothing, BadOption, System, Failed, Homes}
+use Rattle.jb_args.specs.declared.hint.HintArg.TheVariants.{Nothing, BadOption, System, Failed, Homes, Held}
 use Rattle.jb_args.specs.declared.hint.Hint.{Hint}
 use Rattle.jb_args.specs.declared.hint.Hint.TheVariants as hint
+use Rattle.jb_args.specs.declared.holder.Holder.{Holder}
 use Rattle.jb_args.specs.declared.option_name.OptionName.{OptionName}
 use Rattle.jb_args.specs.declared.second.ReasonParts.{ReasonParts}
 use Rattle.jb_args.specs.declared.columns.TheConstants.{ADVICE, OPTIONS, STATUSES}
@@ -32,7 +33,7 @@ option_text option = slice_index_or (map (λ row. row.0.now) OPTIONS.now) (tag_o
 unfoldable pub option_range : OptionName → List ℕ
 option_range option = slice_index_or (map (λ row. row.1.now) OPTIONS.now) (tag_of options.the_type option) []
 
--- what the system says of a call that it refused, and what is advised on that
+-- what the system says of a call that it refused, or of who has a file, and what is advised on a refused call
 pub record SystemSaid : Type 0 where
   pub text : List ℕ
   pub remedy : List ℕ
@@ -52,11 +53,18 @@ abbrev pub of_failure : Option Failure → HintArg
 of_failure None = Nothing
 of_failure (Some failure) = Failed failure
 
+-- what is said of who has a file that is in use, where that is known
+abbrev pub of_holder : Option Holder → HintArg
+of_holder None = Nothing
+of_holder (Some holder) = Held holder
+
 -- what is said beside the words of a hint
 abbrev pub beside_of : Hint → HintArg
 beside_of (hint.BadOption option) = BadOption option
 beside_of (hint.CannotMake code) = of_code code
 beside_of (hint.CannotRead code) = of_code code
+beside_of (hint.InUse holder) = of_holder holder
+beside_of (hint.ReadFault code) = of_code code
 beside_of (hint.HomeOutOfRange homes) = of_homes homes
 beside_of (hint.NoHome homes) = of_homes homes
 beside_of (hint.HandleOutOfRange homes) = Homes homes
@@ -78,9 +86,11 @@ call_place (Read place) = decimal place
 call_place (Write place) = decimal place
 call_place Sync = []
 
--- the reason beside the words of a hint, where there is one: the system's text, of a disk after which call failed
+-- the reason beside the words of a hint, where there is one: the system's text, of a disk after which call failed, and
+-- of a file that is in use who has it
 abbrev pub reason_in : SystemSaid → HintArg → Option (List (List ℕ))
 reason_in said (System code) = Some (said.text ∷ [])
+reason_in said (Held holder) = Some (said.text ∷ [])
 reason_in said (Failed failure) =
     Some (call_name failure.call ∷ call_place failure.call ∷ codes ": " ∷ said.text ∷ [])
 reason_in said Nothing = None
@@ -94,6 +104,7 @@ said_with said words Nothing = words ∷ []
 said_with said words (BadOption option) =
     words ∷ codes ": " ∷ option_text option ∷ codes " is " ∷ option_range option ∷ []
 said_with said words (System code) = words ∷ codes ": " ∷ said.text ∷ []
+said_with said words (Held holder) = words ∷ codes ": " ∷ said.text ∷ []
 said_with said words (Failed failure) =
     said.remedy ∷ codes "; then " ∷ words ∷ codes ": " ∷ call_name failure.call ∷ call_place failure.call ∷ codes ": "
     ∷ said.text ∷ []

@@ -2,6 +2,7 @@ ghost use Rattle.std.specs.Prelude.{◌≡◌};
 ghost use Rattle.jb_args.specs.Advice.{advice_of, beside_of, finer_of};
 
 use crate::diagnostics;
+use crate::holder::Holder;
 use crate::option_name::OptionName;
 use jb_disk::Failure;
 
@@ -29,8 +30,8 @@ pub enum Hint {
     CannotMake(Option<i32>),
     /// A file was not opened or read; the number of the system's error, where it has one.
     CannotRead(Option<i32>),
-    /// A file is locked by another program, or mounted.
-    InUse,
+    /// A file is locked by another program, or mounted: by this process, or at this place, where the system says it.
+    InUse(Option<Holder>),
     /// The system does not say whether a file is mounted.
     MountsUnknown,
     /// A file was not made, since its file system has no links.
@@ -39,8 +40,8 @@ pub enum Hint {
     SameFile,
     /// A text is longer than it may be.
     TooLong,
-    /// A read of a journal failed.
-    ReadFault,
+    /// A read of a journal failed; the number of the system's error, where it has one.
+    ReadFault(Option<i32>),
     /// A superblock is cut short.
     SuperShortBlock,
     /// A superblock has not the magic number.
@@ -196,6 +197,8 @@ pub(crate) enum HintArg {
     Failed(Failure),
     /// How many home blocks the image has.
     Homes(u64),
+    /// Who has the file.
+    Held(Holder),
 }
 
 /// A `match` of a hint with what to do in each arm.
@@ -239,7 +242,10 @@ impl Hint {
     {
         match self {
             Hint::BadOption(option) => HintArg::BadOption(option),
-            Hint::CannotMake(Some(code)) | Hint::CannotRead(Some(code)) => HintArg::System(code),
+            Hint::CannotMake(Some(code))
+            | Hint::CannotRead(Some(code))
+            | Hint::ReadFault(Some(code)) => HintArg::System(code),
+            Hint::InUse(Some(holder)) => HintArg::Held(holder),
             Hint::HomeOutOfRange(Some(homes)) | Hint::NoHome(Some(homes)) => HintArg::Homes(homes),
             Hint::HandleOutOfRange(homes) => HintArg::Homes(homes),
             Hint::HandleAborted(Some(failure)) | Hint::CommitAborted(Some(failure)) => {

@@ -1,5 +1,5 @@
 //! What is said of a hint: the second line, and the same in parts.
-ghost use Rattle.std.specs.Prelude.{◌≡◌, map, option_map};
+ghost use Rattle.std.specs.Prelude.{◌≡◌, ◌∷◌, [], Some, codes, map, option_map};
 ghost use Rattle.jb_text.specs.Puts.{Puts};
 ghost use Rattle.jb_text.specs.TextParts.{spelled};
 ghost use Rattle.jb_args.specs.Advice.{SystemSaid, hint_line, hint_text, line_saying, reason_line, reason_text};
@@ -7,6 +7,7 @@ ghost use Rattle.jb_args.specs.Advice.{call_name as called, call_place as placed
 ghost use Rattle.jb_args.specs.declared.hint.HintArg.TheVariants.{BadOption, Failed};
 
 use crate::hint::{Hint, HintArg};
+use crate::holder::Holder;
 use crate::option_name::OptionName;
 use arrayvec::ArrayVec;
 use itoa::Buffer;
@@ -23,7 +24,7 @@ pub const SYSTEM_TEXT: usize = 256;
 pub struct HintParts<'b> {
     /// What to do, and what is said beside that.
     pub advice: [&'b str; 8],
-    /// Why the system refused a call, where it did.
+    /// Why the system refused a call, where it did, or who has a file that is in use.
     pub reason: Option<ReasonParts<'b>>,
 }
 
@@ -52,7 +53,8 @@ pub fn put_hint<W: Write>(writer: &mut W, hint: Hint) -> Result<(), WriteFault>
     put_words(writer, hint.advice(), hint.beside())
 }
 
-/// Writes the second line of a hint that says only why the system refused a call; nothing where it has refused none.
+/// Writes the second line of a hint that says only why the system refused a call, or who has a file that is in use;
+/// nothing where it has neither.
 ///
 /// # Errors
 /// `WriteFault` where the writer took only the beginning of the line.
@@ -74,6 +76,9 @@ pub fn put_reason<W: Write>(writer: &mut W, hint: Hint) -> Result<(), WriteFault
                 writer,
                 &["jb:  ", call_name(failure.call), place, ": ", text, "\n"],
             )
+        }
+        HintArg::Held(holder) => {
+            put_parts(writer, &["jb:  ", holder_text(holder, &mut room), "\n"])
         }
         HintArg::Nothing => Ok(()),
         HintArg::BadOption(_) => Ok(()),
@@ -108,15 +113,11 @@ pub fn hint_parts<'b>(
         }
         HintArg::System(code) => {
             let system: &'b str = system_text(code, text);
-            HintParts {
-                advice: [words, ": ", system, "", "", "", "", ""],
-                reason: Some(ReasonParts {
-                    call: "",
-                    place: "",
-                    between: "",
-                    text: system,
-                }),
-            }
+            text_parts(words, system)
+        }
+        HintArg::Held(holder) => {
+            let held: &'b str = holder_text(holder, text);
+            text_parts(words, held)
         }
         HintArg::Failed(failure) => failure_parts(words, failure, text, digits),
         HintArg::Homes(homes) => {
@@ -126,6 +127,23 @@ pub fn hint_parts<'b>(
                 reason: None,
             }
         }
+    }
+}
+
+/// What is said of a hint of these words with this text of the system beside them.
+fn text_parts<'b>(words: &'b str, said: &'b str) -> HintParts<'b>
+    ensures { (spelled (map (λ part. part.now) result.advice)
+        ≡ spelled (words.entry.now ∷ codes ": " ∷ said.entry.now ∷ []))
+        × (option_map reason_spelled result.reason ≡ Some (spelled (said.entry.now ∷ []))) }
+{
+    HintParts {
+        advice: [words, ": ", said, "", "", "", "", ""],
+        reason: Some(ReasonParts {
+            call: "",
+            place: "",
+            between: "",
+            text: said,
+        }),
     }
 }
 
@@ -168,6 +186,13 @@ fn put_words<W: Write>(writer: &mut W, words: &str, beside: HintArg) -> Result<(
             put_parts(
                 writer,
                 &["jb:  ", words, ": ", system_text(code, &mut room), "\n"],
+            )
+        }
+        HintArg::Held(holder) => {
+            let mut room = ArrayVec::new();
+            put_parts(
+                writer,
+                &["jb:  ", words, ": ", holder_text(holder, &mut room), "\n"],
             )
         }
         HintArg::Failed(failure) => put_failure(writer, words, failure),
@@ -244,6 +269,12 @@ fn failure_text(reason: FailureReason, room: &mut ArrayVec<u8, SYSTEM_TEXT>) -> 
 /// The text of the system's error of this number, as the library shows it.
 fn system_text(code: i32, room: &mut ArrayVec<u8, SYSTEM_TEXT>) -> &str {
     let _fits = write!(room, "{}", io::Error::from_raw_os_error(code));
+    shown_text(room)
+}
+
+/// Who has a file that is in use, in words.
+fn holder_text(holder: Holder, room: &mut ArrayVec<u8, SYSTEM_TEXT>) -> &str {
+    let _fits = room.try_extend_from_slice(holder.words());
     shown_text(room)
 }
 

@@ -38,7 +38,7 @@ macro_rules! diagnostics {
                     " block device, and may be written too": "REASON";
                 InUse, 2, "in use ", "NAME",
                     "it is mounted, or another jb works on it: unmount it, or run the"
-                    " command again when that one has ended";
+                    " command again when that one has ended": "HOLDER";
                 MountsUnknown, 2, "mounts unknown ", "NAME",
                     "the system does not say whether it is mounted: see to /proc, /sys"
                     " and ulimit -n; recover --force goes on, where it is surely not"
@@ -51,7 +51,7 @@ macro_rules! diagnostics {
                     "a queue text has at most 16777216 bytes, and a certificate 150994944";
                 ReadFault, 4, "ReadFault", "",
                     "the file cannot be read to the end of its journal: it is a folder,"
-                    " or its device fails";
+                    " or its device fails": "REASON";
                 SuperShortBlock, 3, "Super ShortBlock", "",
                     "a journal begins with a superblock of 1024 bytes, and the file is"
                     " shorter";

@@ -1,5 +1,5 @@
 -- What was done to a disk whose calls are shown was done to the disk that they are passed on to.
-use Rattle.std.proofs.Common.{ℕ, false, Option, Result}
+use Rattle.std.proofs.Common.{ℕ, Bool, List, false, Option, Result}
 use Rattle.jb_disk.specs.Image.{Image, ChangesNothing}
 use Rattle.jb_disk.specs.KeptOn.{KeptOn, ReadsOn}
 use Rattle.jb_disk.specs.Time.{Goes, LeavesOnly}
@@ -11,6 +11,7 @@ use Rattle.jb_recover.specs.Passes.{PassedBy}
 use Rattle.jb_recover.specs.declared.checked_fault.CheckedFault.{CheckedFault}
 use Rattle.jb_recover.specs.declared.recovered.Foreseen.{Foreseen}
 use Rattle.jb_recover.specs.declared.recovered.Recovered.{Recovered}
+use Rattle.jb_commands.specs.Cat.{CatsOn, LooksOn, ShowsOn}
 use Rattle.jb_commands.specs.Checking.{ForetellsBy, ForetellsUnreadBy, RecoversBy}
 use Rattle.jb_commands.specs.Recover.{RecoversOn}
 use Rattle.jb_commands.specs.Watched.{watched}
@@ -106,3 +107,33 @@ module _ {D K : Type 0} (G : Disks D) where
   pub watched-recovery : (sums : Checksums) (homes : Option ℕ) (found : Option MapSource) (old new : WatchedDisk D K) (end : Result Report CommandFault)
       → RecoversOn sums (as_watched G) homes found old new end → RecoversOn sums G homes found (watched old) (watched new) end
   watched-recovery sums homes found old new end r = record { answer = r.answer; recovers = watched-recovers sums old new r.answer r.recovers; told = r.told }
+
+  watched-cats : (sums : Checksums) (homes : Option ℕ) (first n : ℕ) (hex : Bool) (old new : WatchedDisk D K) (out_old out_new : Option (List ℕ)) (end : Result ℕ CommandFault)
+      → CatsOn sums (as_watched G) homes first n hex old new out_old out_new end → CatsOn sums G homes first n hex (watched old) (watched new) out_old out_new end
+  watched-cats sums homes first n hex old new out_old out_new end c = record {
+    blocks = c.blocks;
+    kept = watched-kept _ old new c.kept;
+    same = c.same;
+    idle = λ honest. watched-goes old new (c.idle honest);
+    unsynced = watched-reads old new c.unsynced;
+    peeked = c.peeked;
+    told = c.told;
+  }
+
+  watched-looks : (sums : Checksums) (homes : Option ℕ) (home : ℕ) (old new : WatchedDisk D K) (end : Result ℕ CommandFault)
+      → LooksOn sums (as_watched G) homes home old new end → LooksOn sums G homes home (watched old) (watched new) end
+  watched-looks sums homes home old new end l = record {
+    kept = watched-kept _ old new l.kept;
+    same = l.same;
+    idle = λ honest. watched-goes old new (l.idle honest);
+    unsynced = watched-reads old new l.unsynced;
+    looked = l.looked;
+  }
+
+  pub watched-shows : (sums : Checksums) (homes : Option ℕ) (first n : ℕ) (hex : Bool) (old new : WatchedDisk D K) (out_old out_new : Option (List ℕ)) (end : Result ℕ CommandFault)
+      → ShowsOn sums (as_watched G) homes first n hex old new out_old out_new end → ShowsOn sums G homes first n hex (watched old) (watched new) out_old out_new end
+  watched-shows sums homes first n hex old new out_old out_new end s = record {
+    cats = λ some. watched-cats sums homes first n hex old new out_old out_new end (s.cats some);
+    looks = λ none. watched-looks sums homes first old new end (s.looks none);
+    silent = s.silent;
+  }

@@ -1,5 +1,5 @@
 -- How `jb dump` ends over any reader, and what it reads.
-use Rattle.std.specs.Prelude.{◌≡◌, ℕ, List, Option, None, Some, Result, Ok, Err, codes, Bool, true, false, not, ◌&&◌}
+use Rattle.std.specs.Prelude.{◌≡◌, ℕ, ℤ, List, Option, None, Some, Result, Ok, Err, codes, Bool, true, false, not, ◌&&◌}
 use Rattle.std.specs.Prelude.{◌||◌, if◌then◌else◌}
 use Rattle.std.specs.Str.{bytes_eq}
 use Rattle.jb_dump.specs.Dumps.{Dumps}
@@ -7,7 +7,7 @@ use Rattle.jb_dump.specs.declared.dump_filter.DumpFilter.{DumpFilter}
 use Rattle.jb_dump.specs.declared.fault.DumpFault.{DumpFault}
 use Rattle.jb_args.specs.PlainCommand.{DumpWords}
 use Rattle.jb_super.specs.declared.fault.SuperFault.TheVariants.{NoMagic}
-use Rattle.jb_commands.specs.Faults.{dump_fault}
+use Rattle.jb_commands.specs.Faults.{dump_fault, with_code}
 use Rattle.jb_commands.specs.ListText.{reads_list}
 use Rattle.jb_commands.specs.declared.fault.CommandFault.{CommandFault}
 use Rattle.jb_commands.specs.declared.fault.CommandFault.TheVariants.{CannotRead, Memory, Super}
@@ -35,6 +35,18 @@ abbrev pub DumpsOn : DumpFilter → Option (List ℕ) → Option (List ℕ) → 
     → Result ℕ CommandFault → Type 0
 DumpsOn filter before after out_old out_new end =
     (dumped : Result Unit DumpFault) × (end ≡ end_by dumped) × Dumps filter before after out_old out_new dumped
+
+-- how a command ends whose reader has this number of the system's error
+abbrev pub end_saying : Option ℤ → Result ℕ CommandFault → Result ℕ CommandFault
+end_saying code (Ok status) = Ok status
+end_saying code (Err fault) = Err (with_code code fault)
+
+-- the same, where a failed read has the number of the system's error, if that has one
+abbrev pub DumpsSaying : DumpFilter → Option (List ℕ) → Option (List ℕ) → Option (List ℕ) → Option (List ℕ)
+    → Result ℕ CommandFault → Type 0
+DumpsSaying filter before after out_old out_new end =
+    (told : Result ℕ CommandFault) × (code : Option ℤ) × (end ≡ end_saying code told)
+    × DumpsOn filter before after out_old out_new told
 
 -- the file of this name was not opened
 abbrev pub IsUnopened : List ℕ → CommandFault → Type 0

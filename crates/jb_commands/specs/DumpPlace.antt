@@ -12,7 +12,7 @@ use Rattle.jb_image.specs.Files.{as_files}
 use Rattle.jb_image.specs.declared.image.ImageDisk.{ImageDisk}
 use Rattle.jb_super.specs.declared.checked.Checksums.{Checksums}
 use Rattle.jb_super.specs.declared.checked.Checksums.TheVariants.{Unjudged}
-use Rattle.jb_commands.specs.Dump.{DumpsOn, IsUnopened, choice_of, is_placed, is_unbegun}
+use Rattle.jb_commands.specs.Dump.{DumpsOn, DumpsSaying, IsUnopened, choice_of, is_placed, is_unbegun}
 use Rattle.jb_commands.specs.FoundWithin.{IsReadOf}
 use Rattle.jb_commands.specs.JournalPlace.{IsOpenedAt, IsShutAt, sums_of}
 use Rattle.jb_commands.specs.declared.fault.CommandFault.{CommandFault}
@@ -41,7 +41,7 @@ module _ {S T : Type 0} (start : Starts S) (other : Starts T) where
       → Result ℕ CommandFault → Type 0
   DumpsSystem words name input out_old out_new end =
       (before after out_mid : Option (List ℕ)) × (first : Result ℕ CommandFault)
-      × DumpsOn (choice_of words) before after out_old out_mid first × (is_unbegun first ≡ true)
+      × DumpsSaying (choice_of words) before after out_old out_mid first × (is_unbegun first ≡ true)
       × ((((system : FileSystem) × IsReadOf (Some system)) × DumpsPlaced words name input out_mid out_new end)
       ⊎ ((end ≡ Err Memory) × (out_new ≡ out_mid)))
 
@@ -49,7 +49,7 @@ module _ {S T : Type 0} (start : Starts S) (other : Starts T) where
   abbrev pub DumpsOpen : DumpWords → List ℕ → Option (List ℕ) → Option (List ℕ) → Option (List ℕ)
       → Result ℕ CommandFault → Type 0
   DumpsOpen words name input out_old out_new end =
-      ((before after : Option (List ℕ)) × DumpsOn (choice_of words) before after out_old out_new end)
+      ((before after : Option (List ℕ)) × DumpsSaying (choice_of words) before after out_old out_new end)
       ⊎ DumpsSystem words name input out_old out_new end
 
   -- the same of the file of this name; or it was not opened, and nothing was written

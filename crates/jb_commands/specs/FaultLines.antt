@@ -24,7 +24,7 @@ parts_of words numbers = codes "jb: " ∷ fault_parts words numbers
 -- the name at the end of a fault's line: of the file that it is about, where that is known
 abbrev pub named : Option PairNames → CommandFault → Option (List ℕ)
 named names (CannotRead name code) = Some name.now
-named names (InUse name) = Some name.now
+named names (InUse name holder) = Some name.now
 named names (MountsUnknown name) = Some name.now
 named names (NoLinks name) = Some name.now
 named names (SameFile name) = Some name.now

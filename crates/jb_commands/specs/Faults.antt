@@ -1,5 +1,5 @@
 -- The status, the line and the hint of each way in which a command ends without an answer, and which faults end it so.
-use Rattle.std.specs.Prelude.{ℕ, ◌==◌, ◌&&◌, ◌||◌, if◌then◌else◌, List, [], ◌∷◌, Option, None, codes}
+use Rattle.std.specs.Prelude.{ℕ, ℤ, ◌==◌, ◌&&◌, ◌||◌, if◌then◌else◌, List, [], ◌∷◌, Option, None, codes}
 use Rattle.jb_args.specs.declared.hint.Hint.{Hint}
 use Rattle.jb_args.specs.declared.hint.Hint.TheVariants as hint
 use Rattle.jb_disk.specs.declared.failure.Failure.{Failure}
@@ -42,14 +42,14 @@ use Rattle.jb_commands.specs.declared.streams.fault_line.Numbers.TheVariants as 
 -- the exit status
 abbrev pub status_of : CommandFault → ℕ
 status_of (CannotRead name code) = 2
-status_of (InUse name) = 2
+status_of (InUse name holder) = 2
 status_of (MountsUnknown name) = 2
 status_of (NoLinks name) = 2
 status_of (SameFile name) = 2
 status_of (CannotMake name code) = 2
 status_of (BadOption option) = 2
 status_of (TooLong name) = 2
-status_of ReadFault = 1
+status_of (ReadFault code) = 1
 status_of (Super fault) = 1
 status_of (JournalLength blocks maxlen) = 1
 status_of (FileSystem fault) = 1
@@ -112,14 +112,14 @@ extents_words (extents.Broken place) = (codes "Extents Broken", numbers.One plac
 -- the name of a fault, and its numbers
 abbrev pub fault_words : CommandFault → List ℕ × Numbers
 fault_words (CannotRead name code) = (codes "cannot read", numbers.None)
-fault_words (InUse name) = (codes "in use", numbers.None)
+fault_words (InUse name holder) = (codes "in use", numbers.None)
 fault_words (MountsUnknown name) = (codes "mounts unknown", numbers.None)
 fault_words (NoLinks name) = (codes "no links", numbers.None)
 fault_words (SameFile name) = (codes "same file", numbers.None)
 fault_words (CannotMake name code) = (codes "cannot make", numbers.None)
 fault_words (BadOption option) = (codes "bad option", numbers.None)
 fault_words (TooLong name) = (codes "too long", numbers.None)
-fault_words ReadFault = (codes "ReadFault", numbers.None)
+fault_words (ReadFault code) = (codes "ReadFault", numbers.None)
 fault_words (Super fault) = super_words fault
 fault_words (JournalLength blocks maxlen) = (codes "JournalLength", numbers.Two blocks maxlen)
 fault_words (FileSystem fault) = system_words fault
@@ -197,14 +197,14 @@ own_hint own.Short = hint.OwnShort
 -- what a second line is about after the line of a fault
 abbrev pub hint_of : CommandFault → Hint
 hint_of (CannotRead name code) = hint.CannotRead code
-hint_of (InUse name) = hint.InUse
+hint_of (InUse name holder) = hint.InUse holder
 hint_of (MountsUnknown name) = hint.MountsUnknown
 hint_of (NoLinks name) = hint.NoLinks
 hint_of (SameFile name) = hint.SameFile
 hint_of (CannotMake name code) = hint.CannotMake code
 hint_of (BadOption option) = hint.BadOption option
 hint_of (TooLong name) = hint.TooLong
-hint_of ReadFault = hint.ReadFault
+hint_of (ReadFault code) = hint.ReadFault code
 hint_of (Super fault) = super_hint fault
 hint_of (JournalLength blocks maxlen) = hint.JournalLength
 hint_of (FileSystem fault) = system_hint fault
@@ -231,6 +231,11 @@ abbrev pub with_failure : Option Failure → CommandFault → CommandFault
 with_failure failure (DeviceFault None) = DeviceFault failure
 with_failure failure fault = fault
 
+-- a fault, with this number of the system's error where a read failed of which none is known yet
+abbrev pub with_code : Option ℤ → CommandFault → CommandFault
+with_code code (ReadFault None) = ReadFault code
+with_code code fault = fault
+
 -- the line for a word of the command line that is not UTF-8
 abbrev pub not_utf8 : List ℕ
 not_utf8 = line_naming (codes "error: invalid UTF-8 was detected in one or more arguments" ∷ []) None
@@ -243,7 +248,7 @@ super_fault checked.Checksum = SuperChecksum
 
 -- what a fault of a dump is reported as
 abbrev pub dump_fault : DumpFault → CommandFault
-dump_fault dumping.ReadFault = ReadFault
+dump_fault dumping.ReadFault = ReadFault None
 dump_fault dumping.WriteFault = WriteFault
 dump_fault (dumping.Super fault) = super_fault fault
 dump_fault (dumping.BadChecksum what place) = BadChecksum what place

@@ -30,7 +30,7 @@ use Rattle.jb_commands.specs.declared.report.Report.TheVariants.{Formatted}
 -- is that of the journal too, or its first bytes are refused as a superblock
 abbrev pub IsUnread : List ℕ → CommandFault → Type 0
 IsUnread name (CannotRead told code) = told.now ≡ name
-IsUnread name (InUse told) = told.now ≡ name
+IsUnread name (InUse told holder) = told.now ≡ name
 IsUnread name (MountsUnknown told) = told.now ≡ name
 IsUnread name (SameFile told) = told.now ≡ name
 IsUnread name (Super fault) = (front : List ℕ) × (super_in front ≡ Err fault)

@@ -9,7 +9,7 @@ use Rattle.jb_recover.specs.Passes.{PassedBy}
 use Rattle.jb_recover.specs.declared.checked_fault.CheckedPeekFault.{CheckedPeekFault}
 use Rattle.jb_recover.specs.declared.lost.Lost.{Lost}
 use Rattle.jb_recover.specs.declared.lost.Lost.TheVariants as lost
-use Rattle.jb_commands.specs.Dump.{DumpsOn, choice_of, is_searched}
+use Rattle.jb_commands.specs.Dump.{DumpsSaying, choice_of, is_searched}
 use Rattle.jb_commands.specs.Faults.{peek_fault}
 use Rattle.jb_commands.specs.declared.fault.CommandFault.{CommandFault}
 use Rattle.jb_commands.specs.declared.fault.CommandFault.TheVariants as fault
@@ -35,7 +35,7 @@ module _ {D : Type 0} (G : Disks D) where
   abbrev pub DumpsBehind : DumpFilter → Result (Option Lost) CheckedPeekFault → Option (List ℕ) → Option (List ℕ)
       → Result ℕ CommandFault → Type 0
   DumpsBehind filter (Ok found) out_old out_new end =
-      (dumped : Result ℕ CommandFault) × DumpsOn filter None None out_old out_new dumped
+      (dumped : Result ℕ CommandFault) × DumpsSaying filter None None out_old out_new dumped
       × (end ≡ end_unless_lost found dumped)
   DumpsBehind filter (Err stop) out_old out_new end = (end ≡ Err (peek_fault None stop)) × (out_new ≡ out_old)
 
@@ -48,7 +48,7 @@ module _ {D : Type 0} (G : Disks D) where
   -- a disk's journal was dumped, and searched before or not
   abbrev pub DumpsEither : Bool → DumpFilter → D → Option (List ℕ) → Option (List ℕ) → Result ℕ CommandFault → Type 0
   DumpsEither true filter disk out_old out_new end = DumpsSearched filter disk out_old out_new end
-  DumpsEither false filter disk out_old out_new end = DumpsOn filter None None out_old out_new end
+  DumpsEither false filter disk out_old out_new end = DumpsSaying filter None None out_old out_new end
 
   -- the same by the words
   abbrev pub DumpsDisk : DumpWords → D → Option (List ℕ) → Option (List ℕ) → Result ℕ CommandFault → Type 0

@@ -1,6 +1,6 @@
 ghost use Rattle.std.specs.Prelude.{◌≡◌};
 
-use jb_args::OptionName;
+use jb_args::{Holder, OptionName};
 use jb_disk::Failure;
 use jb_dump::DumpFault;
 use jb_ext::OwnFault;
@@ -18,8 +18,9 @@ pub enum CommandFault<'a> {
     /// The file of this name, or standard input for `-`, could not be opened or read; with the number of the system's
     /// error, where it has one.
     CannotRead(&'a str, Option<i32>),
-    /// Another program has locked the image of this name, or it would be changed and is mounted.
-    InUse(&'a str),
+    /// Another program has locked the image of this name, or it would be changed and is mounted; with which program or
+    /// where, as far as the system says it.
+    InUse(&'a str, Option<Holder>),
     /// The image of this name would be changed, and the system does not say whether it is mounted.
     MountsUnknown(&'a str),
     /// The file of this name was not made: its file system has no links.
@@ -33,8 +34,8 @@ pub enum CommandFault<'a> {
     BadOption(OptionName),
     /// The file of this name has more bytes than a text may have.
     TooLong(&'a str),
-    /// A read of the journal failed.
-    ReadFault,
+    /// A read of the journal failed; with the number of the system's error, where it has one.
+    ReadFault(Option<i32>),
     /// Journal block 0 is refused for this; `Geometry` also where there are fewer blocks than `s_maxlen`.
     Super(SuperFault),
     /// The journal's `s_checksum_type` is this, and not 4, CRC-32C.
@@ -111,7 +112,7 @@ impl<'a> From<DumpFault> for CommandFault<'a> {
 
     fn from(fault: DumpFault) -> CommandFault<'a> {
         match fault {
-            DumpFault::ReadFault => CommandFault::ReadFault,
+            DumpFault::ReadFault => CommandFault::ReadFault(None),
             DumpFault::WriteFault => CommandFault::WriteFault,
             DumpFault::Super(fault) => CommandFault::of_super(fault),
             DumpFault::BadChecksum(what, place) => CommandFault::BadChecksum(what, place),
@@ -151,7 +152,7 @@ impl<'a> From<ChangeFault> for CommandFault<'a> {
 }
 
 impl<'a> CommandFault<'a> {
-    ghost use Rattle.jb_commands.specs.Faults.{peek_fault, recover_fault, super_fault, with_failure};
+    ghost use Rattle.jb_commands.specs.Faults.{peek_fault, recover_fault, super_fault, with_code, with_failure};
 
     /// The fault, with this call of the disk where one of it failed that is not known yet.
     pub fn with_failure(self, failure: Option<Failure>) -> CommandFault<'a>
@@ -159,6 +160,16 @@ impl<'a> CommandFault<'a> {
     {
         match self {
             CommandFault::DeviceFault(None) => CommandFault::DeviceFault(failure),
+            fault => fault,
+        }
+    }
+
+    /// The fault, with this number of the system's error where a read failed of which none is known yet.
+    pub(crate) fn with_code(self, code: Option<i32>) -> CommandFault<'a>
+        ensures value { result ≡ with_code code self.entry }
+    {
+        match self {
+            CommandFault::ReadFault(None) => CommandFault::ReadFault(code),
             fault => fault,
         }
     }

@@ -23,7 +23,8 @@ macro_rules! fault_rows {
             [$($with)+]
             CommandFault::CannotRead(name, code) =>
                 ("cannot read", Numbers::None), own(name), 2, Hint::CannotRead(code);
-            CommandFault::InUse(name) => ("in use", Numbers::None), own(name), 2, Hint::InUse;
+            CommandFault::InUse(name, holder) =>
+                ("in use", Numbers::None), own(name), 2, Hint::InUse(holder);
             CommandFault::MountsUnknown(name) =>
                 ("mounts unknown", Numbers::None), own(name), 2, Hint::MountsUnknown;
             CommandFault::NoLinks(name) => ("no links", Numbers::None), own(name), 2, Hint::NoLinks;
@@ -32,7 +33,7 @@ macro_rules! fault_rows {
                 ("cannot make", Numbers::None), own(name), 2, Hint::CannotMake(code);
             CommandFault::BadOption(option) => ("bad option", Numbers::None), none, 2, Hint::BadOption(option);
             CommandFault::TooLong(name) => ("too long", Numbers::None), own(name), 2, Hint::TooLong;
-            CommandFault::ReadFault => ("ReadFault", Numbers::None), none, 1, Hint::ReadFault;
+            CommandFault::ReadFault(code) => ("ReadFault", Numbers::None), none, 1, Hint::ReadFault(code);
             CommandFault::Super(fault) => words_of_super(fault), journal, 1, super_hint(fault);
             CommandFault::ChecksumType(kind) =>
                 ("Super ChecksumType", Numbers::One(u64::from(kind))), journal, 1, Hint::SuperChecksumType;

@@ -3,6 +3,8 @@
 mod changes;
 mod dump_form;
 mod found;
+mod holders;
+mod holding;
 mod homes;
 mod journals;
 mod listed;

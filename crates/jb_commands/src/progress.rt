@@ -4,11 +4,14 @@
 mod advance;
 mod line;
 mod pass;
+mod peeked_homes;
 
 use crate::progress::advance::Advance;
 use crate::progress::line::TerminalLine;
 use crate::progress::pass::Pass;
+use crate::progress::peeked_homes::PeekedHomes;
 use jb_args::ProgressLine;
+pub(crate) use pass::PassCounts;
 use std::fs::{File, OpenOptions};
 use std::io::IsTerminal;
 use std::rt::Files;
@@ -24,6 +27,8 @@ const OUTPUT: &str = "/dev/stdout";
 pub(crate) enum Course {
     /// The log of a journal, once or several times.
     Log(Pass),
+    /// Home blocks, each by a peek.
+    Peeks(PeekedHomes),
     /// A text of bytes, once.
     Bytes(Advance),
 }
@@ -36,16 +41,42 @@ pub(crate) struct ShownProgress<'a, K: Clock> {
 }
 
 impl<'a, K: Clock> ShownProgress<'a, K> {
-    /// Of a command over the log of a journal of this many blocks, which has done nothing yet. Nothing is shown where
-    /// standard error is no terminal.
+    /// Of a command over the log of a journal of this many blocks, as often as this, which has done nothing yet.
+    /// Nothing is shown where standard error is no terminal.
     pub(crate) fn over_log<R: Files<File = File>>(
         rt: &R,
         clock: &'a K,
         shown: ProgressLine,
         what: &'static str,
         journal: u64,
+        passes: PassCounts,
     ) -> ShownProgress<'a, K> {
-        ShownProgress::new(rt, clock, shown, what, Course::Log(Pass::new(journal)))
+        ShownProgress::new(
+            rt,
+            clock,
+            shown,
+            what,
+            Course::Log(Pass::new(journal, passes)),
+        )
+    }
+
+    /// Of a command that peeks at this many home blocks, one after the other, and writes them. Nothing is shown where
+    /// standard error is no terminal, or standard output is one.
+    pub(crate) fn over_homes<R: Files<File = File>>(
+        rt: &R,
+        clock: &'a K,
+        shown: ProgressLine,
+        what: &'static str,
+        homes: u64,
+    ) -> ShownProgress<'a, K> {
+        let shown = beside_text(rt, shown);
+        ShownProgress::new(
+            rt,
+            clock,
+            shown,
+            what,
+            Course::Peeks(PeekedHomes::new(homes)),
+        )
     }
 
     /// Of a command that reads this many bytes and writes text. Nothing is shown where standard error is no terminal,
@@ -57,7 +88,11 @@ impl<'a, K: Clock> ShownProgress<'a, K> {
         what: &'static str,
         bytes: u64,
     ) -> ShownProgress<'a, K> {
-        let shown = beside_text(rt, shown, bytes);
+        let shown = if bytes == 0 {
+            ProgressLine::Never
+        } else {
+            beside_text(rt, shown)
+        };
         ShownProgress::new(rt, clock, shown, what, Course::Bytes(Advance::new(bytes)))
     }
 
@@ -98,11 +133,8 @@ impl<'a, K: Clock> ShownProgress<'a, K> {
     }
 }
 
-/// Whether progress is shown of so many bytes that are read, beside the text on standard output.
-fn beside_text<R: Files<File = File>>(rt: &R, shown: ProgressLine, bytes: u64) -> ProgressLine {
-    if bytes == 0 {
-        return ProgressLine::Never;
-    }
+/// Whether progress is shown beside the text on standard output.
+fn beside_text<R: Files<File = File>>(rt: &R, shown: ProgressLine) -> ProgressLine {
     match shown {
         ProgressLine::OnTerminal => match opened(rt, OUTPUT) {
             Some(_) => ProgressLine::Never,

@@ -68,7 +68,9 @@ pub fn perform<
             CommandEnd::status(dump_in::<S, T, R, I, O>(rt, file, options, form, shown, input, out))
         }
         Plain::Format { image, options } => format_file(rt, image, options),
-        Plain::Cat { image, options } => cat_file(rt, image, options, input, out),
+        Plain::Cat { image, options } => {
+            cat_file(rt, image, options, settings.progress, input, out)
+        }
         Plain::Recover { image, options } => {
             recover_file(rt, image, options, settings.progress, input)
         }

@@ -1,7 +1,7 @@
 //! The line of each hint.
 
 use crate::checks::{check_at, check_text};
-use jb_args::{Hint, OptionName, put_hint, put_reason};
+use jb_args::{Hint, Holder, OptionName, put_hint, put_reason};
 use jb_disk::{FailedCall, Failure, FailureReason, SystemFault};
 use jb_tool::CommandFault;
 use std::alloc::Global;
@@ -134,6 +134,26 @@ fn check_reasons(rt: &impl Abort, alloc: Global) {
     }
 }
 
+/// Checks both lines of who has a file that is in use, and that words which are too long are none.
+fn check_holder(rt: &impl Abort, alloc: Global) {
+    let holder = Holder::new(b"mounted at /mnt");
+    check_at(rt, holder.is_some(), "a holder", 0);
+    let (mut told, mut reason) = (Vec::new(alloc), Vec::new(alloc));
+    let hint = Hint::InUse(holder);
+    check_at(rt, put_hint(&mut told, hint).is_ok(), "a holder", 1);
+    check_text(
+        rt,
+        &told,
+        "jb:  it is mounted, or another jb works on it: unmount it, or run the command again when that one \
+         has ended: mounted at /mnt\n",
+        "a holder",
+        2,
+    );
+    check_at(rt, put_reason(&mut reason, hint).is_ok(), "a holder", 3);
+    check_text(rt, &reason, "jb:  mounted at /mnt\n", "a holder", 4);
+    check_at(rt, Holder::new(&[b'a'; 256]).is_none(), "a holder", 5)
+}
+
 /// Checks that a failed call is put into a fault of the disk, and into no other.
 fn check_failures(rt: &impl Abort) {
     let failed = CommandFault::DeviceFault(None).with_failure(NO_ROOM);
@@ -148,5 +168,6 @@ fn check_failures(rt: &impl Abort) {
 fn each_hint_has_its_line(rt: HostRuntime) {
     check_rows(&rt, rt.alloc());
     check_reasons(&rt, rt.alloc());
+    check_holder(&rt, rt.alloc());
     check_failures(&rt)
 }

@@ -14,13 +14,13 @@ use jb_super::SuperFault;
 use jb_tool::{AnswerForm, CommandFault, LoadDone, LoadReport, Loaded, QueueHandleFault, Refused};
 
 /// Each fault of a command, with what the second line says beside the words of its row.
-static FAULTS: [(CommandFault<'static>, &str); 68] = [
+static FAULTS: [(CommandFault<'static>, &str); 69] = [
     (
         CommandFault::CannotRead("a", Some(2)),
         ": No such file or directory (os error 2)",
     ),
     (CommandFault::CannotRead("a", None), ""),
-    (CommandFault::InUse("a"), ""),
+    (CommandFault::InUse("a", None), ""),
     (CommandFault::MountsUnknown("a"), ""),
     (CommandFault::NoLinks("a"), ""),
     (CommandFault::SameFile("a"), ""),
@@ -39,7 +39,11 @@ static FAULTS: [(CommandFault<'static>, &str); 68] = [
          for its text; not with --journal",
     ),
     (CommandFault::TooLong("a"), ""),
-    (CommandFault::ReadFault, ""),
+    (CommandFault::ReadFault(None), ""),
+    (
+        CommandFault::ReadFault(Some(5)),
+        ": Input/output error (os error 5)",
+    ),
     (CommandFault::Super(SuperFault::ShortBlock), ""),
     (CommandFault::Super(SuperFault::NoMagic), ""),
     (CommandFault::Super(SuperFault::NotVersion2(3)), ""),

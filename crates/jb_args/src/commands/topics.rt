@@ -114,8 +114,9 @@ DeviceFault, which is of either. A character of a name that is a control
 character, or turns the direction of the text, is \\x and two digits for each
 of its bytes. # is a number, REASON the system's own text, where it has one,
 CALL the call that failed and its block, before which stands what to do about
-the reason, and [#] the status with --status; the options that may be bad
-stand last.",
+the reason, HOLDER where a device is mounted or which process has locked the
+file, where that is known, and [#] the status with --status; the options that
+may be bad stand last.",
             $("\n  jb: ", $begins, $rest, " [", $status, "]\n          ",
               $advice $(, "\n         ", $more)* $(, ": ", $beside)?),*,
             $("\n  ", $name, "\n          is ", $values $(, "\n         ", $rest_values)*),*

@@ -4,31 +4,44 @@ ghost use Rattle.jb_args.specs.PlainCommand.{cat_said};
 ghost use Rattle.jb_image.specs.Files.{as_disks};
 ghost use Rattle.jb_commands.specs.JournalPlace.{EndsOfCat, ShowsAsked};
 ghost use Rattle.jb_commands.specs.ListText.{reads_list};
+ghost use Rattle.jb_commands.specs.Watched.{watched};
 
 use crate::command_end::CommandEnd;
 use crate::fault::CommandFault;
+use crate::files::opened::OpenedImage;
 use crate::files::opening::Opening;
 use crate::files::placed::open_placed;
 use crate::files::recovered::checksums_of;
+use crate::files::watched::show_watched;
+use crate::progress::ShownProgress;
 use crate::report::{Report, status_end};
-use crate::streams::{ShownHomes, show_on};
-use jb_args::CatOptions;
+use crate::streams::{ShownHomes, WatchedDisk};
+use jb_args::{CatOptions, ProgressLine};
 use jb_disk::{Disk, Start};
 use jb_image::{ExtentsFault, ImageDisk};
 use std::alloc::Global;
 use std::fs::File;
 use std::io::{Read, Write};
 use std::rt::Files;
+use std::time::Clock;
 
 /// Writes home blocks of the image of this name as recovery would leave them; the image is opened for reading alone. A
 /// list of extents may be read from `input`.
 ///
 /// # Errors
 /// Those of `open_placed`, and those of `show_opened`, which come also where no block is asked for.
-pub fn cat_file<'a, S: Start, T: Start, R: Files<File = File> + AllocGlobal, I: Read, O: Write>(
+pub fn cat_file<
+    'a,
+    S: Start,
+    T: Start,
+    R: Files<File = File> + AllocGlobal + Clock,
+    I: Read,
+    O: Write,
+>(
     rt: &R,
     image: &'a str,
     options: CatOptions<'a>,
+    shown: ProgressLine,
     input: &mut I,
     out: &mut O,
 ) -> CommandEnd<'a, S, T>
@@ -47,12 +60,13 @@ pub fn cat_file<'a, S: Start, T: Start, R: Files<File = File> + AllocGlobal, I: 
         checksums_of(options.checksums),
         input,
     ) {
-        Ok(mut opened) => {
-            let homes = opened.homes;
-            let end = show_opened(rt.alloc(), &mut opened.disk, homes, options, out);
+        Ok(opened) => {
+            let OpenedImage { disk, homes, .. } = opened;
+            let progress = ShownProgress::over_homes(rt, rt, shown, "jb cat", options.count);
+            let done = show_opened(rt.alloc(), disk, homes, options, progress, out);
             CommandEnd {
-                image: Some(opened.disk),
-                end,
+                image: Some(done.0),
+                end: done.1,
             }
         }
         Err(fault) => CommandEnd {
@@ -62,23 +76,24 @@ pub fn cat_file<'a, S: Start, T: Start, R: Files<File = File> + AllocGlobal, I: 
     }
 }
 
-/// The same of an image that is open, with this many home blocks.
+/// The same of an image that is open, with this many home blocks. Gives it back, too.
 ///
 /// # Errors
 /// `CommandFault::Extents` where a home block that is asked for is one of the journal's own: nothing is written then;
 /// and those of `cat_on`.
-fn show_opened<'a, D: Disk, E: Disk, O: Write>(
+fn show_opened<'a, D: Disk, E: Disk, K: Clock, O: Write>(
     alloc: Global,
-    disk: &mut ImageDisk<D, E>,
+    disk: ImageDisk<D, E>,
     homes: u64,
     options: CatOptions<'_>,
+    progress: ShownProgress<'_, K>,
     out: &mut O,
-) -> Result<Report, CommandFault<'a>>
-    ensures shows { ShowsAsked (as_disks D.Disk E.Disk) homes (cat_said options.entry) disk.old disk.new
-        (O.contents out.old) (O.contents out.new) result }
+) -> (ImageDisk<D, E>, Result<Report, CommandFault<'a>>)
+    ensures shows { ShowsAsked (as_disks D.Disk E.Disk) homes (cat_said options.entry) disk result.0
+        (O.contents out.old) (O.contents out.new) result.1 }
 {
     if let Some(home) = disk.own_among(options.home, options.count) {
-        return Err(CommandFault::Extents(ExtentsFault::Home(home)));
+        return (disk, Err(CommandFault::Extents(ExtentsFault::Home(home))));
     }
     let shown = ShownHomes {
         home: options.home,
@@ -86,6 +101,7 @@ fn show_opened<'a, D: Disk, E: Disk, O: Write>(
         hex: options.hex,
         sums: checksums_of(options.checksums),
     };
-    let told = show_on(alloc, disk, shown, Some(homes), out);
-    status_end(told)
+    let mut watched = WatchedDisk::of(disk, progress);
+    let told = show_watched(alloc, &mut watched, shown, homes, out);
+    (watched.into_inner(), status_end(told))
 }

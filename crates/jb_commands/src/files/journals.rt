@@ -2,7 +2,7 @@
 ghost use Rattle.std.specs.Prelude.{◌≡◌, ◌&&◌, IfOk, None, Some, codes, false, not, option_map, true};
 ghost use Rattle.jb_args.specs.PlainCommand.{dump_said};
 ghost use Rattle.jb_ext.specs.declared.system.FileSystem.{FileSystem};
-ghost use Rattle.jb_commands.specs.Dump.{DumpsOn, choice_of, is_given as is_told, is_placed as is_said};
+ghost use Rattle.jb_commands.specs.Dump.{choice_of, is_given as is_told, is_placed as is_said};
 ghost use Rattle.jb_commands.specs.Dump.{is_unbegun as begins_not, reads_dump};
 ghost use Rattle.jb_commands.specs.DumpPlace.{DumpsChosen, DumpsFile, DumpsNamed, DumpsOpen, DumpsPlaced, sums_sought};
 ghost use Rattle.jb_commands.specs.FoundWithin.{IsReadOf};
@@ -17,7 +17,7 @@ use crate::files::searching::dump_opened;
 use crate::files::shut::FileFault;
 use crate::files::texts::unopened;
 use crate::progress::ShownProgress;
-use crate::streams::{WatchedReader, dump_from};
+use crate::streams::{dump_from, dump_watched};
 use jb_args::{DumpOptions, OptionName, ProgressLine};
 use jb_block::Memory;
 use jb_disk::{Disk, Start};
@@ -151,9 +151,7 @@ fn dump_open<
     ensures unread { reads_list (dump_said options.entry).extents ≡ false → input.new ≡ input.old }
 {
     let progress = ShownProgress::over_bytes(rt, rt, shown, "jb dump", len_of(&file));
-    let mut journal = WatchedReader::of(file, progress);
-    let end = dump_from(rt.alloc(), &mut journal, choice_of(options), out);
-    let mut file = journal.into_inner();
+    let (mut file, end) = dump_watched(rt.alloc(), file, progress, choice_of(options), out);
     if !is_unbegun(end) {
         return end;
     }

@@ -8,6 +8,7 @@ ghost use Rattle.jb_commands.specs.FoundWithin.{IsNotRead};
 ghost use Rattle.jb_commands.specs.OpenRefusals.{IsFileShut, IsFront, IsPairShut};
 
 use crate::fault::CommandFault;
+use crate::files::holding::{locker_of, mount_of};
 use crate::files::shut::{FileFault, PairFault, named, named_pair};
 use jb_block::BlockSize;
 use jb_disk::{Disk, FileDisk, Start};
@@ -269,7 +270,8 @@ pub(crate) fn open_image<R: Files<File = File> + AllocGlobal>(
 {
     match open_file(rt, name, opening) {
         Ok(file) => Ok(file),
-        Err(ImageFault::InUse | ImageFault::Mounted) => Err(FileFault::InUse),
+        Err(ImageFault::InUse) => Err(FileFault::InUse(locker_of(rt, name))),
+        Err(ImageFault::Mounted) => Err(FileFault::InUse(mount_of(rt, name))),
         Err(ImageFault::MountsUnknown) => Err(FileFault::MountsUnknown),
         Err(ImageFault::OtherKind) => Err(FileFault::Unread(None)),
         Err(ImageFault::System(fault)) => Err(FileFault::Unread(fault.code)),

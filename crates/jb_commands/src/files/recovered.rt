@@ -16,7 +16,7 @@ use crate::files::opening::Opening;
 use crate::files::placed::open_placed;
 use crate::files::recovering::recover_image;
 use crate::files::watched::foresee_watched;
-use crate::progress::ShownProgress;
+use crate::progress::{PassCounts, ShownProgress};
 use crate::report::Report;
 use crate::streams::{WatchedDisk, judge_on};
 use jb_args::{OptionName, ProgressLine, RecoverOptions};
@@ -86,7 +86,12 @@ pub fn recover_file<'a, S: Start, T: Start, R: Files<File = File> + AllocGlobal 
         Ok(opened) => {
             let OpenedImage { disk, homes, found } = opened;
             let journal = disk.blocks().saturating_sub(homes);
-            let progress = ShownProgress::over_log(rt, rt, shown, "jb recover", journal);
+            let passes = PassCounts::of_recovery(
+                options.dry_run,
+                disk.is_within(),
+                options.checksums,
+            );
+            let progress = ShownProgress::over_log(rt, rt, shown, "jb recover", journal, passes);
             let done = recover_opened(rt.alloc(), disk, homes, found, options, progress);
             CommandEnd {
                 image: Some(done.0),

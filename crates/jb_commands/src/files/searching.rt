@@ -1,13 +1,13 @@
 //! The journal of an image, dumped, and its log searched for a transaction that it has lost.
 ghost use Rattle.std.specs.Prelude.{◌≡◌, None};
 ghost use Rattle.jb_args.specs.PlainCommand.{dump_said};
-ghost use Rattle.jb_commands.specs.Dump.{DumpsOn, is_searched as is_sought};
+ghost use Rattle.jb_commands.specs.Dump.{DumpsSaying, is_searched as is_sought};
 ghost use Rattle.jb_commands.specs.Searched.{DumpsDisk, DumpsSearched, end_unless_lost, lost_fault as fault_of_lost};
 
 use crate::fault::CommandFault;
 use crate::files::journals::choice_of;
 use crate::progress::ShownProgress;
-use crate::streams::{DiskReader, WatchedReader, dump_from};
+use crate::streams::{DiskReader, dump_watched};
 use jb_args::DumpOptions;
 use jb_disk::Disk;
 use jb_dump::DumpFilter;
@@ -93,11 +93,9 @@ fn dump_disk<'a, D: Disk + Drop, K: Clock, O: Write>(
     progress: ShownProgress<'_, K>,
     out: &mut O,
 ) -> Result<u8, CommandFault<'a>>
-    ensures dumps { DumpsOn filter None None (O.contents out.old) (O.contents out.new) result }
+    ensures dumps { DumpsSaying filter None None (O.contents out.old) (O.contents out.new) result }
 {
-    let mut journal = WatchedReader::of(DiskReader::of(disk), progress);
-    let end = dump_from(alloc, &mut journal, filter, out);
-    let _closed = journal.into_inner();
+    let (_closed, end) = dump_watched(alloc, DiskReader::of(disk), progress, filter, out);
     end
 }
 

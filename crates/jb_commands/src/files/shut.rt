@@ -8,7 +8,7 @@ ghost use Rattle.jb_commands.specs.OpenRefusals.{IsFileShut, IsListShut, IsOwnSh
 ghost use Rattle.jb_commands.specs.OwnPlace.{IsFrontShut, of_find};
 
 use crate::fault::CommandFault;
-use jb_args::OptionName;
+use jb_args::{Holder, OptionName};
 use jb_disk::Start;
 use jb_ext::FindFault;
 use jb_image::{ExtentsFault, FileSystemFault};
@@ -19,8 +19,8 @@ use jb_super::SuperFault;
 pub(crate) enum FileFault {
     /// It could not be opened or read; with the number of the system's error, where it has one.
     Unread(Option<i32>),
-    /// Another program has locked it, or it would be changed and is mounted.
-    InUse,
+    /// Another program has locked it, or it would be changed and is mounted; with who has it, where that is known.
+    InUse(Option<Holder>),
     /// It would be changed, and the system does not say whether it is mounted.
     MountsUnknown,
     /// Bytes of it are refused as a superblock.
@@ -144,7 +144,7 @@ fn fault_of<'a>(fault: FileFault, name: &'a str) -> CommandFault<'a>
 {
     match fault {
         FileFault::Unread(code) => CommandFault::CannotRead(name, code),
-        FileFault::InUse => CommandFault::InUse(name),
+        FileFault::InUse(holder) => CommandFault::InUse(name, holder),
         FileFault::MountsUnknown => CommandFault::MountsUnknown(name),
         FileFault::Super(fault) => CommandFault::Super(fault),
         FileFault::Memory => CommandFault::Memory,

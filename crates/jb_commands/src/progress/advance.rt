@@ -21,6 +21,11 @@ impl Advance {
         }
     }
 
+    /// So many more are done.
+    pub(crate) fn add(&mut self, more: u64) {
+        self.at = self.at.saturating_add(more)
+    }
+
     /// It is this time, in milliseconds.
     pub(crate) fn see(&mut self, now: u64) {
         if self.since.is_none() {

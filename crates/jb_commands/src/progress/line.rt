@@ -2,6 +2,7 @@
 
 use crate::progress::Course;
 use crate::progress::advance::Advance;
+use crate::progress::pass::Pass;
 use itoa::Buffer;
 use jb_text::{put, put_parts};
 use std::fs::File;
@@ -59,8 +60,10 @@ impl TerminalLine {
 
     /// The block at a place is read or written.
     pub(crate) fn meet<K: Clock>(&mut self, clock: &K, place: u64) {
-        if let Course::Log(pass) = &mut self.course {
-            pass.meet(place)
+        match &mut self.course {
+            Course::Log(pass) => pass.meet(place),
+            Course::Peeks(peeks) => peeks.meet(place),
+            Course::Bytes(_) => {}
         }
         self.call(clock)
     }
@@ -68,7 +71,7 @@ impl TerminalLine {
     /// So many bytes more are read.
     pub(crate) fn read<K: Clock>(&mut self, clock: &K, bytes: u64) {
         if let Course::Bytes(advance) = &mut self.course {
-            advance.at = advance.at.saturating_add(bytes)
+            advance.add(bytes)
         }
         self.call(clock)
     }
@@ -82,7 +85,7 @@ impl TerminalLine {
         }
     }
 
-    /// Writes the line where it is due.
+    /// Writes the line where it is due, and something is done: else nothing is known of the time that is left.
     fn look<K: Clock>(&mut self, clock: &K) {
         let Ok(elapsed) = self.begun.elapsed(clock) else {
             return;
@@ -92,7 +95,7 @@ impl TerminalLine {
             .saturating_mul(1000)
             .saturating_add(u64::from(elapsed.subsec_millis()));
         self.see(now);
-        if now >= self.due {
+        if now >= self.due && self.done() > 0 {
             self.due = now.saturating_add(BETWEEN);
             self.show(now)
         }
@@ -102,7 +105,17 @@ impl TerminalLine {
     fn see(&mut self, now: u64) {
         match &mut self.course {
             Course::Log(pass) => pass.blocks.see(now),
+            Course::Peeks(peeks) => peeks.blocks.see(now),
             Course::Bytes(advance) => advance.see(now),
+        }
+    }
+
+    /// How much is done.
+    fn done(&self) -> u64 {
+        match self.course {
+            Course::Log(pass) => pass.blocks.at,
+            Course::Peeks(peeks) => peeks.blocks.at,
+            Course::Bytes(bytes) => bytes.at,
         }
     }
 
@@ -111,28 +124,52 @@ impl TerminalLine {
         self.stands = true;
         let course = self.course;
         match course {
-            Course::Log(pass) => self.show_pass(pass.number, pass.blocks, now),
-            Course::Bytes(advance) => self.show_bytes(advance, now),
+            Course::Log(pass) => self.show_pass(pass, now),
+            Course::Peeks(peeks) => self.show_homes(peeks.blocks, now),
+            Course::Bytes(bytes) => self.show_bytes(bytes, now),
         }
     }
 
     /// Writes it of a pass over a log. A fault of the terminal is ignored.
-    fn show_pass(&mut self, number: u64, blocks: Advance, now: u64) {
-        let (mut pass, mut at, mut of) = (Buffer::new(), Buffer::new(), Buffer::new());
+    fn show_pass(&mut self, pass: Pass, now: u64) {
+        let (mut number, mut passes) = (Buffer::new(), Buffer::new());
+        let (mut at, mut of) = (Buffer::new(), Buffer::new());
         let (mut percent, mut left) = (Buffer::new(), Buffer::new());
         let parts = [
             "\r",
             self.what,
             ": pass ",
-            pass.format(number),
+            number.format(pass.number),
+            pass.passes.words(),
+            passes.format(pass.passes.count),
             ", block ",
-            at.format(blocks.at),
+            at.format(pass.blocks.at),
             " of ",
-            of.format(blocks.of),
+            of.format(pass.blocks.of),
             ", ",
-            percent.format(blocks.percent()),
+            percent.format(pass.blocks.percent()),
             "%, ",
-            left.format(blocks.seconds_left(now)),
+            left.format(pass.blocks.seconds_left(now)),
+            " s left\x1b[K",
+        ];
+        let _ignored = put_parts(&mut self.terminal, &parts);
+    }
+
+    /// Writes it of home blocks.
+    fn show_homes(&mut self, homes: Advance, now: u64) {
+        let (mut at, mut of) = (Buffer::new(), Buffer::new());
+        let (mut percent, mut left) = (Buffer::new(), Buffer::new());
+        let parts = [
+            "\r",
+            self.what,
+            ": block ",
+            at.format(homes.at),
+            " of ",
+            of.format(homes.of),
+            ", ",
+            percent.format(homes.percent()),
+            "%, ",
+            left.format(homes.seconds_left(now)),
             " s left\x1b[K",
         ];
         let _ignored = put_parts(&mut self.terminal, &parts);

@@ -109,7 +109,7 @@ fn put_name<W: Write>(writer: &mut W, name: Option<&str>) -> Result<(), WriteFau
 ///
 /// # Errors
 /// `WriteFault` where the writer took only the beginning of it.
-fn put_shown<W: Write>(writer: &mut W, name: &[u8]) -> Result<(), WriteFault>
+pub(crate) fn put_shown<W: Write>(writer: &mut W, name: &[u8]) -> Result<(), WriteFault>
     ensures { Puts (W.contents writer.old) (W.contents writer.new) (shown_name name.now) result }
 {
     for at in 0..name.len() {

@@ -7,19 +7,30 @@ use std::time::Clock;
 pub(crate) struct WatchedReader<'a, I: Read, K: Clock> {
     reader: I,
     progress: ShownProgress<'a, K>,
+    /// The number of the system's error of the last read, where that failed and has one.
+    code: Option<i32>,
 }
 
 impl<'a, I: Read, K: Clock> WatchedReader<'a, I, K> {
     /// A reader that passes reads on to `reader`.
     pub(crate) fn of(reader: I, progress: ShownProgress<'a, K>) -> WatchedReader<'a, I, K> {
-        WatchedReader { reader, progress }
+        WatchedReader {
+            reader,
+            progress,
+            code: None,
+        }
     }
 
-    /// The reader that reads are passed on to, once nothing is shown any more.
-    pub(crate) fn into_inner(self) -> I {
-        let WatchedReader { reader, progress } = self;
+    /// The reader that reads are passed on to, once nothing is shown any more; and the number of the system's error of
+    /// the last read, where that failed and has one.
+    pub(crate) fn into_inner(self) -> (I, Option<i32>) {
+        let WatchedReader {
+            reader,
+            progress,
+            code,
+        } = self;
         progress.end();
-        reader
+        (reader, code)
     }
 }
 
@@ -28,9 +39,13 @@ impl<'a, I: Read, K: Clock> Read for WatchedReader<'a, I, K> {
         match self.reader.read(buf) {
             Ok(bytes) => {
                 self.progress.read(bytes);
+                self.code = None;
                 Ok(bytes)
             }
-            Err(error) => Err(error),
+            Err(error) => {
+                self.code = error.raw_os_error();
+                Err(error)
+            }
         }
     }
 }

@@ -14,7 +14,12 @@ returns-in-BadOption c =
 pub returns-in-System : goal.returns-in-System
 returns-in-System c =
     let said : SystemSaid = record { text = c.system_text-system.result.now; remedy = [] } in
-    (said, hint_said said _ _ _ _ _ c.advice-words.ensures (sym c.in-System.is ∙ c.beside.ensures) refl refl)
+    (said, hint_said said _ _ _ _ _ c.advice-words.ensures (sym c.in-System.is ∙ c.beside.ensures) c.text_parts.ensures.0 c.text_parts.ensures.1)
+
+pub returns-in-Held : goal.returns-in-Held
+returns-in-Held c =
+    let said : SystemSaid = record { text = c.holder_text-held.result.now; remedy = [] } in
+    (said, hint_said said _ _ _ _ _ c.advice-words.ensures (sym c.in-Held.is ∙ c.beside.ensures) c.text_parts-in-Held.ensures.0 c.text_parts-in-Held.ensures.1)
 
 pub returns-in-Failed : goal.returns-in-Failed
 returns-in-Failed c =
