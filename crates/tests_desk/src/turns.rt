@@ -56,6 +56,11 @@ fn come<R: Abort + Wait + Clock, H: Origin>(rt: &R, desk: &Small<H>, k: usize, t
     match desk.begin_waiting(rt, seated(rt, desk), 6) {
         Ok(handle) => {
             told.begun.lock(rt).push(k).expect(rt, "memory");
+            // one after the other, so that the next ones are not begun together
+            thread::sleep(
+                rt,
+                Duration::from_millis(APART.saturating_mul(THREADS as u64)),
+            );
             await_line(rt, desk, told);
             let seat = desk.abandon(rt, handle);
             let _left = desk.leave(rt, seat);
