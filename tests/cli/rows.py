@@ -23,7 +23,7 @@ def row(words, status, out="", err="", files=(), stdin=b"", after=(), how="", to
     beside    what that one says beside the words of the help; of an option its name alone, as the help says what it may be. The system's reason
               is on a second line in a pipe, too, and so is who has a file
     out, err  the two outputs, byte by byte; a function judges the text instead"""
-    beside = beside or HELD * bool(locked and err)
+    beside = beside or HELD * bool(locked and isinstance(err, str) and err.startswith("jb: in use"))
     ROWS.append(dict(words=words, status=status, out=out, err=err, files=dict(files), stdin=stdin, after=dict(after), how=how, to=to,
                      terminal=terminal, locked=locked, beside=beside))
 

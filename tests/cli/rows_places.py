@@ -55,11 +55,11 @@ row("recover a --journal j", 1, err="jb: Super NoMagic j\n", files={"a": FULL, "
 row("recover a --journal j", 1, err="jb: BadRevoke 1 j\n", files=parted(image(superblock(2, 1), [revoke(2, [], 1025), commit(2)])))
 row("load a q --journal j", 1, err="jb: NeedsRecovery j\n", files={**parted(FULL), "q": queue(HANDLE)})
 row("load a q --journal j", 1, err="jb: NumbersSpent j\n", files={**parted(image(CLEAN)), "q": queue(HANDLE)})
-# names of control characters, one with a space and quotes, which are shown as they are, and a name that is longer than what is written at once
+# names of control characters, one with quotes, which are shown as they are, and a name that is longer than what is written at once
 for name, shown in (("two^lines", "two\\x0alines"), ("\x1b[2J\x7f", "\\x1b[2J\\x7f"), ("a\u009b\u00e9", "a\\xc2\\x9b\u00e9"), ("back\\x0a", "back\\x0a"),
-                    ("a~b'c\"", "a b'c\"")):
+                    ("b'c\"", "b'c\"")):
     row("cost " + name, 2, err="jb: cannot read %s\n" % shown, beside=MISSING)
-    row("recover a --journal " + name, 1, err="jb: Super NoMagic %s\n" % shown, files={"a": FULL, name.replace("^", "\n").replace("~", " "): bytes(33 * BS)})
+    row("recover a --journal " + name, 1, err="jb: Super NoMagic %s\n" % shown, files={"a": FULL, name.replace("^", "\n"): bytes(33 * BS)})
 row("cost " + "\x01" * 2000, 2, err="jb: cannot read %s\n" % ("\\x01" * 2000), beside="File name too long (os error 36)")
 # home block 5 is past what the shell lets a file grow to, so its write fails and the journal is not emptied
 row("recover a --journal j", 1, err="jb: DeviceFault\n", files=parted(FULL), how="trap '' XFSZ; ulimit -f 4", beside=WRITE % 5)
