@@ -22,7 +22,7 @@ sys.dont_write_bytecode = True
 from images import BS, SAME_UUID, LAST_TAG, commit, descriptor, superblock  # noqa: E402
 
 JB = os.path.abspath(sys.argv[1])
-TAGS, GROUPS, HOMES = 124, 2420, 124
+TAGS, GROUPS, HOMES, SHOWN = 124, 2420, 124, 8
 count = wrong = 0
 
 
@@ -68,7 +68,7 @@ COMMANDS = [
     ("recover", ["image"], COPIED.__eq__, rb"recover: pass [12] of 2, block \d+ of \d+, \d+%"),
     ("recover", ["image", "--checksums"], COPIED.__eq__, rb"recover: pass [12] of at most 4, block \d+ of \d+, \d+%"),
     ("recover", ["image", "--dry-run"], COPIED.__eq__, rb"recover: pass [12] of 2, block \d+ of \d+, \d+%"),
-    ("cat", ["image", "0", "-n", str(HOMES)], bytes(HOMES * BS).__eq__, rb"cat: block [1-9]\d* of %d, \d+%%" % HOMES),
+    ("cat", ["image", "0", "-n", str(SHOWN)], bytes(SHOWN * BS).__eq__, rb"cat: block [1-9]\d* of %d, \d+%%" % SHOWN),
     ("dump", ["image"], lambda text: len(text) > GROUPS * TAGS * 9, rb"dump: \d+ of \d+ KiB, \d+%"),
 ]
 
