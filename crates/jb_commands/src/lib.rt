@@ -34,6 +34,7 @@ pub use jb_args::{AnswerForm, Plain};
 pub use names::TwoFiles;
 pub use plan::plan_answer;
 pub use program_end::ProgramEnd;
+pub use progress::{ShownProgress, error_terminal};
 pub use queue_fault::fault_answer;
 pub use report::Report;
 pub use running::{close, perform, run_plain};

@@ -1,19 +1,19 @@
 //! `jb load`: the handles of a queue text, run by threads and committed to an image.
-ghost use Rattle.std.specs.Prelude.{◌≡◌, ◌≤◌, ◌↔◌, IsSome, IfSome, false, option_map};
+ghost use Rattle.std.specs.Prelude.{◌≡◌, ◌≤◌, false, option_map};
 ghost use Rattle.jb_commands.specs.ListText.{reads_list};
 ghost use Rattle.jb_queue.specs.QueueLines.{queue_in};
 ghost use Rattle.jb_args.specs.Command.{load_said};
-ghost use Rattle.jb_tool.specs.Load.{EndsOfLoad, HasThreads, AreOptionsOf, LoadsApart, LoadsQueue, LoadsText};
-ghost use Rattle.jb_tool.specs.Load.{JudgesLoad, LoadsOpened, RunsLoad};
+ghost use Rattle.jb_tool.specs.Load.{EndsOfLoad, JudgesLoad, LoadsApart, LoadsOpened, LoadsQueue, LoadsText, RunsLoad};
 
+use crate::load_options::load_options;
 use crate::load_report::{LoadDone, LoadReport, fault_of};
 use crate::own_homes::own_touched;
 use crate::{LoadOptions, load_on};
-use jb_args::{AnswerForm, LoadWords, OptionName, Settings};
+use jb_args::{AnswerForm, LoadWords, OptionName, ProgressLine, Settings};
 use jb_block::Stamp;
 use jb_commands::{
-    CommandFault, Opening, ProgramEnd, TwoFiles, close, fault_answer, judge_on, open_placed,
-    read_file,
+    CommandFault, Opening, ProgramEnd, TwoFiles, close, error_terminal, fault_answer, judge_on,
+    open_placed, read_file,
 };
 use jb_disk::{Disk, FileDisk, FixedClock, Start, Unknown};
 use jb_image::{ExtentsFault, ImageDisk, JournalUse};
@@ -26,9 +26,6 @@ use std::rt::Files;
 use std::sync::Wait;
 use std::thread::Threads;
 use std::time::Clock;
-
-/// The most threads that may run the handles.
-const MOST_THREADS: u64 = 64;
 
 /// Runs `jb load` and gives the program's end; a load that ends without an answer has its line on `err`,
 /// or in JSON the same.
@@ -50,7 +47,13 @@ pub(crate) fn run_load<
         (record { out = O.contents out.new; err = E.contents err.new }) result }
     ensures unread { reads_list (load_said load.entry).extents ≡ false → input.new ≡ input.old }
 {
-    let done = load_files::<Unknown, Unknown, R, I>(rt, load, settings.form, input);
+    let done = load_files::<Unknown, Unknown, R, I>(
+        rt,
+        load,
+        settings.form,
+        settings.progress,
+        input,
+    );
     let told = done.tell(settings.form, out, err);
     let files = TwoFiles::of(load.image, load.journal);
     close(settings.form, told, files, err)
@@ -69,7 +72,13 @@ pub fn load_files<
     T: Start + Send,
     R: Files<File = File> + AllocGlobal + Threads + Wait + Clock + Sync,
     I: Read,
->(rt: &R, load: LoadWords<'a>, form: AnswerForm, input: &mut I) -> LoadDone<'a, S, T>
+>(
+    rt: &R,
+    load: LoadWords<'a>,
+    form: AnswerForm,
+    shown: ProgressLine,
+    input: &mut I,
+) -> LoadDone<'a, S, T>
     /// `load` over files, wherever the image has its journal: it was not opened; or nothing may be loaded to that file
     /// system's journal, the text is not there or is refused, or a handle touches a block of a journal within the
     /// image, and the image is as it was judged; or the queue was loaded and, if the files are honest, the groups that
@@ -78,7 +87,8 @@ pub fn load_files<
     ensures ends { EndsOfLoad form (load_said load.entry) (I.remaining input.old) result.image result.end }
     ensures unread { reads_list (load_said load.entry).extents ≡ false → input.new ≡ input.old }
 {
-    let Some(options) = load_options(load) else {
+    let terminal = error_terminal(rt, shown);
+    let Some(options) = load_options(load, terminal.as_ref()) else {
         return LoadDone {
             image: None,
             end: Err(CommandFault::BadOption(OptionName::Threads)),
@@ -116,7 +126,7 @@ fn load_opened<
     form: AnswerForm,
     mut disk: ImageDisk<FileDisk<S>, FileDisk<T>>,
     homes: u64,
-    options: LoadOptions,
+    options: LoadOptions<'_>,
 ) -> LoadDone<'a, S, T>
     requires threads { (1 ≤ options.threads) × (options.threads ≤ 64) }
     ensures loads { LoadsOpened form (load_said load.entry) options homes disk result.image result.end }
@@ -166,7 +176,7 @@ fn load_text<
     form: AnswerForm,
     disk: ImageDisk<FileDisk<S>, FileDisk<T>>,
     homes: u64,
-    options: LoadOptions,
+    options: LoadOptions<'_>,
 ) -> LoadDone<'a, S, T>
     requires threads { (1 ≤ options.threads) × (options.threads ≤ 64) }
     ensures loads { LoadsText form (load_said load.entry).file options homes disk result.image result.end }
@@ -199,13 +209,18 @@ fn load_text<
 ///
 /// # Errors
 /// `CommandFault::Extents` with the first such home block, and those of `load_queue`.
-fn load_apart<'a, S: Start + Send, T: Start + Send, R: AllocGlobal + Threads + Wait + Clock + Sync>(
+fn load_apart<
+    'a,
+    S: Start + Send,
+    T: Start + Send,
+    R: AllocGlobal + Threads + Wait + Clock + Sync,
+>(
     rt: &R,
     disk: ImageDisk<FileDisk<S>, FileDisk<T>>,
     homes: u64,
     stamp: u64,
     queue: &QueueLines,
-    options: LoadOptions,
+    options: LoadOptions<'_>,
 ) -> LoadDone<'a, S, T>
     requires threads { (1 ≤ options.threads) × (options.threads ≤ 64) }
     ensures loads { LoadsApart options homes disk (queue_in queue.now) result.image result.end }
@@ -227,13 +242,18 @@ fn load_apart<'a, S: Start + Send, T: Start + Send, R: AllocGlobal + Threads + W
 ///
 /// # Errors
 /// Those of `load_on`, after which the image is lost.
-fn load_queue<'a, S: Start + Send, T: Start + Send, R: AllocGlobal + Threads + Wait + Clock + Sync>(
+fn load_queue<
+    'a,
+    S: Start + Send,
+    T: Start + Send,
+    R: AllocGlobal + Threads + Wait + Clock + Sync,
+>(
     rt: &R,
     disk: ImageDisk<FileDisk<S>, FileDisk<T>>,
     homes: u64,
     stamp: u64,
     queue: &QueueLines,
-    options: LoadOptions,
+    options: LoadOptions<'_>,
 ) -> LoadDone<'a, S, T>
     requires threads { (1 ≤ options.threads) × (options.threads ≤ 64) }
     ensures loads { LoadsQueue options homes disk (queue_in queue.now) result.image result.end }
@@ -262,19 +282,4 @@ fn load_queue<'a, S: Start + Send, T: Start + Send, R: AllocGlobal + Threads + W
             end: Err(fault_of(fault)),
         },
     }
-}
-
-/// How the queue is to be loaded, or `None` where the number of threads is not from 1 to 64.
-fn load_options(load: LoadWords<'_>) -> Option<LoadOptions>
-    ensures good { IsSome result ↔ HasThreads (load_said load.entry) }
-    ensures asked { IfSome result (AreOptionsOf (load_said load.entry)) }
-{
-    if load.threads == 0 || load.threads > MOST_THREADS {
-        return None;
-    }
-    Some(LoadOptions {
-        threads: load.threads as usize,
-        hold: load.hold,
-        checkpoint: load.checkpoint,
-    })
 }

@@ -95,7 +95,14 @@ fn check_again(rt: &impl Host) {
 /// Writes a home of the image of that name: checks how many blocks it has, if there is one, and what is written.
 fn check_cat(rt: &impl Host, blocks: Option<u64>, home: &[u8], at: usize) {
     let mut out = Vec::new(rt.alloc());
-    let shown = cat_file(rt, NAME, CAT, &mut b"".as_slice(), &mut out);
+    let shown = cat_file(
+        rt,
+        NAME,
+        CAT,
+        ProgressLine::Never,
+        &mut b"".as_slice(),
+        &mut out,
+    );
     check_done(rt, shown, blocks, "", at);
     check_at(rt, out.as_slice() == home, "the bytes of a home:", at)
 }

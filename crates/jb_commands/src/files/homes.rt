@@ -13,7 +13,7 @@ use crate::files::opening::Opening;
 use crate::files::placed::open_placed;
 use crate::files::recovered::checksums_of;
 use crate::files::watched::show_watched;
-use crate::progress::ShownProgress;
+use crate::progress::{ShownProgress, terminal_beside_text};
 use crate::report::{Report, status_end};
 use crate::streams::{ShownHomes, WatchedDisk};
 use jb_args::{CatOptions, ProgressLine};
@@ -62,7 +62,9 @@ pub fn cat_file<
     ) {
         Ok(opened) => {
             let OpenedImage { disk, homes, .. } = opened;
-            let progress = ShownProgress::over_homes(rt, rt, shown, "jb cat", options.count);
+            let terminal = terminal_beside_text(rt, shown);
+            let progress =
+                ShownProgress::over_homes(terminal.as_ref(), rt, "jb cat", options.count);
             let done = show_opened(rt.alloc(), disk, homes, options, progress, out);
             CommandEnd {
                 image: Some(done.0),

@@ -16,7 +16,7 @@ use crate::files::recovered::checksums_of;
 use crate::files::searching::dump_opened;
 use crate::files::shut::FileFault;
 use crate::files::texts::unopened;
-use crate::progress::ShownProgress;
+use crate::progress::{ShownProgress, terminal_beside_text};
 use crate::streams::{dump_from, dump_watched};
 use jb_args::{DumpOptions, OptionName, ProgressLine};
 use jb_block::Memory;
@@ -150,7 +150,8 @@ fn dump_open<
         (O.contents out.old) (O.contents out.new) result }
     ensures unread { reads_list (dump_said options.entry).extents ≡ false → input.new ≡ input.old }
 {
-    let progress = ShownProgress::over_bytes(rt, rt, shown, "jb dump", len_of(&file));
+    let terminal = terminal_beside_text(rt, shown);
+    let progress = ShownProgress::over_bytes(terminal.as_ref(), rt, "jb dump", len_of(&file));
     let (mut file, end) = dump_watched(rt.alloc(), file, progress, choice_of(options), out);
     if !is_unbegun(end) {
         return end;
@@ -208,7 +209,8 @@ fn dump_placed<
             let disk = opened.disk;
             let journal = disk.blocks().saturating_sub(opened.homes);
             let bytes = journal.saturating_mul(u64::from(disk.block_size().bytes()));
-            let progress = ShownProgress::over_bytes(rt, rt, shown, "jb dump", bytes);
+            let terminal = terminal_beside_text(rt, shown);
+            let progress = ShownProgress::over_bytes(terminal.as_ref(), rt, "jb dump", bytes);
             dump_opened(rt.alloc(), disk, options, progress, out)
         }
         Err(fault) => Err(fault),

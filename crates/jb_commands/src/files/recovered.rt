@@ -16,7 +16,7 @@ use crate::files::opening::Opening;
 use crate::files::placed::open_placed;
 use crate::files::recovering::recover_image;
 use crate::files::watched::foresee_watched;
-use crate::progress::{PassCounts, ShownProgress};
+use crate::progress::{PassCounts, ShownProgress, error_terminal};
 use crate::report::Report;
 use crate::streams::{WatchedDisk, judge_on};
 use jb_args::{OptionName, ProgressLine, RecoverOptions};
@@ -91,7 +91,9 @@ pub fn recover_file<'a, S: Start, T: Start, R: Files<File = File> + AllocGlobal 
                 disk.is_within(),
                 options.checksums,
             );
-            let progress = ShownProgress::over_log(rt, rt, shown, "jb recover", journal, passes);
+            let terminal = error_terminal(rt, shown);
+            let progress =
+                ShownProgress::over_log(terminal.as_ref(), rt, "jb recover", journal, passes);
             let done = recover_opened(rt.alloc(), disk, homes, found, options, progress);
             CommandEnd {
                 image: Some(done.0),

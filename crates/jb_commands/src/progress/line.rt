@@ -22,8 +22,8 @@ const CALLS_A_LOOK: u32 = 256;
 
 /// A line on a terminal, which says how far a command has come.
 #[derive(Drop)]
-pub(crate) struct TerminalLine {
-    terminal: File,
+pub(crate) struct TerminalLine<'t> {
+    terminal: &'t File,
     /// What the command does.
     what: &'static str,
     /// When it was begun.
@@ -37,14 +37,14 @@ pub(crate) struct TerminalLine {
     course: Course,
 }
 
-impl TerminalLine {
+impl<'t> TerminalLine<'t> {
     /// A line that is not written yet, where there is a terminal and a clock.
     pub(crate) fn new<K: Clock>(
-        terminal: Option<File>,
+        terminal: Option<&'t File>,
         clock: &K,
         what: &'static str,
         course: Course,
-    ) -> Option<TerminalLine> {
+    ) -> Option<TerminalLine<'t>> {
         let terminal = terminal?;
         let begun = Instant::now(clock).ok()?;
         Some(TerminalLine {
@@ -64,6 +64,7 @@ impl TerminalLine {
             Course::Log(pass) => pass.meet(place),
             Course::Peeks(peeks) => peeks.meet(place),
             Course::Bytes(_) => {}
+            Course::Handles(_) => {}
         }
         self.call(clock)
     }
@@ -74,6 +75,14 @@ impl TerminalLine {
             advance.add(bytes)
         }
         self.call(clock)
+    }
+
+    /// So many handles are done. They may wait for each other, so that the clock is looked at each time.
+    pub(crate) fn reach<K: Clock>(&mut self, clock: &K, handles: u64) {
+        if let Course::Handles(advance) = &mut self.course {
+            advance.at = handles
+        }
+        self.look(clock)
     }
 
     /// Once in a while the clock is looked at.
@@ -106,7 +115,8 @@ impl TerminalLine {
         match &mut self.course {
             Course::Log(pass) => pass.blocks.see(now),
             Course::Peeks(peeks) => peeks.blocks.see(now),
-            Course::Bytes(advance) => advance.see(now),
+            Course::Bytes(bytes) => bytes.see(now),
+            Course::Handles(handles) => handles.see(now),
         }
     }
 
@@ -116,6 +126,7 @@ impl TerminalLine {
             Course::Log(pass) => pass.blocks.at,
             Course::Peeks(peeks) => peeks.blocks.at,
             Course::Bytes(bytes) => bytes.at,
+            Course::Handles(handles) => handles.at,
         }
     }
 
@@ -125,8 +136,9 @@ impl TerminalLine {
         let course = self.course;
         match course {
             Course::Log(pass) => self.show_pass(pass, now),
-            Course::Peeks(peeks) => self.show_homes(peeks.blocks, now),
+            Course::Peeks(peeks) => self.show_things(": block ", peeks.blocks, now),
             Course::Bytes(bytes) => self.show_bytes(bytes, now),
+            Course::Handles(handles) => self.show_things(": handle ", handles, now),
         }
     }
 
@@ -155,21 +167,21 @@ impl TerminalLine {
         let _ignored = put_parts(&mut self.terminal, &parts);
     }
 
-    /// Writes it of home blocks.
-    fn show_homes(&mut self, homes: Advance, now: u64) {
+    /// Writes it of things that are done one after the other, with these words before how many are.
+    fn show_things(&mut self, words: &'static str, done: Advance, now: u64) {
         let (mut at, mut of) = (Buffer::new(), Buffer::new());
         let (mut percent, mut left) = (Buffer::new(), Buffer::new());
         let parts = [
             "\r",
             self.what,
-            ": block ",
-            at.format(homes.at),
+            words,
+            at.format(done.at),
             " of ",
-            of.format(homes.of),
+            of.format(done.of),
             ", ",
-            percent.format(homes.percent()),
+            percent.format(done.percent()),
             "%, ",
-            left.format(homes.seconds_left(now)),
+            left.format(done.seconds_left(now)),
             " s left\x1b[K",
         ];
         let _ignored = put_parts(&mut self.terminal, &parts);
