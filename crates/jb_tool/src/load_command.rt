@@ -209,12 +209,7 @@ fn load_text<
 ///
 /// # Errors
 /// `CommandFault::Extents` with the first such home block, and those of `load_queue`.
-fn load_apart<
-    'a,
-    S: Start + Send,
-    T: Start + Send,
-    R: AllocGlobal + Threads + Wait + Clock + Sync,
->(
+fn load_apart<'a, S: Start + Send, T: Start + Send, R: AllocGlobal + Threads + Wait + Clock + Sync>(
     rt: &R,
     disk: ImageDisk<FileDisk<S>, FileDisk<T>>,
     homes: u64,
@@ -242,12 +237,7 @@ fn load_apart<
 ///
 /// # Errors
 /// Those of `load_on`, after which the image is lost.
-fn load_queue<
-    'a,
-    S: Start + Send,
-    T: Start + Send,
-    R: AllocGlobal + Threads + Wait + Clock + Sync,
->(
+fn load_queue<'a, S: Start + Send, T: Start + Send, R: AllocGlobal + Threads + Wait + Clock + Sync>(
     rt: &R,
     disk: ImageDisk<FileDisk<S>, FileDisk<T>>,
     homes: u64,

@@ -63,8 +63,12 @@ pub fn cat_file<
         Ok(opened) => {
             let OpenedImage { disk, homes, .. } = opened;
             let terminal = terminal_beside_text(rt, shown);
-            let progress =
-                ShownProgress::over_homes(terminal.as_ref(), rt, "jb cat", options.count);
+            let progress = ShownProgress::over_homes(
+                terminal.as_ref(),
+                rt,
+                "jb cat",
+                options.count,
+            );
             let done = show_opened(rt.alloc(), disk, homes, options, progress, out);
             CommandEnd {
                 image: Some(done.0),

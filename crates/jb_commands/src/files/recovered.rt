@@ -92,8 +92,13 @@ pub fn recover_file<'a, S: Start, T: Start, R: Files<File = File> + AllocGlobal 
                 options.checksums,
             );
             let terminal = error_terminal(rt, shown);
-            let progress =
-                ShownProgress::over_log(terminal.as_ref(), rt, "jb recover", journal, passes);
+            let progress = ShownProgress::over_log(
+                terminal.as_ref(),
+                rt,
+                "jb recover",
+                journal,
+                passes,
+            );
             let done = recover_opened(rt.alloc(), disk, homes, found, options, progress);
             CommandEnd {
                 image: Some(done.0),
