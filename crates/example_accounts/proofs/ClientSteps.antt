@@ -18,7 +18,7 @@ use Rattle.jb_journal.specs.declared.client.Client.{Client}
 use Rattle.jb_journal.specs.declared.fault.HandleFault.{HandleFault}
 use Rattle.jb_journal.specs.declared.fault.HandleFault.TheVariants.{Begin, Refused, Aborted, NotOpen, Memory}
 
-pub goes-trans : {D C R H N : Type 0} {Q : Ghosts D} {O : OriginGhosts H} {P : Places H} (one two three : Client D C R H N Q O P) → ClientGoesOn one two → ClientGoesOn two three → ClientGoesOn one three
+pub goes-trans : {D C R H : Type 0} {Q : Ghosts D} {O : OriginGhosts H} {P : Places H} (one two three : Client D C R H Q O P) → ClientGoesOn one two → ClientGoesOn two three → ClientGoesOn one three
 goes-trans {Q = Q} one two three p q = record {
   knows = (
     first-trans (client_known one).log (client_known two).log (client_known three).log p.knows.0 q.knows.0,

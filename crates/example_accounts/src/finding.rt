@@ -7,15 +7,14 @@ use crate::accounts::{ACCOUNTS, Balances, Block, balance};
 use crate::posting::Posting;
 use jb_journal::{Client, Clock, Disk, JournalFault, Origin, WaitFault};
 use std::sync::Wait;
-use std::sync::ledger::Ledger;
 use std::time;
 
 /// What the accounts hold: what the last posting has left; where there is none, what their home blocks say.
 ///
 /// # Errors
 /// `Wait` with `Unknown` where no handle has the ticket of the last posting, which cannot happen; those of a read.
-pub fn found<'a, D: Disk, C: Clock, R: Wait + time::Clock, H: Origin, N: Ledger>(
-    client: &mut Client<'a, D, C, R, H, N>,
+pub fn found<'a, D: Disk, C: Clock, R: Wait + time::Clock, H: Origin>(
+    client: &mut Client<'a, D, C, R, H>,
     last: Option<Posting>,
 ) -> Result<Balances, JournalFault>
     requires { MayWait H.begun client.old }
@@ -35,8 +34,8 @@ pub fn found<'a, D: Disk, C: Clock, R: Wait + time::Clock, H: Origin, N: Ledger>
 }
 
 /// What the home blocks of the accounts say.
-fn read_all<'a, D: Disk, C: Clock, R: Wait + time::Clock, H: Origin, N: Ledger>(
-    client: &mut Client<'a, D, C, R, H, N>,
+fn read_all<'a, D: Disk, C: Clock, R: Wait + time::Clock, H: Origin>(
+    client: &mut Client<'a, D, C, R, H>,
 ) -> Result<Balances, JournalFault>
     requires { MayWait H.begun client.old }
     ensures client { MayWait H.begun client.new }

@@ -14,7 +14,6 @@ use crate::moves::{Move, Wish};
 use crate::posting::Posting;
 use jb_board::{History, Place, Prefix};
 use jb_journal::{Client, Clock, Disk, Handle, JournalFault, Origin, TouchFault, Worker};
-use std::sync::ledger::Ledger;
 use std::sync::{Mutex, Wait};
 use std::time;
 
@@ -49,9 +48,9 @@ impl<L: Place> Worker<Moved<L>> for Moving<L> {
 
     ghost needs = { λ _ commits. commits ≡ Meanwhile };
 
-    fn work<'a, D: Disk, C: Clock, R: Wait + time::Clock, H: Origin, N: Ledger>(
+    fn work<'a, D: Disk, C: Clock, R: Wait + time::Clock, H: Origin>(
         &self,
-        client: &mut Client<'a, D, C, R, H, N>,
+        client: &mut Client<'a, D, C, R, H>,
         _workers: usize,
         at: usize,
     ) -> Moved<L>
@@ -68,9 +67,9 @@ impl<L: Place> Worker<Moved<L>> for Moving<L> {
 
 impl<L: Place> Moving<L> {
     /// Opens the accounts, where they hold nothing, and moves money.
-    fn work_on<'a, D: Disk, C: Clock, R: Wait + time::Clock, H: Origin, N: Ledger>(
+    fn work_on<'a, D: Disk, C: Clock, R: Wait + time::Clock, H: Origin>(
         &self,
-        client: &mut Client<'a, D, C, R, H, N>,
+        client: &mut Client<'a, D, C, R, H>,
         seen: &mut Prefix<Posting, L>,
         at: u64,
     ) -> Result<(), JournalFault>
@@ -95,9 +94,9 @@ impl<L: Place> Moving<L> {
 
     /// Opens all accounts by one handle, where they hold nothing: after a crash there are all of them or none. Gives
     /// the ticket of the handle; nothing where they are open.
-    fn open<'a, D: Disk, C: Clock, R: Wait + time::Clock, H: Origin, N: Ledger>(
+    fn open<'a, D: Disk, C: Clock, R: Wait + time::Clock, H: Origin>(
         &self,
-        client: &mut Client<'a, D, C, R, H, N>,
+        client: &mut Client<'a, D, C, R, H>,
         seen: &mut Prefix<Posting, L>,
     ) -> Result<Option<u64>, JournalFault>
         requires client { MayWait H.begun client.old }
@@ -126,9 +125,9 @@ impl<L: Place> Moving<L> {
 
     /// Moves money from one account to another by one handle: both change, or none. Gives the ticket of the handle;
     /// nothing where the wish is not granted.
-    fn one_move<'a, D: Disk, C: Clock, R: Wait + time::Clock, H: Origin, N: Ledger>(
+    fn one_move<'a, D: Disk, C: Clock, R: Wait + time::Clock, H: Origin>(
         &self,
-        client: &mut Client<'a, D, C, R, H, N>,
+        client: &mut Client<'a, D, C, R, H>,
         seen: &mut Prefix<Posting, L>,
         wish: Wish,
     ) -> Result<Option<u64>, JournalFault>
@@ -171,8 +170,8 @@ impl<L: Place> Moving<L> {
 }
 
 /// Stops a handle that opens all accounts.
-fn stop_opening<'a, D: Disk, C: Clock, R: Wait + time::Clock, H: Origin, N: Ledger>(
-    client: &mut Client<'a, D, C, R, H, N>,
+fn stop_opening<'a, D: Disk, C: Clock, R: Wait + time::Clock, H: Origin>(
+    client: &mut Client<'a, D, C, R, H>,
 ) -> Result<u64, JournalFault>
     requires { MayWait H.begun client.old }
     ensures client { MayWait H.begun client.new }
@@ -185,8 +184,8 @@ fn stop_opening<'a, D: Disk, C: Clock, R: Wait + time::Clock, H: Origin, N: Ledg
 }
 
 /// Stops a handle that moves money.
-fn stop_move<'a, D: Disk, C: Clock, R: Wait + time::Clock, H: Origin, N: Ledger>(
-    client: &mut Client<'a, D, C, R, H, N>,
+fn stop_move<'a, D: Disk, C: Clock, R: Wait + time::Clock, H: Origin>(
+    client: &mut Client<'a, D, C, R, H>,
     granted: Move,
 ) -> Result<u64, JournalFault>
     requires { MayWait H.begun client.old }

@@ -10,7 +10,6 @@ use jb_journal::{
 };
 use std::alloc::Global;
 use std::sync::Wait;
-use std::sync::ledger::Ledger;
 use std::time;
 use std::time::Instant;
 
@@ -37,9 +36,9 @@ impl Worker<Result<Part, JournalFault>> for Durable {
 
     ghost needs = { λ _ commits. commits ≡ Meanwhile };
 
-    fn work<'a, D: Disk, C: Clock, R: Wait + time::Clock, H: Origin, N: Ledger>(
+    fn work<'a, D: Disk, C: Clock, R: Wait + time::Clock, H: Origin>(
         &self,
-        client: &mut Client<'a, D, C, R, H, N>,
+        client: &mut Client<'a, D, C, R, H>,
         _workers: usize,
         at: usize,
     ) -> Result<Part, JournalFault>
@@ -63,8 +62,8 @@ impl Worker<Result<Part, JournalFault>> for Durable {
 }
 
 /// Changes two home blocks by a handle, and waits until that is durable.
-fn one_handle<'a, D: Disk, C: Clock, R: Wait + time::Clock, H: Origin, N: Ledger>(
-    client: &mut Client<'a, D, C, R, H, N>,
+fn one_handle<'a, D: Disk, C: Clock, R: Wait + time::Clock, H: Origin>(
+    client: &mut Client<'a, D, C, R, H>,
     draw: u64,
     word: &Word,
 ) -> Result<(), JournalFault>

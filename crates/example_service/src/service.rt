@@ -7,7 +7,6 @@ use crossbeam_channel::{Receiver, Sender, bounded, unbounded};
 use jb_journal::{Client, Clock, Disk, Handle, JournalFault, Origin, TouchFault, Worker};
 use std::alloc::{AllocError, Global};
 use std::sync::Wait;
-use std::sync::ledger::Ledger;
 use std::time;
 
 /// A change that a thread asks for: this number goes into this home block. The answer goes to `reply`.
@@ -90,9 +89,9 @@ impl Worker<u64> for Service {
 
     /// Serves requests until nobody can ask any more, and answers how many of them are durable. Each one is answered,
     /// also once the journal has failed, so that no thread waits for ever.
-    fn work<'a, D: Disk, C: Clock, R: Wait + time::Clock, H: Origin, N: Ledger>(
+    fn work<'a, D: Disk, C: Clock, R: Wait + time::Clock, H: Origin>(
         &self,
-        client: &mut Client<'a, D, C, R, H, N>,
+        client: &mut Client<'a, D, C, R, H>,
         _workers: usize,
         _at: usize,
     ) -> u64
@@ -117,8 +116,8 @@ impl Worker<u64> for Service {
 }
 
 /// Puts a number at the front of a home block by a handle, and waits until that is durable.
-fn put<'a, D: Disk, C: Clock, R: Wait + time::Clock, H: Origin, N: Ledger>(
-    client: &mut Client<'a, D, C, R, H, N>,
+fn put<'a, D: Disk, C: Clock, R: Wait + time::Clock, H: Origin>(
+    client: &mut Client<'a, D, C, R, H>,
     home: u64,
     number: u64,
 ) -> Result<u32, JournalFault>

@@ -12,7 +12,7 @@ use Rattle.example_store.specs.Tables.{ChangesValue, slots_in, value_in}
 use Rattle.example_store.specs.declared.table.Slot.{Slot}
 use Rattle.example_store.proofs.HandleLemmas.{knows-then}
 
-pub goes-then : {D C R H N : Type 0} {Q : Ghosts D} {O : OriginGhosts H} {P : Places H} (one two three : Client D C R H N Q O P) → ClientGoesOn one two → ClientGoesOn two three → ClientGoesOn one three
+pub goes-then : {D C R H : Type 0} {Q : Ghosts D} {O : OriginGhosts H} {P : Places H} (one two three : Client D C R H Q O P) → ClientGoesOn one two → ClientGoesOn two three → ClientGoesOn one three
 goes-then one two three p q = record {
   knows = knows-then (client_known one) (client_known two) (client_known three) p.knows q.knows;
   honest = λ held. p.honest (q.honest held);

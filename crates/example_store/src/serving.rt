@@ -7,7 +7,6 @@ use jb_journal::{Client, Clock, Disk, Origin, Worker};
 use std::alloc::Global;
 use std::io::Write;
 use std::rt::Stdout;
-use std::sync::ledger::Ledger;
 use std::sync::{Mutex, Wait};
 use std::time;
 
@@ -33,9 +32,9 @@ impl Worker<Served> for Serving {
 
     ghost needs = { λ _ commits. commits ≡ Meanwhile };
 
-    fn work<'a, D: Disk, C: Clock, R: Wait + time::Clock, H: Origin, N: Ledger>(
+    fn work<'a, D: Disk, C: Clock, R: Wait + time::Clock, H: Origin>(
         &self,
-        client: &mut Client<'a, D, C, R, H, N>,
+        client: &mut Client<'a, D, C, R, H>,
         _workers: usize,
         _at: usize,
     ) -> Served
@@ -62,9 +61,9 @@ impl Serving {
     ///
     /// # Errors
     /// Those of the first command that is not obeyed, or whose reply is not written.
-    fn serve<'a, D: Disk, C: Clock, R: Wait + time::Clock, H: Origin, N: Ledger>(
+    fn serve<'a, D: Disk, C: Clock, R: Wait + time::Clock, H: Origin>(
         &self,
-        client: &mut Client<'a, D, C, R, H, N>,
+        client: &mut Client<'a, D, C, R, H>,
         replies: &mut Vec<Reply>,
     ) -> Result<(), Failed>
         requires client { MayWait H.begun client.old }

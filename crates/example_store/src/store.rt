@@ -10,7 +10,6 @@ use crate::failed::Failed;
 use crate::table::{BYTES, Block, Table};
 use jb_journal::{Client, Clock, Disk, Handle, JournalFault, Origin, TouchFault};
 use std::sync::Wait;
-use std::sync::ledger::Ledger;
 use std::time;
 
 /// How many home blocks there are.
@@ -20,8 +19,8 @@ pub const HOMES: u64 = 32;
 ///
 /// # Errors
 /// Those of [`put`], [`get`] and [`delete`]. The command may be obeyed then, all the same.
-pub fn obey<'a, D: Disk, C: Clock, R: Wait + time::Clock, H: Origin, N: Ledger>(
-    client: &mut Client<'a, D, C, R, H, N>,
+pub fn obey<'a, D: Disk, C: Clock, R: Wait + time::Clock, H: Origin>(
+    client: &mut Client<'a, D, C, R, H>,
     command: Command,
 ) -> Result<Reply, Failed>
     requires client { MayWait H.begun client.old }
@@ -53,8 +52,8 @@ pub fn obey<'a, D: Disk, C: Clock, R: Wait + time::Clock, H: Origin, N: Ledger>(
 ///
 /// # Errors
 /// `NoRoom`, and those of the journal. The value may be put, all the same, where it is one of the journal.
-fn put<'a, D: Disk, C: Clock, R: Wait + time::Clock, H: Origin, N: Ledger>(
-    client: &mut Client<'a, D, C, R, H, N>,
+fn put<'a, D: Disk, C: Clock, R: Wait + time::Clock, H: Origin>(
+    client: &mut Client<'a, D, C, R, H>,
     key: u64,
     value: u64,
 ) -> Result<(), Failed>
@@ -75,8 +74,8 @@ fn put<'a, D: Disk, C: Clock, R: Wait + time::Clock, H: Origin, N: Ledger>(
 ///
 /// # Errors
 /// Those of the journal.
-fn get<'a, D: Disk, C: Clock, R: Wait + time::Clock, H: Origin, N: Ledger>(
-    client: &mut Client<'a, D, C, R, H, N>,
+fn get<'a, D: Disk, C: Clock, R: Wait + time::Clock, H: Origin>(
+    client: &mut Client<'a, D, C, R, H>,
     key: u64,
 ) -> Result<Option<u64>, JournalFault>
     requires { MayWait H.begun client.old }
@@ -95,8 +94,8 @@ fn get<'a, D: Disk, C: Clock, R: Wait + time::Clock, H: Origin, N: Ledger>(
 ///
 /// # Errors
 /// Those of the journal. The key may be taken out, all the same.
-fn delete<'a, D: Disk, C: Clock, R: Wait + time::Clock, H: Origin, N: Ledger>(
-    client: &mut Client<'a, D, C, R, H, N>,
+fn delete<'a, D: Disk, C: Clock, R: Wait + time::Clock, H: Origin>(
+    client: &mut Client<'a, D, C, R, H>,
     key: u64,
 ) -> Result<(), JournalFault>
     requires { MayWait H.begun client.old }
@@ -114,8 +113,8 @@ fn delete<'a, D: Disk, C: Clock, R: Wait + time::Clock, H: Origin, N: Ledger>(
 }
 
 /// The table that has the key, as it is committed. All that was put is committed, since each change waits.
-fn table_of<'a, D: Disk, C: Clock, R: Wait + time::Clock, H: Origin, N: Ledger>(
-    client: &mut Client<'a, D, C, R, H, N>,
+fn table_of<'a, D: Disk, C: Clock, R: Wait + time::Clock, H: Origin>(
+    client: &mut Client<'a, D, C, R, H>,
     key: u64,
 ) -> Result<Table, JournalFault>
     requires { MayWait H.begun client.old }
@@ -131,8 +130,8 @@ fn table_of<'a, D: Disk, C: Clock, R: Wait + time::Clock, H: Origin, N: Ledger>(
 }
 
 /// Writes the home block of the key by a handle of one block, and waits until it is committed.
-fn write<'a, D: Disk, C: Clock, R: Wait + time::Clock, H: Origin, N: Ledger>(
-    client: &mut Client<'a, D, C, R, H, N>,
+fn write<'a, D: Disk, C: Clock, R: Wait + time::Clock, H: Origin>(
+    client: &mut Client<'a, D, C, R, H>,
     key: u64,
     block: &Block,
 ) -> Result<(), JournalFault>

@@ -14,10 +14,9 @@ use std::alloc::Global;
 use std::fs::File;
 use std::rt::Files;
 use std::sync::Wait;
-use std::sync::ledger::{Blank, Ledger};
 
 /// A desk whose clock stands still.
-pub type Small<D, H, N> = Desk<D, FixedClock, H, N>;
+pub type Small<D, H> = Desk<D, FixedClock, H>;
 
 /// The parts of each ledger of a desk.
 pub const PARTS: u64 = (1 << 61) + 1;
@@ -34,23 +33,19 @@ pub type Sums = (u64, u64, usize, u32);
 
 /// What a row leaves at its desk, which is closed with it.
 #[must_use]
-pub struct Rest<H: Origin, N: Ledger> {
+pub struct Rest<H: Origin> {
     /// How the row met refused memory; none where something is not as it must be.
     pub met: Option<Met>,
     /// What the desk comes to: one of these.
     pub sums: [Sums; 2],
     /// What a seat left.
-    pub left: Left<H, N>,
+    pub left: Left<H>,
     /// What another seat left, where there was one.
-    pub other: Option<Left<H, N>>,
+    pub other: Option<Left<H>>,
 }
 
 /// What a row with one seat leaves, where the desk comes to this.
-pub fn one_left<H: Origin, N: Ledger>(
-    met: Option<Met>,
-    sums: Sums,
-    left: Left<H, N>,
-) -> Rest<H, N> {
+pub fn one_left<H: Origin>(met: Option<Met>, sums: Sums, left: Left<H>) -> Rest<H> {
     Rest {
         met,
         sums: [sums, sums],
@@ -73,86 +68,79 @@ pub fn stops_row(rt: &impl Files<File = File>, alloc: Global) -> Option<Met> {
 /// What a desk is started with, when it is handed back.
 type Parts = (
     StopLedger,
-    Blank,
     NewHistory<Deck<MemoryDisk>>,
     Deck<MemoryDisk>,
     FixedClock,
 );
 
 /// Starts a desk over a journal, of which nothing is known at the start.
-fn start<H: Origin, N: Ledger>(
+fn start<H: Origin>(
     alloc: Global,
     handles: StopLedger,
-    changes: Blank,
     marks: NewHistory<Deck<MemoryDisk>>,
     deck: Deck<MemoryDisk>,
-) -> Result<Small<MemoryDisk, H, N>, Parts>
+) -> Result<Small<MemoryDisk, H>, Parts>
     requires blind { (H.begun.is_known → ⊥) × (H.begun.none_failed → ⊥) }
     requires handles { (handles.tickets.name ≡ H.name) × (handles.tickets.parts ≡ H.parts) × (H.parts ≡ 2 ^ 61 + 1) }
     requires histories { (history_in handles ≡ H.history) × (history_id marks ≡ H.marks) }
-    requires changes { (changes.name ≡ N.name) × (changes.parts ≡ N.parts) × (N.parts ≡ 2 ^ 61 + 1) }
     requires fresh { deck.trail ≡ [] }
     requires running { deck.aborted ≡ false }
-    ensures back { IfErr result (λ back. (back.0 ≡ handles) × (back.1 ≡ changes) × (back.2 ≡ marks) × (back.3 ≡ deck)) }
+    ensures back { IfErr result (λ back. (back.0 ≡ handles) × (back.1 ≡ marks) × (back.2 ≡ deck)) }
 {
-    Desk::start(alloc, handles, changes, marks, deck, CLOCK)
+    Desk::start(alloc, handles, marks, deck, CLOCK)
 }
 
 /// The parts that were handed back for want of memory start a desk.
-fn start_again<H: Origin, N: Ledger>(
+fn start_again<H: Origin>(
     alloc: Global,
     handles: StopLedger,
-    changes: Blank,
     marks: NewHistory<Deck<MemoryDisk>>,
     deck: Deck<MemoryDisk>,
-) -> Option<Small<MemoryDisk, H, N>>
+) -> Option<Small<MemoryDisk, H>>
     requires blind { (H.begun.is_known → ⊥) × (H.begun.none_failed → ⊥) }
     requires handles { (handles.tickets.name ≡ H.name) × (handles.tickets.parts ≡ H.parts) × (H.parts ≡ 2 ^ 61 + 1) }
     requires histories { (history_in handles ≡ H.history) × (history_id marks ≡ H.marks) }
-    requires changes { (changes.name ≡ N.name) × (changes.parts ≡ N.parts) × (N.parts ≡ 2 ^ 61 + 1) }
     requires fresh { deck.trail ≡ [] }
     requires running { deck.aborted ≡ false }
 {
-    start::<H, N>(alloc, handles, changes, marks, deck).ok()
+    start::<H>(alloc, handles, marks, deck).ok()
 }
 
 /// A desk over a new journal, which is started where memory may be refused if that is asked; and whether memory ran
 /// out.
-pub fn started<R: Files<File = File>, H: Origin, N: Ledger>(
+pub fn started<R: Files<File = File>, H: Origin>(
     rt: &R,
     alloc: Global,
     handles: StopLedger,
-    changes: Blank,
     marks: NewHistory<Deck<MemoryDisk>>,
     deck: Deck<MemoryDisk>,
     is_refused: bool,
-) -> (Met, Option<Small<MemoryDisk, H, N>>)
+) -> (Met, Option<Small<MemoryDisk, H>>)
     requires blind { (H.begun.is_known → ⊥) × (H.begun.none_failed → ⊥) }
     requires handles { (handles.tickets.name ≡ H.name) × (handles.tickets.parts ≡ H.parts) × (H.parts ≡ 2 ^ 61 + 1) }
     requires histories { (history_in handles ≡ H.history) × (history_id marks ≡ H.marks) }
-    requires changes { (changes.name ≡ N.name) × (changes.parts ≡ N.parts) × (N.parts ≡ 2 ^ 61 + 1) }
     requires fresh { deck.trail ≡ [] }
     requires running { deck.aborted ≡ false }
 {
     if is_refused {
         refusing(rt);
     }
-    let first = start::<H, N>(alloc, handles, changes, marks, deck);
+    let first = start::<H>(alloc, handles, marks, deck);
     ample(rt);
     match first {
         Ok(desk) => (Met::Ample, Some(desk)),
-        Err((handles, changes, marks, deck, _)) => (
+        Err((handles, marks, deck, _)) => (
             Met::Memory,
-            start_again::<H, N>(alloc, handles, changes, marks, deck),
+            start_again::<H>(alloc, handles, marks, deck),
         ),
     }
 }
 
 /// A seat takes no memory, and closing a desk takes none.
-pub fn seat_row<R: Files<File = File> + Wait, D: Disk, H: Origin, N: Ledger>(
+pub fn seat_row<R: Files<File = File> + Wait, D: Disk, H: Origin>(
     rt: &R,
-    desk: &Small<D, H, N>,
-) -> Option<Rest<H, N>> {
+    desk: &Small<D, H>,
+) -> Option<Rest<H>> {
     refusing(rt);
     let first = desk.seat(rt);
     ample(rt);
@@ -163,11 +151,7 @@ pub fn seat_row<R: Files<File = File> + Wait, D: Disk, H: Origin, N: Ledger>(
 }
 
 /// What two seats left, or one. Where there is no memory for it the desk is not closed.
-fn lefts_of<H: Origin, N: Ledger>(
-    alloc: Global,
-    left: Left<H, N>,
-    other: Option<Left<H, N>>,
-) -> Vec<Left<H, N>> {
+fn lefts_of<H: Origin>(alloc: Global, left: Left<H>, other: Option<Left<H>>) -> Vec<Left<H>> {
     let mut lefts = Vec::new(alloc);
     let _refused = lefts.push(left);
     if let Some(other) = other {
@@ -177,12 +161,12 @@ fn lefts_of<H: Origin, N: Ledger>(
 }
 
 /// Closes a desk with what its seats left, where memory may be refused.
-fn closed<R: Files<File = File> + Wait, D: Disk + Drop, H: Origin, N: Ledger>(
+fn closed<R: Files<File = File> + Wait, D: Disk + Drop, H: Origin>(
     rt: &R,
-    desk: Small<D, H, N>,
-    lefts: Vec<Left<H, N>>,
+    desk: Small<D, H>,
+    lefts: Vec<Left<H>>,
 ) -> Option<Closed<D, FixedClock>>
-    requires parts { (H.parts ≡ 2 ^ 61 + 1) × (N.parts ≡ 2 ^ 61 + 1) }
+    requires parts { H.parts ≡ 2 ^ 61 + 1 }
 {
     let seen = desk.sights(rt);
     refusing(rt);
@@ -203,14 +187,14 @@ fn is_one_of<D: Disk>(alloc: Global, closed: &mut Closed<D, FixedClock>, sums: [
 }
 
 /// Closes a desk with what its seats left. Says whether it comes to one of these.
-fn is_closed<R: Files<File = File> + Wait, D: Disk + Drop, H: Origin, N: Ledger>(
+fn is_closed<R: Files<File = File> + Wait, D: Disk + Drop, H: Origin>(
     rt: &R,
     alloc: Global,
-    desk: Small<D, H, N>,
-    lefts: Vec<Left<H, N>>,
+    desk: Small<D, H>,
+    lefts: Vec<Left<H>>,
     sums: [Sums; 2],
 ) -> bool
-    requires parts { (H.parts ≡ 2 ^ 61 + 1) × (N.parts ≡ 2 ^ 61 + 1) }
+    requires parts { H.parts ≡ 2 ^ 61 + 1 }
 {
     match closed(rt, desk, lefts) {
         Some(mut closed) => is_one_of(alloc, &mut closed, sums),
@@ -220,13 +204,13 @@ fn is_closed<R: Files<File = File> + Wait, D: Disk + Drop, H: Origin, N: Ledger>
 
 /// Closes the desk of a row with what its seats left: how the row met refused memory, where the desk comes to what it
 /// must. That of a row without an answer is not closed.
-pub fn settle<R: Files<File = File> + Wait, D: Disk + Drop, H: Origin, N: Ledger>(
+pub fn settle<R: Files<File = File> + Wait, D: Disk + Drop, H: Origin>(
     rt: &R,
     alloc: Global,
-    desk: Small<D, H, N>,
-    rest: Option<Rest<H, N>>,
+    desk: Small<D, H>,
+    rest: Option<Rest<H>>,
 ) -> Option<Met>
-    requires parts { (H.parts ≡ 2 ^ 61 + 1) × (N.parts ≡ 2 ^ 61 + 1) }
+    requires parts { H.parts ≡ 2 ^ 61 + 1 }
 {
     let Rest {
         met,

@@ -16,14 +16,10 @@ use jb_disk::Disk;
 use std::fs::File;
 use std::rt::Files;
 use std::sync::Wait;
-use std::sync::ledger::Ledger;
 use std::time::Clock;
 
 /// A committer, at whose desk a handle that writes home 1 has stopped; none where that was refused.
-fn stopped<R: Wait, D: Disk, H: Origin, N: Ledger>(
-    rt: &R,
-    desk: &Small<D, H, N>,
-) -> Option<Committer<H, N>>
+fn stopped<R: Wait, D: Disk, H: Origin>(rt: &R, desk: &Small<D, H>) -> Option<Committer<H>>
     requires any { (words : WordMap) → H.begun.stops words }
     ensures { IfSome result (λ committer. desk_of (seat_of committer) ≡ desk_id desk.now) }
 {
@@ -39,11 +35,11 @@ fn stopped<R: Wait, D: Disk, H: Origin, N: Ledger>(
 }
 
 /// A committer retires, or gives up where it is handed back. Says whether it retired.
-fn retired<R: Wait, D: Disk, H: Origin, N: Ledger>(
+fn retired<R: Wait, D: Disk, H: Origin>(
     rt: &R,
-    desk: &Small<D, H, N>,
-    committer: Committer<H, N>,
-) -> (Seat<H, N>, bool)
+    desk: &Small<D, H>,
+    committer: Committer<H>,
+) -> (Seat<H>, bool)
     ensures { result.0 ≡ seat_of committer }
 {
     match desk.retire(rt, committer) {
@@ -57,12 +53,12 @@ fn retired<R: Wait, D: Disk, H: Origin, N: Ledger>(
 
 /// What a committer leaves that has committed the one handle, so that it is home once the journal is recovered. Where
 /// the disk failed no group is settled, and it may be home.
-fn ends<R: Wait, D: Disk, H: Origin, N: Ledger>(
+fn ends<R: Wait, D: Disk, H: Origin>(
     rt: &R,
-    desk: &Small<D, H, N>,
-    committer: Committer<H, N>,
+    desk: &Small<D, H>,
+    committer: Committer<H>,
     met: Option<Met>,
-) -> Rest<H, N> {
+) -> Rest<H> {
     let (seat, is_retired) = retired(rt, desk, committer);
     let sums = match met {
         Some(Met::Fault) => [(1, 1, 0, 0), (1, 1, 0, WORD)],
@@ -77,10 +73,10 @@ fn ends<R: Wait, D: Disk, H: Origin, N: Ledger>(
 }
 
 /// Makes a round: how it was met, where it commits the handle.
-fn round<R: Wait, D: Disk, H: Origin, N: Ledger>(
+fn round<R: Wait, D: Disk, H: Origin>(
     rt: &R,
-    desk: &Small<D, H, N>,
-    committer: &mut Committer<H, N>,
+    desk: &Small<D, H>,
+    committer: &mut Committer<H>,
 ) -> Option<Met>
     requires desk { desk_of (seat_of committer.old) ≡ desk_id desk.now }
     ensures { desk_of (seat_of committer.new) ≡ desk_of (seat_of committer.old) }
@@ -94,10 +90,10 @@ fn round<R: Wait, D: Disk, H: Origin, N: Ledger>(
 }
 
 /// A committer that ran out of memory holds its batch, and the next round commits it.
-pub fn commit_round_row<R: Files<File = File> + Wait, D: Disk, H: Origin, N: Ledger>(
+pub fn commit_round_row<R: Files<File = File> + Wait, D: Disk, H: Origin>(
     rt: &R,
-    desk: &Small<D, H, N>,
-) -> Option<Rest<H, N>>
+    desk: &Small<D, H>,
+) -> Option<Rest<H>>
     requires any { (words : WordMap) → H.begun.stops words }
 {
     let mut committer = stopped(rt, desk)?;
@@ -121,11 +117,11 @@ fn ended_as(ended: Ended) -> Option<Met> {
 }
 
 /// A committer that ended for want of memory commits its batch when it is run again.
-fn ends_again<R: Wait + Clock, D: Disk, H: Origin, N: Ledger>(
+fn ends_again<R: Wait + Clock, D: Disk, H: Origin>(
     rt: &R,
-    desk: &Small<D, H, N>,
-    committer: Committer<H, N>,
-) -> Rest<H, N>
+    desk: &Small<D, H>,
+    committer: Committer<H>,
+) -> Rest<H>
     requires desk { desk_of (seat_of committer) ≡ desk_id desk.now }
 {
     let (committer, again) = desk.run_committer(rt, committer);
@@ -135,10 +131,10 @@ fn ends_again<R: Wait + Clock, D: Disk, H: Origin, N: Ledger>(
 }
 
 /// A committer that ended for want of memory holds its batch, and commits it when it is run again.
-pub fn run_committer_row<R: Files<File = File> + Wait + Clock, D: Disk, H: Origin, N: Ledger>(
+pub fn run_committer_row<R: Files<File = File> + Wait + Clock, D: Disk, H: Origin>(
     rt: &R,
-    desk: &Small<D, H, N>,
-) -> Option<Rest<H, N>>
+    desk: &Small<D, H>,
+) -> Option<Rest<H>>
     requires any { (words : WordMap) → H.begun.stops words }
 {
     let committer = stopped(rt, desk)?;
@@ -163,10 +159,10 @@ fn checked_as(first: Result<Checked, CheckpointFault>) -> Option<Met> {
 }
 
 /// A checkpoint takes no memory of its own. Where the disk failed for want of memory the group is still in the log.
-pub fn checkpoint_round_row<R: Files<File = File> + Wait, D: Disk, H: Origin, N: Ledger>(
+pub fn checkpoint_round_row<R: Files<File = File> + Wait, D: Disk, H: Origin>(
     rt: &R,
-    desk: &Small<D, H, N>,
-) -> Option<Rest<H, N>>
+    desk: &Small<D, H>,
+) -> Option<Rest<H>>
     requires any { (words : WordMap) → H.begun.stops words }
 {
     let left = settled(rt, desk)?;
@@ -177,10 +173,7 @@ pub fn checkpoint_round_row<R: Files<File = File> + Wait, D: Disk, H: Origin, N:
 }
 
 /// Commits a handle with a seat that then leaves.
-fn settled<R: Wait, D: Disk, H: Origin, N: Ledger>(
-    rt: &R,
-    desk: &Small<D, H, N>,
-) -> Option<Left<H, N>>
+fn settled<R: Wait, D: Disk, H: Origin>(rt: &R, desk: &Small<D, H>) -> Option<Left<H>>
     requires { (words : WordMap) → H.begun.stops words }
 {
     let mut committer = stopped(rt, desk)?;
@@ -195,10 +188,7 @@ fn settled<R: Wait, D: Disk, H: Origin, N: Ledger>(
 }
 
 /// Whether a desk gives the entry of the group that is home.
-fn is_taken<R: Wait, D: Disk, H: Origin, N: Ledger>(
-    rt: &R,
-    desk: &Small<D, H, N>,
-) -> Result<bool, Memory> {
+fn is_taken<R: Wait, D: Disk, H: Origin>(rt: &R, desk: &Small<D, H>) -> Result<bool, Memory> {
     Ok(match desk.take_trail(rt)?.as_slice() {
         [entry] => entry.past == 1 && entry.number == 2,
         _ => false,
@@ -206,9 +196,9 @@ fn is_taken<R: Wait, D: Disk, H: Origin, N: Ledger>(
 }
 
 /// How a call for the entry of the group that is home was met, once the group is home.
-fn taken<R: Files<File = File> + Wait, D: Disk, H: Origin, N: Ledger>(
+fn taken<R: Files<File = File> + Wait, D: Disk, H: Origin>(
     rt: &R,
-    desk: &Small<D, H, N>,
+    desk: &Small<D, H>,
 ) -> Option<Met> {
     if desk.checkpoint_round(rt).is_err() {
         return None;
@@ -217,10 +207,10 @@ fn taken<R: Files<File = File> + Wait, D: Disk, H: Origin, N: Ledger>(
 }
 
 /// A desk that has no memory for the entries keeps its trail.
-pub fn take_trail_row<R: Files<File = File> + Wait, D: Disk, H: Origin, N: Ledger>(
+pub fn take_trail_row<R: Files<File = File> + Wait, D: Disk, H: Origin>(
     rt: &R,
-    desk: &Small<D, H, N>,
-) -> Option<Rest<H, N>>
+    desk: &Small<D, H>,
+) -> Option<Rest<H>>
     requires any { (words : WordMap) → H.begun.stops words }
 {
     let left = settled(rt, desk)?;

@@ -17,7 +17,6 @@ use std::fs::File;
 use std::marker::Brand;
 use std::rt::Files;
 use std::sync::Wait;
-use std::sync::ledger::{Blank, Ledger};
 use std::thread::Threads;
 use std::time::Clock;
 
@@ -82,7 +81,7 @@ enum OfDesk {
     TakeTrail,
 }
 
-/// The row of this name, of a desk. A call that picks what its ledgers are named passes no text.
+/// The row of this name, of a desk. A call that picks what its ledger is named passes no text.
 fn of_desk(name: &str) -> Option<OfDesk> {
     match name {
         "Desk::start" => Some(OfDesk::Start),
@@ -98,16 +97,16 @@ fn of_desk(name: &str) -> Option<OfDesk> {
     }
 }
 
-/// Runs a row of a desk, whose ledgers are named here.
+/// Runs a row of a desk, whose ledger is named here.
 fn desk_row<R: Files<File = File> + Threads + Wait + Clock + Sync>(
     rt: &R,
     alloc: Global,
     row: OfDesk,
 ) -> Option<Met> {
-    let (handles, changes) = (StopLedger::new(alloc, PARTS).ok()?, Blank::new(PARTS));
+    let handles = StopLedger::new(alloc, PARTS).ok()?;
     let marks = NewHistory::new(alloc).ok()?;
     let deck = opened(alloc)?;
-    run_row::<R, Brand, Brand>(rt, alloc, row, handles, changes, marks, deck)
+    run_row::<R, Brand>(rt, alloc, row, handles, marks, deck)
 }
 
 /// What a row leaves at its desk.
@@ -115,8 +114,7 @@ fn rest_of<
     R: Files<File = File> + Threads + Wait + Clock + Sync,
     D: Disk + Send,
     H: Origin + Send + Sync,
-    N: Ledger + Send + Sync,
->(rt: &R, row: OfDesk, desk: &Small<D, H, N>) -> Option<Rest<H, N>>
+>(rt: &R, row: OfDesk, desk: &Small<D, H>) -> Option<Rest<H>>
     requires { (words : WordMap) → H.begun.stops words }
 {
     match row {
@@ -132,16 +130,11 @@ fn rest_of<
 }
 
 /// Starts a desk, runs a row of it, and closes the desk.
-fn run_row<
-    R: Files<File = File> + Threads + Wait + Clock + Sync,
-    H: Origin + Send + Sync,
-    N: Ledger + Send + Sync,
->(
+fn run_row<R: Files<File = File> + Threads + Wait + Clock + Sync, H: Origin + Send + Sync>(
     rt: &R,
     alloc: Global,
     row: OfDesk,
     handles: StopLedger,
-    changes: Blank,
     marks: NewHistory<Deck<MemoryDisk>>,
     deck: Deck<MemoryDisk>,
 ) -> Option<Met>
@@ -149,12 +142,11 @@ fn run_row<
     requires any { (words : WordMap) → H.begun.stops words }
     requires handles { (handles.tickets.name ≡ H.name) × (handles.tickets.parts ≡ H.parts) × (H.parts ≡ 2 ^ 61 + 1) }
     requires histories { (history_in handles ≡ H.history) × (history_id marks ≡ H.marks) }
-    requires changes { (changes.name ≡ N.name) × (changes.parts ≡ N.parts) × (N.parts ≡ 2 ^ 61 + 1) }
     requires fresh { deck.trail ≡ [] }
     requires running { deck.aborted ≡ false }
 {
     let is_refused = matches!(row, OfDesk::Start);
-    let (met, desk) = started::<R, H, N>(rt, alloc, handles, changes, marks, deck, is_refused);
+    let (met, desk) = started::<R, H>(rt, alloc, handles, marks, deck, is_refused);
     let desk = desk?;
     let rest = rest_of(rt, row, &desk);
     match settle(rt, alloc, desk, rest) {

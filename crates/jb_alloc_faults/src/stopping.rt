@@ -13,16 +13,15 @@ use jb_handle::Handle;
 use std::fs::File;
 use std::rt::Files;
 use std::sync::Wait;
-use std::sync::ledger::Ledger;
 use std::thread;
 use std::thread::Threads;
 
 /// A handle that was begun and has written a home block; none where that was refused.
-pub fn written<R: Wait, D: Disk, H: Origin, N: Ledger>(
+pub fn written<R: Wait, D: Disk, H: Origin>(
     rt: &R,
-    desk: &Small<D, H, N>,
+    desk: &Small<D, H>,
     home: u64,
-) -> Option<Handle<Seat<H, N>>>
+) -> Option<Handle<Seat<H>>>
     ensures { IfSome result (λ handle. desk_of (holder handle) ≡ desk_id desk.now) }
 {
     let Ok(seat) = desk.seat(rt) else {
@@ -41,11 +40,11 @@ pub fn written<R: Wait, D: Disk, H: Origin, N: Ledger>(
 }
 
 /// Begins a handle and drops it: how that was met.
-fn begun<R: Wait, D: Disk, H: Origin, N: Ledger>(
+fn begun<R: Wait, D: Disk, H: Origin>(
     rt: &R,
-    desk: &Small<D, H, N>,
-    seat: Seat<H, N>,
-) -> (Seat<H, N>, Option<Met>) {
+    desk: &Small<D, H>,
+    seat: Seat<H>,
+) -> (Seat<H>, Option<Met>) {
     match desk.begin(rt, seat, 1) {
         Ok(handle) => (desk.abandon(rt, handle), Some(Met::Ample)),
         Err((seat, BeginFault::Memory)) => (seat, Some(Met::Memory)),
@@ -54,10 +53,10 @@ fn begun<R: Wait, D: Disk, H: Origin, N: Ledger>(
 }
 
 /// A seat that ran out of memory has begun nothing.
-pub fn begin_row<R: Files<File = File> + Wait, D: Disk, H: Origin, N: Ledger>(
+pub fn begin_row<R: Files<File = File> + Wait, D: Disk, H: Origin>(
     rt: &R,
-    desk: &Small<D, H, N>,
-) -> Option<Rest<H, N>> {
+    desk: &Small<D, H>,
+) -> Option<Rest<H>> {
     let Ok(seat) = desk.seat(rt) else {
         return None;
     };
@@ -92,11 +91,11 @@ fn stop_at(ticket: u64, met: Met) -> Came {
 }
 
 /// A handle for which memory ran out is stopped once more.
-fn stop_again<R: Wait, D: Disk, H: Origin, N: Ledger>(
+fn stop_again<R: Wait, D: Disk, H: Origin>(
     rt: &R,
-    desk: &Small<D, H, N>,
-    handle: Handle<Seat<H, N>>,
-) -> (Seat<H, N>, Came)
+    desk: &Small<D, H>,
+    handle: Handle<Seat<H>>,
+) -> (Seat<H>, Came)
     requires any { (words : WordMap) → H.begun.stops words }
     requires desk { desk_of (holder handle) ≡ desk_id desk.now }
     ensures { desk_of result.0 ≡ desk_id desk.now }
@@ -110,11 +109,11 @@ fn stop_again<R: Wait, D: Disk, H: Origin, N: Ledger>(
 }
 
 /// Stops a handle, and once more where memory ran out.
-pub fn stop<R: Wait, D: Disk, H: Origin, N: Ledger>(
+pub fn stop<R: Wait, D: Disk, H: Origin>(
     rt: &R,
-    desk: &Small<D, H, N>,
-    handle: Handle<Seat<H, N>>,
-) -> (Seat<H, N>, Came)
+    desk: &Small<D, H>,
+    handle: Handle<Seat<H>>,
+) -> (Seat<H>, Came)
     requires any { (words : WordMap) → H.begun.stops words }
     requires desk { desk_of (holder handle) ≡ desk_id desk.now }
     ensures { desk_of result.0 ≡ desk_id desk.now }
@@ -128,10 +127,10 @@ pub fn stop<R: Wait, D: Disk, H: Origin, N: Ledger>(
 }
 
 /// A handle that ran out of memory stops when it is asked again.
-pub fn stop_row<R: Files<File = File> + Wait, D: Disk, H: Origin, N: Ledger>(
+pub fn stop_row<R: Files<File = File> + Wait, D: Disk, H: Origin>(
     rt: &R,
-    desk: &Small<D, H, N>,
-) -> Option<Rest<H, N>>
+    desk: &Small<D, H>,
+) -> Option<Rest<H>>
     requires any { (words : WordMap) → H.begun.stops words }
 {
     let handle = written(rt, desk, 1)?;
@@ -148,14 +147,14 @@ pub fn stop_row<R: Files<File = File> + Wait, D: Disk, H: Origin, N: Ledger>(
 }
 
 /// What a thread left that stopped a handle.
-type Ended<H, N> = Option<(Left<H, N>, Came)>;
+type Ended<H> = Option<(Left<H>, Came)>;
 
 /// Stops the handle at a place; its seat leaves.
-fn stop_from<R: Wait, D: Disk, H: Origin, N: Ledger>(
+fn stop_from<R: Wait, D: Disk, H: Origin>(
     rt: &R,
-    desk: &Small<D, H, N>,
-    place: &mut Option<Handle<Seat<H, N>>>,
-) -> Ended<H, N>
+    desk: &Small<D, H>,
+    place: &mut Option<Handle<Seat<H>>>,
+) -> Ended<H>
     requires any { (words : WordMap) → H.begun.stops words }
     requires desk { IfSome place.old (λ handle. desk_of (holder handle) ≡ desk_id desk.now) }
     ensures { place.new ≡ None }
@@ -168,10 +167,10 @@ fn stop_from<R: Wait, D: Disk, H: Origin, N: Ledger>(
 }
 
 /// A handle that was not stopped is dropped; its seat leaves.
-fn dropped<R: Wait, D: Disk, H: Origin, N: Ledger>(
+fn dropped<R: Wait, D: Disk, H: Origin>(
     rt: &R,
-    desk: &Small<D, H, N>,
-    handle: Option<Handle<Seat<H, N>>>,
+    desk: &Small<D, H>,
+    handle: Option<Handle<Seat<H>>>,
 ) {
     if let Some(handle) = handle {
         let _left = desk.leave(rt, desk.abandon(rt, handle));
@@ -179,17 +178,12 @@ fn dropped<R: Wait, D: Disk, H: Origin, N: Ledger>(
 }
 
 /// Two threads stop a handle each.
-fn stop_both<
-    R: Threads + Wait + Sync,
-    D: Disk + Send,
-    H: Origin + Send + Sync,
-    N: Ledger + Send + Sync,
->(
+fn stop_both<R: Threads + Wait + Sync, D: Disk + Send, H: Origin + Send + Sync>(
     rt: &R,
-    desk: &Small<D, H, N>,
-    one: Handle<Seat<H, N>>,
-    other: Handle<Seat<H, N>>,
-) -> (Ended<H, N>, Ended<H, N>)
+    desk: &Small<D, H>,
+    one: Handle<Seat<H>>,
+    other: Handle<Seat<H>>,
+) -> (Ended<H>, Ended<H>)
     requires any { (words : WordMap) → H.begun.stops words }
     requires one { desk_of (holder one) ≡ desk_id desk.now }
     requires other { desk_of (holder other) ≡ desk_id desk.now }
@@ -206,10 +200,10 @@ fn stop_both<
 }
 
 /// Two handles that were begun and have each written a home block; none where that was refused.
-fn both_written<R: Wait, D: Disk, H: Origin, N: Ledger>(
+fn both_written<R: Wait, D: Disk, H: Origin>(
     rt: &R,
-    desk: &Small<D, H, N>,
-) -> Option<(Handle<Seat<H, N>>, Handle<Seat<H, N>>)>
+    desk: &Small<D, H>,
+) -> Option<(Handle<Seat<H>>, Handle<Seat<H>>)>
     ensures one { IfSome result (λ both. desk_of (holder both.0) ≡ desk_id desk.now) }
     ensures other { IfSome result (λ both. desk_of (holder both.1) ≡ desk_id desk.now) }
 {
@@ -233,7 +227,7 @@ fn met_of(first: Came, second: Came) -> Option<Met> {
 }
 
 /// What two threads leave that stopped a handle each.
-fn rest_of<H: Origin, N: Ledger>(one: Ended<H, N>, other: Ended<H, N>) -> Option<Rest<H, N>> {
+fn rest_of<H: Origin>(one: Ended<H>, other: Ended<H>) -> Option<Rest<H>> {
     let (left, first) = one?;
     let (other, second) = other?;
     Some(Rest {
@@ -250,8 +244,7 @@ pub fn stop_beside_stop_row<
     R: Files<File = File> + Threads + Wait + Sync,
     D: Disk + Send,
     H: Origin + Send + Sync,
-    N: Ledger + Send + Sync,
->(rt: &R, desk: &Small<D, H, N>) -> Option<Rest<H, N>>
+>(rt: &R, desk: &Small<D, H>) -> Option<Rest<H>>
     requires any { (words : WordMap) → H.begun.stops words }
 {
     let (one, other) = both_written(rt, desk)?;

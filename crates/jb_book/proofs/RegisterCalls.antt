@@ -1,8 +1,11 @@
 -- A book beside the history of its stops: each call keeps what is known of the two.
-use Rattle.std.proofs.Common.{◌≡◌, ℕ, ◌≤◌, Bool, true, false, List, [], ◌∷◌, ◌++◌, map, length, take, drop, sym, refl, ap, subst, ◌∙◌, Ok, Err, arith, ◌↔◌, IsTrue, All, Some, None, IfSome, IfNone, Option, Result, OnOk, OnErr}
+use Rattle.std.proofs.Common.{◌≡◌, ℕ, ◌+◌, ◌≤◌, Bool, true, false, List, [], ◌∷◌, ◌++◌, map, length, take, drop, sym, refl, ap, subst, ◌∙◌, Ok, Err, arith, ◌↔◌, IsTrue, All, Some, None, IfSome, IfNone, Option, Result, OnOk, OnErr}
+use Rattle.std.specs.FinMap as map_of
 use Rattle.std.specs.Global.{Vec}
+use Rattle.std.specs.List.{sum_by}
 use Rattle.std.proofs.lemmas.List.{append-nil, map-append, length-append}
 use Rattle.std.proofs.lemmas.List.Elements.{All-nil}
+use Rattle.std.proofs.lemmas.List.Sums.{sum_by_push}
 use Rattle.jb_handle.specs.declared.shape.Shape.{Shape}
 use Rattle.jb_handle.specs.declared.stopped.Stopped.{Stopped}
 use Rattle.jb_cost.specs.Pieces.{joined, pieces}
@@ -12,7 +15,7 @@ use Rattle.jb_core.specs.declared.event.Reply.TheVariants.{Plain}
 use Rattle.jb_core.specs.Machine.{after_event}
 use Rattle.jb_core.proofs.SoundRuns.{sounds}
 use Rattle.jb_core.proofs.WholeLives.{whole}
-use Rattle.jb_book.specs.Account.{Account, IsNewBook, taken_all, settled_to, failed_of, CanTake, Settles, IsAccountSound, granted_to, dropped_of, queued, shortened, begin_refusal, CanStop}
+use Rattle.jb_book.specs.Account.{Account, IsNewBook, changed_by, taken_all, settled_to, failed_of, CanTake, Settles, IsAccountSound, granted_to, dropped_of, queued, shortened, begin_refusal, CanStop}
 use Rattle.jb_book.specs.Calls.{BookCall, Opened, Enqueued, Dropped, Took, Settled, Failed, Shut, stops_of, out_of, settled_of, AreOfFirst, IsCutOf, Does, CallsMake, handles_in, KeepsWhole}
 use Rattle.jb_book.specs.Shadow.{Shadow}
 use Rattle.jb_book.specs.MachineTie.{EveryRun}
@@ -22,10 +25,11 @@ use Rattle.jb_deck.specs.declared.done.Done.{Done}
 use Rattle.jb_deck.specs.Done.{Follow, past_after, first_ticket, entries_of}
 use Rattle.jb_handle.specs.Tickets.{TicketsFrom}
 use Rattle.jb_handle.specs.Word.{WordMap}
-use Rattle.jb_board.specs.HistoryRule.{IsFirstPart}
+use Rattle.jb_board.proofs.EntryPlaces.{placed_snoc}
+use Rattle.jb_board.specs.HistoryRule.{IsFirstPart, with_places}
 use Rattle.jb_book.specs.declared.fault.BeginFault.{BeginFault}
 use Rattle.jb_book.specs.declared.fault.WrongBatch.{WrongBatch}
-use Rattle.jb_book.specs.CallsToBook.{AreCut, FailsAfter, IsInHistory, IsLed, IsOutAs, IsRegistered, IsMachineRun, IsSettling, SettlesOrFails, words_stopped, with_trail}
+use Rattle.jb_book.specs.CallsToBook.{AreCut, FailsAfter, IsInHistory, IsLed, IsOutAs, IsRegistered, IsMachineRun, IsSettling, SettlesOrFails, changes_in, words_stopped, with_trail}
 use Rattle.jb_book.proofs.Accounts.{taken-sound, settled-sound, failed-sound}
 use Rattle.jb_book.proofs.SeatTies.{tied-starts}
 use Rattle.jb_book.proofs.CallTies.{tied-takes, tied-settles, tied-settles-none, tied-fails, tied-fails-again}
@@ -185,16 +189,17 @@ ends-run any a log sound is =
 -- ---- what is known of the two
 
 -- a book and its history become these
-kept-as : {a b : Account} {log more : List WordMap} → IsLed log a → length log ≡ a.shadow.next → All (IsInHistory log) a.shadow.queue → b ≡ a → more ≡ log → IsRegistered b more
-kept-as led counted queued is same = subst (λ (x : Account × List WordMap). IsRegistered x.0 x.1) (λ i. (sym is i, sym same i)) (record { counted = counted; queued = queued; led = led })
+kept-as : {a b : Account} {log more : List WordMap} → IsLed log a → length log ≡ a.shadow.next → a.changes ≡ changes_in log → All (IsInHistory log) a.shadow.queue → b ≡ a → more ≡ log → IsRegistered b more
+kept-as led counted touched queued is same =
+    subst (λ (x : Account × List WordMap). IsRegistered x.0 x.1) (λ i. (sym is i, sym same i)) (record { counted = counted; touched = touched; queued = queued; led = led })
 
 pub kept-new : (shape : Shape) (usable : ℕ) (a : Account) (log : List WordMap) → IsNewBook shape usable a → log ≡ [] → IsRegistered a log
 kept-new shape usable a log start none =
-    kept-as (led_start shape usable a start) (sym (ap (λ x. x.next) start.shadow))
+    kept-as (led_start shape usable a start) (sym (ap (λ x. x.next) start.shadow)) start.changes
     (subst (All (IsInHistory [])) (sym (ap (λ x. x.queue) start.shadow)) (All-nil (IsInHistory []))) refl none
 
 failed-same : {a b : Account} {log more : List WordMap} → IsRegistered a log → b ≡ failed_of a → more ≡ log → IsRegistered b more
-failed-same {a} {log = log} kept is same = kept-as (led-failed log a kept.led) kept.counted (All-nil (IsInHistory log)) is same
+failed-same {a} {log = log} kept is same = kept-as (led-failed log a kept.led) kept.counted kept.touched (All-nil (IsInHistory log)) is same
 
 module _ {a : Account} {log prefix : List WordMap} {end : ℕ} {shape : Shape} {done : Done}
     (is : IsSettling prefix end shape done) (seen : IsFirstPart prefix log) (out : IsOutAs a (first_ticket done) end shape) where
@@ -214,12 +219,12 @@ module _ {a : Account} {log prefix : List WordMap} {end : ℕ} {shape : Shape} {
   kept-settled sound kept past settles last after grows =
       let whole = ends-at (first_ticket done) a.shadow.settled _ past end (entries_of done) settles.follow out.first_is last in
       kept-as
-      (led-settled log a kept.led is.planned.batch.handles is.planned.groups past (entries_of done) settles settling-cut is.tells sound (whole ∙ out.end_is)) kept.counted kept.queued after grows
+      (led-settled log a kept.led is.planned.batch.handles is.planned.groups past (entries_of done) settles settling-cut is.tells sound (whole ∙ out.end_is)) kept.counted kept.touched kept.queued after grows
 
   pub kept-last : (middle b : Account) (more : List WordMap) (r : Result (Unit {0}) WrongBatch) → IsAccountSound a → IsRegistered a log → OnOk r ((past : ℕ) × Settles a past (entries_of done) × (middle ≡ settled_to past (entries_of done) a)) → OnErr r (middle ≡ a) → b ≡ failed_of middle → more ≡ log → IsRegistered b more
   kept-last middle b more (Ok unit) sound kept ok err fell grows =
       kept-as
-      (led-settled-last log a kept.led is.planned.batch.handles is.planned.groups ok.0 (entries_of done) ok.1 settling-cut is.tells sound) kept.counted (All-nil (IsInHistory log)) (fell ∙ ap failed_of ok.2) grows
+      (led-settled-last log a kept.led is.planned.batch.handles is.planned.groups ok.0 (entries_of done) ok.1 settling-cut is.tells sound) kept.counted kept.touched (All-nil (IsInHistory log)) (fell ∙ ap failed_of ok.2) grows
   kept-last middle b more (Err wrong) sound kept ok err fell grows = failed-same kept (fell ∙ ap failed_of err) grows
 
 -- ---- the other calls keep a register: a book beside its history, and the marks that were seen of its journal
@@ -231,30 +236,34 @@ module _ {D : Type 0} {ms : List (OpenDeck D)} {a : Account} {log more : List Wo
 
   module _ {b : Account} where
     -- the book becomes one with the same trail
-    both-as : {c : Account} → IsLed log c → length log ≡ c.shadow.next → All (IsInHistory log) c.shadow.queue → c.trail ≡ a.trail → c.shape ≡ a.shape → b ≡ c → IsRegistered b more × AreOfBook ms b
-    both-as {c} led counted queued trail shape is = (kept-as led counted queued is same, marked-same ms a b kept.1 c trail shape is)
+    both-as : {c : Account} → IsLed log c → length log ≡ c.shadow.next → c.changes ≡ changes_in log → All (IsInHistory log) c.shadow.queue → c.trail ≡ a.trail → c.shape ≡ a.shape → b ≡ c → IsRegistered b more × AreOfBook ms b
+    both-as {c} led counted touched queued trail shape is = (kept-as led counted touched queued is same, marked-same ms a b kept.1 c trail shape is)
 
     pub both-open : (r : Result (Unit {0}) BeginFault) (seat credits : ℕ) → OnOk r (b ≡ granted_to seat credits a) → OnOk r (begin_refusal a seat credits ≡ None) → OnErr r (b ≡ a)
         → IsRegistered b more × AreOfBook ms b
-    both-open (Ok unit) seat credits is none err = both-as (led-opened log a kept.0.led seat credits none) kept.0.counted kept.0.queued refl refl is
-    both-open (Err fault) seat credits is none err = both-as kept.0.led kept.0.counted kept.0.queued refl refl err
+    both-open (Ok unit) seat credits is none err = both-as (led-opened log a kept.0.led seat credits none) kept.0.counted kept.0.touched kept.0.queued refl refl is
+    both-open (Err fault) seat credits is none err = both-as kept.0.led kept.0.counted kept.0.touched kept.0.queued refl refl err
 
     pub both-take : (r : Option Gathered) → IsAccountSound a → IfSome r (λ _. HasCut a.shape a.shadow.queue) → IfSome r (λ _. CanTake a × (b ≡ taken_all a)) → IfNone r ((CanTake a → ⊥) × (b ≡ a))
         → IsRegistered b more × AreOfBook ms b
-    both-take (Some batch) sound cuts taken none = both-as (led-taken log a kept.0.led sound taken.0 kept.0.queued cuts) kept.0.counted (All-nil (IsInHistory log)) refl refl taken.1
-    both-take None sound cuts taken none = both-as kept.0.led kept.0.counted kept.0.queued refl refl none.1
+    both-take (Some batch) sound cuts taken none = both-as (led-taken log a kept.0.led sound taken.0 kept.0.queued cuts) kept.0.counted kept.0.touched (All-nil (IsInHistory log)) refl refl taken.1
+    both-take None sound cuts taken none = both-as kept.0.led kept.0.counted kept.0.touched kept.0.queued refl refl none.1
 
     pub both-dropped : (seat : ℕ) → b ≡ dropped_of seat a → IsRegistered b more × AreOfBook ms b
-    both-dropped seat is = both-as (led-dropped log a kept.0.led seat) kept.0.counted kept.0.queued refl refl is
+    both-dropped seat is = both-as (led-dropped log a kept.0.led seat) kept.0.counted kept.0.touched kept.0.queued refl refl is
 
     pub both-shut : b ≡ record a { shut = true } → IsRegistered b more × AreOfBook ms b
-    both-shut is = both-as (led-shut log a kept.0.led) kept.0.counted kept.0.queued refl refl is
+    both-shut is = both-as (led-shut log a kept.0.led) kept.0.counted kept.0.touched kept.0.queued refl refl is
 
     pub both-short : (past : ℕ) → b ≡ shortened past a → IsRegistered b more × AreOfBook ms b
-    both-short past is = (kept-as (led-shortened log a kept.0.led past) kept.0.counted kept.0.queued is same, marked-short ms a b kept.1 past is)
+    both-short past is = (kept-as (led-shortened log a kept.0.led past) kept.0.counted kept.0.touched kept.0.queued is same, marked-short ms a b kept.1 past is)
 
     pub both-failed : {ns : List (OpenDeck D)} → IsPrefix ms ns → b ≡ failed_of a → IsRegistered b more × AreOfBook ns b
     both-failed {ns} p is = (failed-same kept.0 is same, marked-same ns a b (book-on ms ns p a kept.1) (failed_of a) refl refl is)
+
+-- one handle more has stopped
+changes-more : (log : List WordMap) (ws : WordMap) → changes_in (log ++ ws ∷ []) ≡ changes_in log + map_of.len ws
+changes-more log ws = ap (sum_by changed_by) (placed_snoc 0 log ws) ∙ sum_by_push changed_by (with_places 0 log) (0 + length log, ws)
 
 -- a handle stops
 pub both-stopped : {D : Type 0} {ms : List (OpenDeck D)} {a b : Account} {log more : List WordMap} → IsRegistered a log × AreOfBook ms a
@@ -264,6 +273,7 @@ both-stopped {ms = ms} {a} {b} {log} kept seat ws sound can is adds =
     let long = length-append log (ws ∷ []) in
     let counted = kept.0.counted in (
       kept-as (led-stopped log a kept.0.led sound seat ws can counted) (omega (arith, long, counted))
+          (ap (λ n. n + map_of.len ws) kept.0.touched ∙ sym (changes-more log ws))
           (recorded-more log a.shadow.queue a.shadow.next ws kept.0.queued counted) is (adds (ap (λ (c : Account). c.shadow.queue) is)),
       marked-same ms a b kept.1 (queued seat ws a) refl refl is,
     )

@@ -41,6 +41,10 @@ pub record Account : Type 0 where
 abbrev pub touched_in : List Stopped → ℕ
 touched_in hs = sum_by (λ h. map.len h.words) hs
 
+-- how many home blocks a handle that stopped has changed: it has a word for each
+abbrev pub changed_by : ℕ × WordMap → ℕ
+changed_by stop = map.len stop.1
+
 -- ---- what always holds
 
 -- while a book is not aborted: the queue has the tickets after the taken ones, up to the next one, and each handle that

@@ -1,5 +1,6 @@
 -- The calls that led to a book, whose stops are the history.
 use Rattle.std.specs.Prelude.{◌≡◌, ℕ, ◌+◌, ◌≤◌, ◌^◌, false, List, [], ◌∷◌, ◌++◌, map, length, All, Result, Ok, Err}
+use Rattle.std.specs.List.{sum_by}
 use Rattle.jb_plan.specs.Batch.{gathered}
 use Rattle.jb_cost.specs.Pieces.{pieces}
 use Rattle.jb_deck.specs.declared.done.Entry.{Entry}
@@ -13,15 +14,19 @@ use Rattle.jb_handle.specs.declared.shape.Shape.{Shape}
 use Rattle.jb_core.specs.Lives.{EventLog, handles_of_order, stop_order}
 use Rattle.jb_core.specs.Machine.{Machine}
 use Rattle.jb_core.specs.MachineRuns.{RanFromStart}
-use Rattle.jb_book.specs.Account.{Account, CanStop, Settles, failed_of, queued, settled_to}
+use Rattle.jb_book.specs.Account.{Account, CanStop, Settles, changed_by, failed_of, queued, settled_to}
 use Rattle.jb_book.specs.Calls.{BookCall, CallsMake, AreOfFirst, IsCutOf, handles_in, out_of, stops_of}
 use Rattle.jb_book.specs.MachineTie.{AreAccepted}
 use Rattle.jb_book.specs.declared.fault.WrongBatch.{WrongBatch}
-use Rattle.jb_board.specs.HistoryRule.{StandsIn}
+use Rattle.jb_board.specs.HistoryRule.{StandsIn, with_places}
 
 -- the handle is the one of the history that has its ticket
 abbrev pub IsInHistory : List WordMap → Stopped → Type 0
 IsInHistory log h = StandsIn log (h.ticket, h.words)
+
+-- the home blocks that the handles of the history touched, added up
+abbrev pub changes_in : List WordMap → ℕ
+changes_in log = sum_by changed_by (with_places 0 log)
 
 -- the handles of the history that are taken and not settled
 pub record AreOut (log : List WordMap) (settled taken : ℕ) (hs : List Stopped) : Type 0 where
@@ -92,9 +97,10 @@ pub record Queues {T : Type 0} (seat : ℕ) (holder : T) (words : WordMap) (old 
   pub log : new.log ≡ old.log ++ words ∷ []
   pub made_one : more ≡ made ++ (given.1, words) ∷ []
 
--- the history has the book's stops, and calls led to the book
+-- the history has the book's stops with all that they touched, and calls led to the book
 pub record IsRegistered (a : Account) (log : List WordMap) : Type 0 where
   pub counted : length log ≡ a.shadow.next
+  pub touched : a.changes ≡ changes_in log
   pub queued : All (IsInHistory log) a.shadow.queue
   pub led : IsLed log a
 

@@ -49,7 +49,7 @@ impl<D: Disk, H: Origin> Register<D, H> {
     ghost use Rattle.jb_book.specs.Account.{IsNewBook, granted_to, dropped_of, taken_all, shortened};
     ghost use Rattle.jb_book.specs.Account.{failed_of, begin_refusal, RefusesBegin, RefusesStop, CanTake};
     ghost use Rattle.jb_book.specs.CallsToBook.{IsInHistory, IsLed};
-    ghost use Rattle.jb_book.specs.CallsToBook.{IsMachineRun, Queues};
+    ghost use Rattle.jb_book.specs.CallsToBook.{IsMachineRun, Queues, changes_in};
     ghost use Rattle.jb_book.specs.Marks.{HasFailedMark, HasShapeMark, IsMarked, SeesSame, SeesStop};
     ghost use Rattle.jb_book.specs.Origin.{AreStops};
 
@@ -234,6 +234,8 @@ impl<D: Disk, H: Origin> Register<D, H> {
     pub fn end(self) -> (Vec<Entry>, Appender<Words, H>, Prefix<Deck<D>, Marks<H>>)
         ensures parts { (result.0.items ≡ self.book.trail) × (result.1 ≡ self.log) }
         ensures counted { length result.1 ≡ self.book.shadow.next }
+        /// The blocks that the book has counted are those that the stops in the history touched, added up.
+        ensures touched { self.book.changes ≡ changes_in self.log }
         ensures tiles { (past : ℕ) × Follow (start_of result.0.items) 0 past result.0.items
             × (past ≤ self.book.shadow.next) }
         /// The history and the trail of a register that ends are the stops and the settled groups of events that the

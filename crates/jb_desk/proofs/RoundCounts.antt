@@ -80,7 +80,7 @@ round-cut G begun seen held after reached (Ok (Committed done)) is = (is.0, is.1
 round-cut G begun seen held after reached (Err fault) is = tt
 
 -- a batch that was taken up is committed, so the round is not idle
-pub never-idle : {H N : Type 0} {O : Ghosts H} {P : Places H} (seen : ℕ) (b : Gathered) (u w : Front) (old new : Seat H N O P) (r : Result Round RoundFault) → SeesCommit b u w r → IdleKeeps seen old new r
+pub never-idle : {H : Type 0} {O : Ghosts H} {P : Places H} (seen : ℕ) (b : Gathered) (u w : Front) (old new : Seat H O P) (r : Result Round RoundFault) → SeesCommit b u w r → IdleKeeps seen old new r
 never-idle seen b u w old new (Ok (Idle none)) is = absurd is
 never-idle seen b u w old new (Ok (Committed done)) is = tt
 never-idle seen b u w old new (Err fault) is = tt
@@ -97,15 +97,15 @@ settled-by old new count is = subst (λ (f : Front). count ≤ f.settled) (sym i
 
 -- ---- a seat that is as it was
 
-pub keeps-same : {H N : Type 0} {O : Ghosts H} {P : Places H} (old new : Seat H N O P) → new ≡ old → KeepsSeat old new
-keeps-same {H} {N} {O} {P} old new is = record {
-  desk = ap (λ (s : Seat H N O P). desk_of s) is;
-  number = ap (λ (s : Seat H N O P). seat_number s) is;
-  counted = (ap (λ (s : Seat H N O P). stops s) is, ap (λ (s : Seat H N O P). changes s) is, ap (λ (s : Seat H N O P). made_by s) is);
+pub keeps-same : {H : Type 0} {O : Ghosts H} {P : Places H} (old new : Seat H O P) → new ≡ old → KeepsSeat old new
+keeps-same {H} {O} {P} old new is = record {
+  desk = ap (λ (s : Seat H O P). desk_of s) is;
+  number = ap (λ (s : Seat H O P). seat_number s) is;
+  counted = (ap (λ (s : Seat H O P). stops s) is, ap (λ (s : Seat H O P). changes s) is, ap (λ (s : Seat H O P). made_by s) is);
 }
 
 -- what two calls keep of it, one after the other
-pub keeps-on : {H N : Type 0} {O : Ghosts H} {P : Places H} (old mid new : Seat H N O P) → KeepsSeat old mid → KeepsSeat mid new → KeepsSeat old new
+pub keeps-on : {H : Type 0} {O : Ghosts H} {P : Places H} (old mid new : Seat H O P) → KeepsSeat old mid → KeepsSeat mid new → KeepsSeat old new
 keeps-on old mid new first second = record {
   desk = second.desk ∙ first.desk;
   number = second.number ∙ first.number;

@@ -7,9 +7,9 @@ use Rattle.jb_book.specs.declared.origin.Origin.{Ghosts}
 use Rattle.jb_board.specs.declared.place.Place.{Ghosts as Places}
 
 -- the board of the desk, which tells it from every other
-abbrev pub desk_id : {D C H N : Type 0} {Q : Disks D} {O : Ghosts H} {P : Places H} → Desk D C H N Q O P → BoardId
+abbrev pub desk_id : {D C H : Type 0} {Q : Disks D} {O : Ghosts H} {P : Places H} → Desk D C H Q O P → BoardId
 desk_id d = board_id d.board.board
 
 -- the shape of the journal
-abbrev pub shape_in : {D C H N : Type 0} {Q : Disks D} {O : Ghosts H} {P : Places H} → Desk D C H N Q O P → Shape
+abbrev pub shape_in : {D C H : Type 0} {Q : Disks D} {O : Ghosts H} {P : Places H} → Desk D C H Q O P → Shape
 shape_in d = d.shape

@@ -14,7 +14,7 @@ use Rattle.jb_desk.specs.declared.fault.StopFault.{StopFault}
 use Rattle.jb_desk.specs.declared.fault.StopFault.TheVariants.{Aborted, NotOpen, Memory}
 
 -- with `Aborted` the seat of the handle, which is lost; otherwise the handle as it was
-abbrev pub HandsBack : {H N : Type 0} {O : Ghosts H} {P : Places H} → Handle (Seat H N O P) → StopFault H N O P → Type 0
+abbrev pub HandsBack : {H : Type 0} {O : Ghosts H} {P : Places H} → Handle (Seat H O P) → StopFault H O P → Type 0
 HandsBack handle (Aborted seat) = seat ≡ holder handle
 HandsBack handle (NotOpen back) = back ≡ handle
 HandsBack handle (Memory back) = back ≡ handle

@@ -18,11 +18,11 @@ use Rattle.jb_desk.specs.declared.seat.Seat.{Seat}
 -- ---- a committer
 
 -- the seat that commits
-abbrev pub seat_of : {H N : Type 0} {O : Ghosts H} {P : Places H} → Committer H N O P → Seat H N O P
+abbrev pub seat_of : {H : Type 0} {O : Ghosts H} {P : Places H} → Committer H O P → Seat H O P
 seat_of c = c.seat
 
 -- the batch that it holds
-abbrev pub held_by : {H N : Type 0} {O : Ghosts H} {P : Places H} → Committer H N O P → Option Gathered
+abbrev pub held_by : {H : Type 0} {O : Ghosts H} {P : Places H} → Committer H O P → Option Gathered
 held_by c = c.batch
 
 -- ---- the book
@@ -79,7 +79,7 @@ AnswersRound old new settled (Err Refused) = StaysHeld old new
 
 -- a round that finds nothing to commit leaves the seat as it was, and has looked at a book in which all that was seen
 -- had stopped
-abbrev pub IdleKeeps : {H N : Type 0} {O : Ghosts H} {P : Places H} → ℕ → Seat H N O P → Seat H N O P
+abbrev pub IdleKeeps : {H : Type 0} {O : Ghosts H} {P : Places H} → ℕ → Seat H O P → Seat H O P
     → Result Round RoundFault → Type 0
 IdleKeeps seen old new (Ok (Idle none)) = (new ≡ old) × (seen ≤ none.seen.stopped)
 IdleKeeps seen old new (Ok (Committed done)) = Unit {0}

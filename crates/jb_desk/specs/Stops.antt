@@ -13,8 +13,8 @@ use Rattle.jb_desk.specs.declared.fault.StopFault.TheVariants.{Aborted, NotOpen,
 
 -- the handle has stopped: its words are queued under the next ticket, and its seat counts it and the homes that it
 -- touched
-pub record IsStopped {H N : Type 0} {O : Ghosts H} {P : Places H} (handle : Handle (Seat H N O P)) (old : Account)
-    (seat : Seat H N O P) (ticket : ℕ) (new : Account) : Type 0 where
+pub record IsStopped {H : Type 0} {O : Ghosts H} {P : Places H} (handle : Handle (Seat H O P)) (old : Account)
+    (seat : Seat H O P) (ticket : ℕ) (new : Account) : Type 0 where
   pub same_number : seat.number ≡ (holder handle).number
   pub same_board : seat.board ≡ (holder handle).board
   pub could : CanStop old seat.number (changes_of handle).words
@@ -24,8 +24,8 @@ pub record IsStopped {H N : Type 0} {O : Ghosts H} {P : Places H} (handle : Hand
   pub counted : AddsStop ticket (changes_of handle) (holder handle) seat
 
 -- why it has not, and what is kept
-abbrev pub RefusesStopOf : {H N : Type 0} {O : Ghosts H} {P : Places H} → Handle (Seat H N O P) → Account
-    → StopFault H N O P → Account → Type 0
+abbrev pub RefusesStopOf : {H : Type 0} {O : Ghosts H} {P : Places H} → Handle (Seat H O P) → Account
+    → StopFault H O P → Account → Type 0
 RefusesStopOf handle old (Aborted seat) new =
     (old.aborted ≡ true) × (seat ≡ holder handle) × (new ≡ dropped_of seat.number old)
 RefusesStopOf handle old (NotOpen back) new =

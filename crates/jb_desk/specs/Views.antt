@@ -27,7 +27,7 @@ with_settled past v = front (max v.settled past) (max v.taken past) (max v.stopp
 
 -- why a wait for this ticket names no group, and what it makes of its seat: where the group's entry was taken the
 -- ticket is settled, and the seat is sure of it; otherwise the seat is as it was
-abbrev pub RefusesWait : {H N : Type 0} {O : Ghosts H} {P : Places H} → ℕ → Seat H N O P → Seat H N O P → WaitFault
+abbrev pub RefusesWait : {H : Type 0} {O : Ghosts H} {P : Places H} → ℕ → Seat H O P → Seat H O P → WaitFault
     → Type 0
 RefusesWait ticket old new wait.Aborted = new ≡ old
 RefusesWait ticket old new wait.Taken = view_of new ≡ with_settled (ticket + 1) (view_of old)

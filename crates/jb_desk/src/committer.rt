@@ -9,14 +9,13 @@ use jb_book::{Origin, Sights};
 use jb_deck::{Done, Prepared};
 use jb_disk::Disk;
 use std::mem;
-use std::sync::ledger::Ledger;
 use thiserror::Error;
 
 /// What is left of a committer that has ended.
 #[must_use]
-pub struct Retired<H: Origin, N: Ledger> {
+pub struct Retired<H: Origin> {
     /// Its seat.
-    pub seat: Seat<H, N>,
+    pub seat: Seat<H>,
     /// That the journal has failed, where the committer held a batch: this is lost.
     pub lost: Option<HasAborted>,
 }
@@ -24,12 +23,12 @@ pub struct Retired<H: Origin, N: Ledger> {
 /// A seat that commits, with the batch that it has taken and could not commit yet. It must be used
 /// up: it retires or gives up, and cannot be dropped by accident.
 #[must_use]
-pub struct Committer<H: Origin, N: Ledger> {
-    pub(crate) seat: Seat<H, N>,
+pub struct Committer<H: Origin> {
+    pub(crate) seat: Seat<H>,
     pub(crate) batch: Option<HeldBatch<H>>,
 }
 
-impl<H: Origin, N: Ledger> Committer<H, N> {
+impl<H: Origin> Committer<H> {
     ghost use Rattle.jb_board.specs.Seats.{given_by};
     ghost use Rattle.jb_desk.specs.BatchOut.{IsOut};
 

@@ -31,7 +31,6 @@ use jb_deck::Deck;
 use jb_disk::{Clock, Disk};
 use jb_handle::{Handle, Shape};
 use std::alloc::Global;
-use std::sync::ledger::{Blank, Ledger};
 use std::sync::{Mutex, Wait};
 
 /// The desk of a journal (`journal_t` as threads share it), at which any number of threads begin, change and
@@ -39,8 +38,8 @@ use std::sync::{Mutex, Wait};
 /// two locks, one for the book of handles and one for the journal, and none of its calls holds the first while
 /// the disk is at work.
 #[derive(Drop)]
-pub struct Desk<D: Disk, C: Clock, H: Origin, N: Ledger> {
-    queue: Mutex<QueueState<D, H, N>>,
+pub struct Desk<D: Disk, C: Clock, H: Origin> {
+    queue: Mutex<QueueState<D, H>>,
     journal: Mutex<JournalState<D, C, H>>,
     signals: Signals,
     fair_queue: FairQueue,
@@ -51,7 +50,7 @@ pub struct Desk<D: Disk, C: Clock, H: Origin, N: Ledger> {
     alloc: Global,
 }
 
-impl<D: Disk, C: Clock, H: Origin, N: Ledger> Desk<D, C, H, N> {
+impl<D: Disk, C: Clock, H: Origin> Desk<D, C, H> {
     ghost use Rattle.jb_desk.specs.Desks.{desk_id, shape_in};
     ghost use Rattle.jb_desk.specs.Seats.{CountsStop, KeepsSeat, stops, changes, made_by};
     ghost use Rattle.jb_desk.specs.Seats.{desk_of, view_of, stops_left, changes_left, made_left};
@@ -63,35 +62,32 @@ impl<D: Disk, C: Clock, H: Origin, N: Ledger> Desk<D, C, H, N> {
     ghost use Rattle.jb_desk.specs.Views.{with_settled, RefusesWait};
 
     /// A desk over a journal that has committed nothing yet and has not failed. `handles` is a new ledger,
-    /// in which the handles that stop are counted, with a new history of them, and `changes` a new ledger,
-    /// in which the blocks that they touched are; `marks` is a new history of the journal as it is now, after each
-    /// round of a committer and after each read.
+    /// in which the handles that stop are counted, with a new history of them; `marks` is a new history of the journal
+    /// as it is now, after each round of a committer and after each read.
     /// What is promised of the disk from now on is said of the start that the caller picks (`H.begun`).
     ///
     /// # Errors
     ///
-    /// All five parts, where there is no memory for the board.
+    /// All four parts, where there is no memory for the board.
     pub fn start(
         alloc: Global,
         handles: StopLedger,
-        changes: Blank,
         marks: NewHistory<Deck<D>>,
         deck: Deck<D>,
         clock: C,
-    ) -> Result<Desk<D, C, H, N>, (StopLedger, Blank, NewHistory<Deck<D>>, Deck<D>, C)>
+    ) -> Result<Desk<D, C, H>, (StopLedger, NewHistory<Deck<D>>, Deck<D>, C)>
         requires handles { (handles.tickets.name ≡ H.name) × (handles.tickets.parts ≡ H.parts)
             × (H.parts ≡ 2 ^ 61 + 1) }
         requires histories { (history_in handles ≡ H.history) × (history_id marks ≡ H.marks) }
-        requires changes { (changes.name ≡ N.name) × (changes.parts ≡ N.parts) × (N.parts ≡ 2 ^ 61 + 1) }
         requires fresh { deck.trail ≡ [] }
         requires running { deck.aborted ≡ false }
         requires begun { IsSince D.Disk H.begun deck }
         /// A desk that is started has the journal's shape.
         ensures shape { IfOk result (λ desk. shape_in desk ≡ deck.shape) }
-        ensures back { IfErr result (λ back. back ≡ (handles, changes, marks, deck, clock)) }
+        ensures back { IfErr result (λ back. back ≡ (handles, marks, deck, clock)) }
     {
         let Ok((board, _)) = Board::new(alloc) else {
-            return Err((handles, changes, marks, deck, clock));
+            return Err((handles, marks, deck, clock));
         };
         let shape = deck.shape();
         let StopLedger { tickets, history } = handles;
@@ -102,7 +98,7 @@ impl<D: Disk, C: Clock, H: Origin, N: Ledger> Desk<D, C, H, N> {
         let seen = histories.mark(&mut marking, &deck);
         let register = Register::new(alloc, shape, u64::from(deck.usable()), appender, seen);
         Ok(Desk {
-            queue: Mutex::new(QueueState::new(register, tickets, changes)),
+            queue: Mutex::new(QueueState::new(register, tickets)),
             journal: Mutex::new(JournalState::new(deck, clock, prefix, marking)),
             signals: Signals::new(),
             fair_queue: FairQueue::new(),
@@ -119,7 +115,7 @@ impl<D: Disk, C: Clock, H: Origin, N: Ledger> Desk<D, C, H, N> {
     /// # Errors
     ///
     /// `Closed` where the desk is shut, or where 2^61 seats were given.
-    pub fn seat<R: Wait>(&self, rt: &R) -> Result<Seat<H, N>, SeatFault>
+    pub fn seat<R: Wait>(&self, rt: &R) -> Result<Seat<H>, SeatFault>
         /// A seat is of its desk, has stopped nothing and knows of nothing. [But
         /// see](docs/WRONG_BODIES.md#the-calls-of-a-desk).
         ensures { IfOk result (λ seat. (desk_of seat ≡ desk_id self.now) × (stops seat ≡ 0) × (changes seat ≡ 0)
@@ -131,7 +127,7 @@ impl<D: Disk, C: Clock, H: Origin, N: Ledger> Desk<D, C, H, N> {
     }
 
     /// A seat leaves. A handle that the book still lists for it is dropped.
-    pub fn leave<R: Wait>(&self, rt: &R, seat: Seat<H, N>) -> Left<H, N>
+    pub fn leave<R: Wait>(&self, rt: &R, seat: Seat<H>) -> Left<H>
         /// A seat that leaves gives what it has counted, and its stops. [But
         /// see](docs/WRONG_BODIES.md#the-calls-of-a-desk).
         ensures { (stops_left result ≡ stops seat) × (changes_left result ≡ changes seat)
@@ -158,9 +154,9 @@ impl<D: Disk, C: Clock, H: Origin, N: Ledger> Desk<D, C, H, N> {
     pub fn begin<R: Wait>(
         &self,
         rt: &R,
-        seat: Seat<H, N>,
+        seat: Seat<H>,
         credits: u32,
-    ) -> Result<Handle<Seat<H, N>>, (Seat<H, N>, BeginFault)>
+    ) -> Result<Handle<Seat<H>>, (Seat<H>, BeginFault)>
         /// With `refused`: A handle that is begun is untouched, with these credits, and has the seat; credits that are
         /// too many are more than the number that is named. [But see](docs/WRONG_BODIES.md#the-calls-of-a-desk).
         ensures ok { IfOk result (λ handle. (holder handle ≡ seat)
@@ -174,7 +170,7 @@ impl<D: Disk, C: Clock, H: Origin, N: Ledger> Desk<D, C, H, N> {
     }
 
     /// A handle stops (`jbd2_journal_stop`): its changes wait to be committed, under the ticket that is
-    /// given with its seat. The seat's shares count it, and the blocks that it touched. Its words are some
+    /// given with its seat. The seat counts it, and the blocks that it touched. Its words are some
     /// with which a handle may stop (`H.begun`). The ticket is higher than those of all handles that were seen, and
     /// this one is seen then.
     ///
@@ -186,8 +182,8 @@ impl<D: Disk, C: Clock, H: Origin, N: Ledger> Desk<D, C, H, N> {
         &self,
         rt: &R,
         seen: &mut Sights<D, H>,
-        handle: Handle<Seat<H, N>>,
-    ) -> Result<(Seat<H, N>, u64), StopFault<H, N>>
+        handle: Handle<Seat<H>>,
+    ) -> Result<(Seat<H>, u64), StopFault<H>>
         requires seat { desk_of (holder handle) ≡ desk_id self.now }
         requires words { H.begun.stops (changes_of handle).words }
         /// With `refused`: A stop is one more of its seat's, with the ticket that is answered and the handle's words,
@@ -214,7 +210,7 @@ impl<D: Disk, C: Clock, H: Origin, N: Ledger> Desk<D, C, H, N> {
     }
 
     /// A handle is dropped with all of its changes. Gives its seat back.
-    pub fn abandon<R: Wait>(&self, rt: &R, handle: Handle<Seat<H, N>>) -> Seat<H, N>
+    pub fn abandon<R: Wait>(&self, rt: &R, handle: Handle<Seat<H>>) -> Seat<H>
         /// A handle that is dropped gives its seat back. [But see](docs/WRONG_BODIES.md#the-calls-of-a-desk).
         ensures { result ≡ holder handle }
     {
@@ -224,7 +220,7 @@ impl<D: Disk, C: Clock, H: Origin, N: Ledger> Desk<D, C, H, N> {
     }
 
     /// How far the handles have come. It waits for nobody, and never falls for the same seat.
-    pub fn front(&self, seat: &mut Seat<H, N>) -> Front
+    pub fn front(&self, seat: &mut Seat<H>) -> Front
         requires { desk_of seat.old ≡ desk_id self.now }
         ensures seat { KeepsSeat seat.old seat.new }
         ensures view { view_of seat.new ≡ result }
@@ -248,7 +244,7 @@ impl<D: Disk, C: Clock, H: Origin, N: Ledger> Desk<D, C, H, N> {
     pub fn wait<R: Wait>(
         &self,
         rt: &R,
-        seat: &mut Seat<H, N>,
+        seat: &mut Seat<H>,
         seen: &mut Sights<D, H>,
         ticket: u64,
     ) -> Result<u32, WaitFault>

@@ -2,7 +2,6 @@ use crate::seat::Seat;
 use jb_book::Origin;
 use jb_handle::Handle;
 use std::fmt;
-use std::sync::ledger::Ledger;
 use thiserror::Error;
 
 /// A desk that is shut gives no seats, nor does one that gave 2^61.
@@ -15,17 +14,17 @@ pub enum SeatFault {
 
 /// Why a desk does not stop a handle.
 #[must_use]
-pub enum StopFault<H: Origin, N: Ledger> {
+pub enum StopFault<H: Origin> {
     /// The journal has failed. The handle is dropped with all of its changes; here is its seat.
-    Aborted(Seat<H, N>),
+    Aborted(Seat<H>),
     /// The book lists no open handle of the seat, or the words are not within its credits or do not
     /// fit the shape. Here is the handle.
-    NotOpen(Handle<Seat<H, N>>),
+    NotOpen(Handle<Seat<H>>),
     /// There was no memory for the handle in the queue. Here it is.
-    Memory(Handle<Seat<H, N>>),
+    Memory(Handle<Seat<H>>),
 }
 
-impl<H: Origin, N: Ledger> fmt::Display for StopFault<H, N> {
+impl<H: Origin> fmt::Display for StopFault<H> {
     fn fmt<W: fmt::Write>(&self, f: &mut fmt::Formatter<W>) -> fmt::Result {
         match self {
             StopFault::Aborted(_) => write!(

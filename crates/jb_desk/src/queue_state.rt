@@ -27,21 +27,18 @@ use jb_handle::Words;
 pub use nothing_to_take::NothingToTake;
 pub(crate) use progress::Progress;
 use std::sync::ledger;
-use std::sync::ledger::{Blank, Ledger, Share};
+use std::sync::ledger::{Blank, Share};
 
 /// The most seats of a desk.
 const MOST: u64 = 1 << 61;
 
 /// What the first lock of a desk guards: the book with the history of its stops and what was seen of the marks, and the
-/// ledgers in which the handles that stopped and the blocks that they touched are counted. Of each ledger the parts
-/// that no seat has are spare.
+/// ledger in which the handles that stopped are counted, of which the parts that no seat has are spare.
 #[derive(Drop)]
-pub(crate) struct QueueState<D: Disk, H: Origin, N: Ledger> {
+pub(crate) struct QueueState<D: Disk, H: Origin> {
     register: Register<D, H>,
     handles: ledger::Book<H>,
-    changes: ledger::Book<N>,
     spare_handles: Share<H>,
-    spare_changes: Share<N>,
     /// how many seats were given
     given: u64,
     /// how many handles a committer puts its round off for
@@ -51,15 +48,12 @@ pub(crate) struct QueueState<D: Disk, H: Origin, N: Ledger> {
     /// whether an odd number of batches was taken
     is_odd: bool,
     ghost handles_counted: { handles.total ≡ register.book.shadow.next },
-    ghost changes_counted: { changes.total ≡ register.book.changes },
     ghost handles_left: { spare_handles.parts + given ≡ ledger_parts },
-    ghost changes_left: { spare_changes.parts + given ≡ ledger_parts },
     ghost no_handles: { spare_handles.amount ≡ 0 },
-    ghost no_changes: { spare_changes.amount ≡ 0 },
     ghost few: { given < ledger_parts },
 }
 
-impl<D: Disk, H: Origin, N: Ledger> QueueState<D, H, N> {
+impl<D: Disk, H: Origin> QueueState<D, H> {
     ghost use Rattle.jb_book.specs.Account.{dropped_of};
     ghost use Rattle.jb_desk.specs.Refusals.{unsettled_fault};
     ghost use Rattle.jb_book.specs.Account.{AnswersNumber, IsAwaited};
@@ -67,21 +61,17 @@ impl<D: Disk, H: Origin, N: Ledger> QueueState<D, H, N> {
     ghost use Rattle.jb_desk.specs.Seats.{stops, changes, made_by, stops_left, changes_left, made_left};
     ghost use Rattle.jb_board.specs.Seats.{given_by};
 
-    /// A book of which nobody has asked anything, with its history, and two ledgers in which nothing is counted.
-    pub fn new(register: Register<D, H>, handles: Blank, changes: Blank) -> QueueState<D, H, N>
+    /// A book of which nobody has asked anything, with its history, and a ledger in which nothing is counted.
+    pub fn new(register: Register<D, H>, handles: Blank) -> QueueState<D, H>
         requires handles { (handles.name ≡ H.name) × (handles.parts ≡ H.parts) × (H.parts ≡ ledger_parts) }
-        requires changes { (changes.name ≡ N.name) × (changes.parts ≡ N.parts) × (N.parts ≡ ledger_parts) }
-        requires fresh { (register.book.shadow.next ≡ 0) × (register.book.changes ≡ 0) }
+        requires fresh { register.book.shadow.next ≡ 0 }
         ensures { result.register ≡ register }
     {
         let (handles, spare_handles) = handles.open::<H>();
-        let (changes, spare_changes) = changes.open::<N>();
         QueueState {
             register,
             handles,
-            changes,
             spare_handles,
-            spare_changes,
             given: 0,
             wanted: 0,
             is_room_wanted: false,
@@ -91,7 +81,7 @@ impl<D: Disk, H: Origin, N: Ledger> QueueState<D, H, N> {
 
     /// One more seat, with this place at the board. `None` where the book is shut, or where 2^61 seats
     /// were given.
-    pub fn seat(&mut self, board: BoardSeat, made: OwnEntries<Words, H>) -> Option<Seat<H, N>>
+    pub fn seat(&mut self, board: BoardSeat, made: OwnEntries<Words, H>) -> Option<Seat<H>>
         requires { made ≡ [] }
         ensures seat { IfSome result (λ seat. (seat.board ≡ board) × (stops seat ≡ 0) × (changes seat ≡ 0)
             × (made_by seat ≡ [])) }
@@ -107,24 +97,21 @@ impl<D: Disk, H: Origin, N: Ledger> QueueState<D, H, N> {
         let number = self.given;
         let QueueState {
             spare_handles,
-            spare_changes,
             given,
             ..
         } = self;
         let handles = spare_handles.split_off(1, 0);
-        let changes = spare_changes.split_off(1, 0);
         *given += 1;
         Some(Seat {
             number,
             board,
             handles,
-            changes,
             made,
         })
     }
 
     /// A seat leaves. A handle that the book still lists for it is dropped.
-    pub fn leave(&mut self, seat: Seat<H, N>) -> Left<H, N>
+    pub fn leave(&mut self, seat: Seat<H>) -> Left<H>
         ensures left { (stops_left result ≡ stops seat) × (changes_left result ≡ changes seat)
             × (made_left result ≡ made_by seat) }
         ensures book { self.new.register.book ≡ dropped_of seat.number self.old.register.book }
@@ -133,15 +120,10 @@ impl<D: Disk, H: Origin, N: Ledger> QueueState<D, H, N> {
             number,
             board: _,
             handles,
-            changes,
             made,
         } = seat;
         self.register.drop_open(number);
-        Left {
-            handles,
-            changes,
-            made,
-        }
+        Left { handles, made }
     }
 
     /// From now on no seat is given and no handle is begun.

@@ -14,10 +14,10 @@ use Rattle.jb_book.specs.Marks.{SeesStop}
 use Rattle.jb_book.specs.declared.origin.Origin.{Ghosts}
 use Rattle.jb_book.specs.declared.sights.Sights.{Sights}
 use Rattle.jb_desk.specs.Seats.{made_by}
+use Rattle.jb_desk.specs.declared.seat.Seat.{Seat}
 use Rattle.jb_journal.specs.Change.{AnswersChange, IsCalled, IsChanged, SeesChange, StopsWith}
 use Rattle.jb_journal.specs.Client.{made_from}
 use Rattle.jb_journal.specs.Notes.{Stop}
-use Rattle.jb_journal.specs.declared.counted.CountedSeat.{CountedSeat}
 use Rattle.jb_journal.specs.declared.fault.HandleFault.{HandleFault}
 use Rattle.jb_journal.specs.declared.fault.HandleFault.TheVariants.{Begin, Refused, Aborted, NotOpen, Memory}
 
@@ -43,6 +43,6 @@ sees-stop before after old new answer ticket words made sees marks = record {
 }
 
 -- a client knows its own handles, once its seat is put back
-pub own-again : {D H N : Type 0} {O : Ghosts H} {P : Places H} (seen after last : Sights D H) (old new : Option (CountedSeat H N O P)) (seat back : CountedSeat H N O P) → old ≡ Some seat → new ≡ Some back → last ≡ after
-    → (All (StandsIn seen.stops) (made_by seat.seat) → All (StandsIn after.stops) (made_by back.seat)) → All (StandsIn seen.stops) (made_from old) → All (StandsIn last.stops) (made_from new)
+pub own-again : {D H : Type 0} {O : Ghosts H} {P : Places H} (seen after last : Sights D H) (old new : Option (Seat H O P)) (seat back : Seat H O P) → old ≡ Some seat → new ≡ Some back → last ≡ after
+    → (All (StandsIn seen.stops) (made_by seat) → All (StandsIn after.stops) (made_by back)) → All (StandsIn seen.stops) (made_from old) → All (StandsIn last.stops) (made_from new)
 own-again seen after last old new seat back taken put same own each = rw (put, same) (own (rw taken at each))

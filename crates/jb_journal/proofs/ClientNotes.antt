@@ -46,7 +46,7 @@ pub sees-trans : {D S : Type 0} (one two three : Sights D S) → SeesMore one tw
 sees-trans one two three p q = (first-trans one.stops two.stops three.stops p.0 q.0, first-trans one.marks two.marks three.marks p.1 q.1)
 
 -- a client that has seen more goes on, at the same desk of the same run
-pub goes-on : {D C R H N : Type 0} {Q : Ghosts D} {O : OriginGhosts H} {P : Places H} (old new : Client D C R H N Q O P) → new.desk ≡ old.desk → new.commits ≡ old.commits → SeesMore old.seen new.seen → ClientGoesOn old new
+pub goes-on : {D C R H : Type 0} {Q : Ghosts D} {O : OriginGhosts H} {P : Places H} (old new : Client D C R H Q O P) → new.desk ≡ old.desk → new.commits ≡ old.commits → SeesMore old.seen new.seen → ClientGoesOn old new
 goes-on {Q = Q} old new same when more = record {
   knows = (more.0, first-notes (note_of Q.moment) old.seen.marks new.seen.marks more.1);
   honest = all-first (λ m. Q.honest m.disk) old.seen.marks new.seen.marks more.1;

@@ -7,14 +7,16 @@ use Rattle.jb_deck.specs.Deck.{OpenDeck}
 use Rattle.jb_disk.specs.declared.disk.Disk.{Ghosts as Disks}
 use Rattle.jb_board.specs.declared.place.Place.{Ghosts as Places}
 use Rattle.jb_journal.specs.Client.{AreHonest}
-use Rattle.jb_journal.specs.Notes.{Known, Stop, changed_by}
+use Rattle.jb_journal.specs.Notes.{Known, Stop}
 use Rattle.jb_journal.specs.Run.{AreAnswers, HaveWorked, answer_of, known_of_worked, marks_of_worked, stops_of_worked, HasThreaded, RanAll}
 use Rattle.jb_journal.specs.declared.threads.WorkerResult.{WorkerResult}
 use Rattle.std.specs.List.{sum_by}
 use Rattle.jb_cost.specs.Pieces.{joined}
 use Rattle.jb_handle.specs.declared.shape.Shape.{Shape}
 use Rattle.jb_deck.specs.declared.done.Entry.{Entry}
+use Rattle.jb_book.specs.Account.{changed_by}
 use Rattle.jb_desk.specs.Seats.{made_left}
+use Rattle.jb_desk.proofs.SeatStops.{sums-joined}
 use Rattle.jb_desk.specs.declared.desk.closing.Closed.{Closed}
 use Rattle.jb_book.specs.History.{CameAbout}
 use Rattle.jb_book.specs.Origin.{Begun}
@@ -47,17 +49,17 @@ all-there (Some x ∷ os) same = ap (λ l. Some x ∷ l) (all-there os (omega (a
 
 -- ---- what all workers answered, from what each leaves
 
-module _ {T D H N : Type 0} {O : Ghosts H} {P : Places H} (G : Disks D) (may : Type 0 → ℕ → ℕ → List Stop → Known → T → Type 0) (workers : ℕ) (answers : List T) (ws : List (WorkerResult T D H N O P)) (worked : HaveWorked G may workers ws) where
-  abbrev stops : WorkerResult T D H N O P → List Stop
+module _ {T D H : Type 0} {O : Ghosts H} {P : Places H} (G : Disks D) (may : Type 0 → ℕ → ℕ → List Stop → Known → T → Type 0) (workers : ℕ) (answers : List T) (ws : List (WorkerResult T D H O P)) (worked : HaveWorked G may workers ws) where
+  abbrev stops : WorkerResult T D H O P → List Stop
   stops w = stops_of_worked w
 
-  abbrev knew : WorkerResult T D H N O P → Known
+  abbrev knew : WorkerResult T D H O P → Known
   knew w = known_of_worked G.moment w
 
-  abbrev saw : WorkerResult T D H N O P → List (OpenDeck D)
+  abbrev saw : WorkerResult T D H O P → List (OpenDeck D)
   saw w = marks_of_worked w
 
-  abbrev told : WorkerResult T D H N O P → Option T
+  abbrev told : WorkerResult T D H O P → Option T
   told w = answer_of w
 
   -- each that was called has answered what it may
@@ -70,14 +72,14 @@ module _ {T D H N : Type 0} {O : Ghosts H} {P : Places H} (G : Disks D) (may : T
     each = λ at none unknown unseen d inside. each at none unknown unseen d inside ws refl;
   }
     where
-      each : (at : ℕ) (none : List Stop) (unknown : Known) (unseen : List (OpenDeck D)) (d : Option T) → at < workers → (xs : List (WorkerResult T D H N O P)) → xs ≡ ws
+      each : (at : ℕ) (none : List Stop) (unknown : Known) (unseen : List (OpenDeck D)) (d : Option T) → at < workers → (xs : List (WorkerResult T D H O P)) → xs ≡ ws
           → IfSome (get_or (map told ws) at d) (may (AreHonest G (get_or (map saw ws) at unseen)) workers at (get_or (map stops ws) at none) (get_or (map knew ws) at unknown))
       each at none unknown unseen d inside [] is = absurd (let none : 0 ≡ workers = ap length is ∙ worked.number in let never : ⊥ = omega arith in never)
       each at none unknown unseen d inside (x ∷ xs) is =
           let lt : at < length ws = omega (arith, inside, worked.number) in
           rw (get_or-map stops ws at x none lt, get_or-map knew ws at x unknown lt, get_or-map saw ws at x unseen lt, get_or-map told ws at x d lt) (worked.each at x inside)
 
-  told-lists : (xs : List (WorkerResult T D H N O P)) → map answers_of xs ≡ map option_to_list (map told xs)
+  told-lists : (xs : List (WorkerResult T D H O P)) → map answers_of xs ≡ map option_to_list (map told xs)
   told-lists [] = refl
   told-lists (x ∷ xs) = ap (λ l. option_to_list (told x) ∷ l) (told-lists xs)
 
@@ -112,31 +114,31 @@ module _ {T D H N : Type 0} {O : Ghosts H} {P : Places H} (G : Disks D) (may : T
 pub since-as : {T D : Type 0} (G : Disks D) (b : Begun) (told : Ran T D) (disk : D) (trail : List Entry) → told.disk ≡ disk → told.trail.items ≡ trail → EndsSince G b disk trail → EndsSince G b told.disk told.trail.items
 since-as {D = D} G b told disk trail same_disk same_trail ends = subst (λ (x : D × List Entry). EndsSince G b x.0 x.1) (λ i. (sym same_disk i, sym same_trail i)) ends
 
-module _ {T D H N : Type 0} {O : Ghosts H} {P : Places H} (G : Disks D) (b : Begun) where
+module _ {T D H : Type 0} {O : Ghosts H} {P : Places H} (G : Disks D) (b : Begun) where
   -- what was told of a desk that was closed
-  pub closed-as : {C : Type 0} (all : ThreadResults T D H N G O P) (told : Ran T D) (closed : Closed D C) → HasEnded G b all.lefts.items all.seen closed
+  pub closed-as : {C : Type 0} (all : ThreadResults T D H O P) (told : Ran T D) (closed : Closed D C) → HasEnded G b all.lefts.items all.seen closed
       → (shape : Shape) → closed.shape ≡ shape → told.disk ≡ closed.disk → told.answers ≡ all.answers → told.handles ≡ closed.handles → told.trail.items ≡ closed.trail.items → told.changes ≡ closed.changes → told.in_log ≡ closed.in_log → (workers : ℕ) → vec_len all.answers ≡ workers → IsClosed G b workers all shape told
   closed-as all told closed ended shape same_shape same_disk same_answers same_handles same_trail same_changes same_log workers number = record {
     answers = same_answers;
     number = ap (λ xs. vec_len xs) same_answers ∙ number;
-    changes = same_changes ∙ ended.changes ∙ all.counted;
+    changes = same_changes ∙ ended.changes ∙ sym (sums-joined made_left changed_by all.lefts.items);
     ends = subst (λ (x : (((ℕ × Shape) × D) × List Entry) × Option ℕ). EndsUsing G b (map (λ l. made_left l) all.lefts.items) x.0.0.0.0 x.0.0.0.1 x.0.0.1 x.0.1 all.seen.stops all.seen.marks x.1)
         (λ i. ((((sym same_handles i, same_shape i), sym same_disk i), sym same_trail i), sym same_log i)) ended.ends;
     came = subst (λ (x : (Shape × D) × List Entry). CameAbout G b (map (λ l. made_left l) all.lefts.items) x.0.0 x.0.1 x.1) (λ i. ((same_shape i, sym same_disk i), sym same_trail i)) ended.came;
   }
 
   -- what was run
-  pub ran-all : (may : Type 0 → ℕ → ℕ → List Stop → Known → T → Type 0) (workers : ℕ) (ran : Threaded T D H N O P) (all : ThreadResults T D H N G O P) → HasThreaded G may workers ran → IsGatheredFrom ran all
+  pub ran-all : (may : Type 0 → ℕ → ℕ → List Stop → Known → T → Type 0) (workers : ℕ) (ran : Threaded T D H O P) (all : ThreadResults T D H O P) → HasThreaded G may workers ran → IsGatheredFrom ran all
       → (shape : Shape) (told : Ran T D) → IsClosed G b workers all shape told → RanAll G b may workers shape told
   ran-all may workers ran all has gathered shape told closed =
       let ws = ran.workers.items in
-      let stopped : List (List Stop) = map (λ (w : WorkerResult T D H N O P). stops_of_worked w) ws in
+      let stopped : List (List Stop) = map (λ (w : WorkerResult T D H O P). stops_of_worked w) ws in
       let made : joined (map made_left all.lefts.items) ≡ joined stopped = gathered.stops ∙ ap (λ xs. xs ++ joined stopped) has.committed in
-      let ends = ends-known G b _ stopped told.handles shape told.disk told.trail.items made (λ (w : WorkerResult T D H N O P). w.seen) ws all.seen told.in_log closed.ends gathered.seen in
+      let ends = ends-known G b _ stopped told.handles shape told.disk told.trail.items made (λ (w : WorkerResult T D H O P). w.seen) ws all.seen told.in_log closed.ends gathered.seen in
       record {
         stopped = stopped;
-        known = map (λ (w : WorkerResult T D H N O P). known_of_worked G.moment w) ws;
-        seen = map (λ (w : WorkerResult T D H N O P). marks_of_worked w) ws;
+        known = map (λ (w : WorkerResult T D H O P). known_of_worked G.moment w) ws;
+        seen = map (λ (w : WorkerResult T D H O P). marks_of_worked w) ws;
         answers = are-answers G may workers told.answers.items ws has.worked (ap (λ xs. xs.items) closed.answers ∙ gathered.answers) (let number = closed.number in omega (arith, number));
         changes = closed.changes ∙ ap (sum_by changed_by) made;
         ends = ends.0;
@@ -148,27 +150,27 @@ module _ {T D H N : Type 0} {O : Ghosts H} {P : Places H} (G : Disks D) (b : Beg
       }
 
   -- what stands where there is no whole answer
-  pub stands-of : (may : Type 0 → ℕ → ℕ → List Stop → Known → T → Type 0) (workers : ℕ) (ran : Threaded T D H N O P) (all : ThreadResults T D H N G O P) → HasThreaded G may workers ran → IsGatheredFrom ran all
+  pub stands-of : (may : Type 0 → ℕ → ℕ → List Stop → Known → T → Type 0) (workers : ℕ) (ran : Threaded T D H O P) (all : ThreadResults T D H O P) → HasThreaded G may workers ran → IsGatheredFrom ran all
       → (back : NotRun T D) → back.answers ≡ all.answers → EndsSeen G b back.disk all.seen.stops all.seen.marks → StandsOf G b may workers back.disk back.answers.items
   stands-of may workers ran all has gathered back same ends =
       let ws = ran.workers.items in
       record {
-        stopped = map (λ (w : WorkerResult T D H N O P). stops_of_worked w) ws;
-        known = map (λ (w : WorkerResult T D H N O P). known_of_worked G.moment w) ws;
-        seen = map (λ (w : WorkerResult T D H N O P). marks_of_worked w) ws;
-        told = map (λ (w : WorkerResult T D H N O P). answer_of w) ws;
+        stopped = map (λ (w : WorkerResult T D H O P). stops_of_worked w) ws;
+        known = map (λ (w : WorkerResult T D H O P). known_of_worked G.moment w) ws;
+        seen = map (λ (w : WorkerResult T D H O P). marks_of_worked w) ws;
+        told = map (λ (w : WorkerResult T D H O P). answer_of w) ws;
         answers = are-told G may workers back.answers.items ws has.worked;
         same_answers = are-there G may workers back.answers.items ws has.worked (ap (λ xs. xs.items) same ∙ gathered.answers);
         log = ends.log;
         deck = ends.deck;
         same_disk = ends.same_disk;
         since = ends.since;
-        last = all-known G b ends.log ends.since.given ends.since.bounds ends.deck back.disk ends.deck.trail ends.same_disk refl (λ (w : WorkerResult T D H N O P). w.seen) ws all.seen ends.knows ends.last gathered.seen;
-        honest = all-honest G b ends.log ends.since.given ends.since.bounds ends.deck back.disk ends.deck.trail ends.same_disk refl (λ (w : WorkerResult T D H N O P). w.seen) ws all.seen ends.knows ends.last gathered.seen;
+        last = all-known G b ends.log ends.since.given ends.since.bounds ends.deck back.disk ends.deck.trail ends.same_disk refl (λ (w : WorkerResult T D H O P). w.seen) ws all.seen ends.knows ends.last gathered.seen;
+        honest = all-honest G b ends.log ends.since.given ends.since.bounds ends.deck back.disk ends.deck.trail ends.same_disk refl (λ (w : WorkerResult T D H O P). w.seen) ws all.seen ends.knows ends.last gathered.seen;
       }
 
   -- why there is none
-  pub stops-at : (may : Type 0 → ℕ → ℕ → List Stop → Known → T → Type 0) (workers : ℕ) (ran : Threaded T D H N O P) (all : ThreadResults T D H N G O P) → HasThreaded G may workers ran → IsGatheredFrom ran all
+  pub stops-at : (may : Type 0 → ℕ → ℕ → List Stop → Known → T → Type 0) (workers : ℕ) (ran : Threaded T D H O P) (all : ThreadResults T D H O P) → HasThreaded G may workers ran → IsGatheredFrom ran all
       → (given_up : Bool) (commits : Commits) → (given_up ≡ true → commits ≡ Meanwhile) → (back : NotRun T D) → IsUntold G b all given_up back → StopsAtDesk G b commits may workers back
   stops-at may workers ran all has gathered given_up commits only back untold = ⊎_elim
       (λ is. inl (is, stands-of may workers ran all has gathered back untold.same_answers untold.ends))
@@ -176,7 +178,7 @@ module _ {T D H N : Type 0} {O : Ghosts H} {P : Places H} (G : Disks D) (b : Beg
       untold.why
 
   -- what is not told of a desk that was closed
-  pub untold-as : {C : Type 0} (all : ThreadResults T D H N G O P) (closed : Closed D C) → HasEnded G b all.lefts.items all.seen closed → (given_up : Bool) (back : NotRun T D) → IsNotTold closed all.answers given_up back → IsUntold G b all given_up back
+  pub untold-as : {C : Type 0} (all : ThreadResults T D H O P) (closed : Closed D C) → HasEnded G b all.lefts.items all.seen closed → (given_up : Bool) (back : NotRun T D) → IsNotTold closed all.answers given_up back → IsUntold G b all given_up back
   untold-as all closed ended given_up back not = record {
     same_answers = not.same_answers;
     ends = seen-of G b _ closed.handles closed.shape closed.disk closed.trail.items all.seen.stops all.seen.marks ended.ends.marked back.disk not.same_disk;

@@ -1,6 +1,5 @@
 -- What a client knows of its journal: the handles that have stopped, and what was committed when.
 use Rattle.std.specs.Prelude.{◌≡◌, ℕ, suc, ◌<◌, ◌≤◌, All, List, length}
-use Rattle.std.specs.FinMap as map
 use Rattle.jb_disk.specs.Image.{Image}
 use Rattle.jb_disk.specs.declared.disk.Disk.{Ghosts}
 use Rattle.jb_handle.specs.Tickets.{TicketsFrom}
@@ -23,10 +22,6 @@ use Rattle.jb_desk.specs.declared.fault.WaitFault.TheVariants as wait
 -- a handle that stopped: its ticket and its words
 abbrev pub Stop : Type 0
 Stop = ℕ × WordMap
-
--- how many home blocks a handle that stopped has changed: it has a word for each
-abbrev pub changed_by : Stop → ℕ
-changed_by stop = map.len stop.1
 
 -- What is noted of a journal at one time: the moment, and the transactions that were committed by then, without those
 -- that had been taken from the trail

@@ -15,16 +15,17 @@ use Rattle.jb_desk.specs.declared.ended.Ended.TheVariants as ended
 use Rattle.jb_book.specs.History.{CameAbout, EndsWith}
 use Rattle.jb_book.specs.Origin.{Begun}
 use Rattle.jb_book.specs.AtHome.{AreHome, log_used}
+use Rattle.jb_book.specs.Account.{changed_by}
 use Rattle.jb_desk.specs.Seats.{made_by, made_left}
+use Rattle.jb_desk.specs.declared.seat.Left.{Left}
+use Rattle.jb_desk.specs.declared.seat.Seat.{Seat}
 use Rattle.jb_book.specs.declared.origin.Origin.{Ghosts}
 use Rattle.jb_board.specs.declared.place.Place.{Ghosts as Places}
 use Rattle.jb_book.specs.Marks.{SeesMore}
 use Rattle.jb_book.specs.OpenDisk.{WasOpened}
 use Rattle.jb_book.specs.declared.sights.Sights.{Sights}
 use Rattle.jb_journal.specs.Client.{AreHonest, known_in}
-use Rattle.jb_journal.specs.Notes.{Known, KnownLasts, Stop, changed_by}
-use Rattle.jb_journal.specs.declared.counted.CountedLeft.{CountedLeft}
-use Rattle.jb_journal.specs.declared.counted.CountedSeat.{CountedSeat}
+use Rattle.jb_journal.specs.Notes.{Known, KnownLasts, Stop}
 use Rattle.jb_journal.specs.declared.fault.NotDurable.{NotDurable}
 use Rattle.jb_journal.specs.declared.fault.NotDurable.TheVariants.{NotSettled, NotHome}
 use Rattle.jb_journal.specs.declared.ran.Ran.{Ran}
@@ -45,37 +46,37 @@ pub record AreAnswers {T D : Type 0} (G : Disks D) (may : Type 0 → ℕ → ℕ
       (slice_index_or known at unknown) (slice_index_or answers at d)
 
 -- the handles that stopped with a seat that has left, where there was one
-abbrev pub stops_left_by : {H N : Type 0} {O : Ghosts H} {P : Places H} → Option (CountedLeft H N O P) → List Stop
+abbrev pub stops_left_by : {H : Type 0} {O : Ghosts H} {P : Places H} → Option (Left H O P) → List Stop
 stops_left_by None = []
-stops_left_by (Some counted) = made_left counted.left
+stops_left_by (Some left) = made_left left
 
-module _ {T D H N : Type 0} {O : Ghosts H} {P : Places H} where
+module _ {T D H : Type 0} {O : Ghosts H} {P : Places H} where
   -- what a worker answered
-  abbrev pub answer_of : WorkerResult T D H N O P → Option T
+  abbrev pub answer_of : WorkerResult T D H O P → Option T
   answer_of w = w.answer
 
   -- the handles that a worker's client has stopped
-  abbrev pub stops_of_worked : WorkerResult T D H N O P → List Stop
+  abbrev pub stops_of_worked : WorkerResult T D H O P → List Stop
   stops_of_worked w = stops_left_by w.left
 
   -- what a worker's client knew of the journal
-  abbrev pub known_of_worked : (D → ℕ) → WorkerResult T D H N O P → Known
+  abbrev pub known_of_worked : (D → ℕ) → WorkerResult T D H O P → Known
   known_of_worked moment w = known_in moment w.seen
 
   -- what a worker's client had seen of the marks
-  abbrev pub marks_of_worked : WorkerResult T D H N O P → List (OpenDeck D)
+  abbrev pub marks_of_worked : WorkerResult T D H O P → List (OpenDeck D)
   marks_of_worked w = w.seen.marks
 
   -- all that a worker's client has seen is seen, and perhaps more
-  abbrev pub HasAllSeen : Sights D H → WorkerResult T D H N O P → Type 0
+  abbrev pub HasAllSeen : Sights D H → WorkerResult T D H O P → Type 0
   HasAllSeen seen w = SeesMore w.seen seen
 
   -- the worker was not called
-  abbrev pub HasNotWorked : WorkerResult T D H N O P → Type 0
+  abbrev pub HasNotWorked : WorkerResult T D H O P → Type 0
   HasNotWorked w = w.answer ≡ None
 
   -- the worker at this place of this many has answered what it may, if it was called
-  abbrev pub HasWorked : Disks D → (Type 0 → ℕ → ℕ → List Stop → Known → T → Type 0) → ℕ → ℕ → WorkerResult T D H N O P
+  abbrev pub HasWorked : Disks D → (Type 0 → ℕ → ℕ → List Stop → Known → T → Type 0) → ℕ → ℕ → WorkerResult T D H O P
       → Type 0
   HasWorked G may workers at w =
       IfSome (answer_of w) (may (AreHonest G (marks_of_worked w)) workers at (stops_of_worked w)
@@ -83,29 +84,29 @@ module _ {T D H N : Type 0} {O : Ghosts H} {P : Places H} where
 
   -- each of this many workers has
   pub record HaveWorked (G : Disks D) (may : Type 0 → ℕ → ℕ → List Stop → Known → T → Type 0) (workers : ℕ)
-      (ran : List (WorkerResult T D H N O P)) : Type 0 where
+      (ran : List (WorkerResult T D H O P)) : Type 0 where
     pub number : length ran ≡ workers
-    pub each : (at : ℕ) (d : WorkerResult T D H N O P) → at < workers
+    pub each : (at : ℕ) (d : WorkerResult T D H O P) → at < workers
         → HasWorked G may workers at (slice_index_or ran at d)
 
   -- the workers have answered, and the committer has stopped no handle
   pub record HasThreaded (G : Disks D) (may : Type 0 → ℕ → ℕ → List Stop → Known → T → Type 0) (workers : ℕ)
-      (ran : Threaded T D H N O P) : Type 0 where
+      (ran : Threaded T D H O P) : Type 0 where
     pub worked : HaveWorked G may workers ran.workers.items
     pub committed : stops_left_by ran.committer ≡ []
 
 -- the handles that stopped with the committer's seat, which has left, where there was one
-abbrev pub committed_stops : {H N : Type 0} {O : Ghosts H} {P : Places H} → Option (CountedLeft H N O P × Ended)
+abbrev pub committed_stops : {H : Type 0} {O : Ghosts H} {P : Places H} → Option (Left H O P × Ended)
     → List Stop
 committed_stops None = []
-committed_stops (Some committed) = made_left committed.0.left
+committed_stops (Some committed) = made_left committed.0
 
 -- a seat that was there has left, with what it stopped
-abbrev pub HasLeft : {H N : Type 0} {O : Ghosts H} {P : Places H} → Option (CountedSeat H N O P)
-    → Option (CountedLeft H N O P × Ended) → Type 0
+abbrev pub HasLeft : {H : Type 0} {O : Ghosts H} {P : Places H} → Option (Seat H O P)
+    → Option (Left H O P × Ended) → Type 0
 HasLeft None after = after ≡ None
 HasLeft (Some before) None = ⊥
-HasLeft (Some before) (Some after) = made_left after.0.left ≡ made_by before.seat
+HasLeft (Some before) (Some after) = made_left after.0 ≡ made_by before
 
 -- what is told of a checkpointer, where one was asked for: that the desk is over, or that the journal has failed
 abbrev pub EndsChecked : Bool → Option Ended → Type 0

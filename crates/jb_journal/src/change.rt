@@ -2,22 +2,18 @@
 ghost use Rattle.std.specs.Prelude.{◌≡◌, ◌<◌, IfOk};
 ghost use Rattle.std.specs.FinMap as map;
 ghost use Rattle.std.specs.Fn.{FnOnceReturnsAtMut};
-ghost use Rattle.std.specs.List.{sum_by};
 ghost use Rattle.jb_handle.specs.HeldChanges.{held};
 ghost use Rattle.jb_desk.specs.Desks.{desk_id, shape_in};
-ghost use Rattle.jb_desk.specs.Seats.{changes, made_by, desk_of, view_of};
+ghost use Rattle.jb_desk.specs.Seats.{made_by, desk_of, view_of};
 ghost use Rattle.jb_handle.specs.Handle.{holder, changes_of};
 ghost use Rattle.jb_handle.specs.Word.{WordMap};
 ghost use Rattle.jb_journal.specs.Change.{AnswersChange, SeesChange, StopsWith};
-ghost use Rattle.jb_journal.specs.Notes.{changed_by};
 
-use crate::counted::CountedSeat;
 use crate::fault::HandleFault;
 use jb_desk::{Desk, Origin, Seat, Sights, StopFault};
 use jb_disk::{Clock, Disk};
 use jb_handle::Handle;
 use std::sync::Wait;
-use std::sync::ledger::Ledger;
 use std::time;
 
 /// Begins a handle at a desk, changes home blocks by it, and stops it.
@@ -26,38 +22,36 @@ pub(crate) fn change_at<
     C: Clock,
     R: Wait + time::Clock,
     H: Origin,
-    N: Ledger,
     T: Drop,
     E,
     F: FnOnce(&mut Handle<()>) -> Result<T, E>,
 >(
     rt: &R,
-    desk: &Desk<D, C, H, N>,
+    desk: &Desk<D, C, H>,
     seen: &mut Sights<D, H>,
-    counted: CountedSeat<H, N>,
+    seat: Seat<H>,
     credits: u32,
     change: F,
-) -> (CountedSeat<H, N>, Result<(T, u64), HandleFault<E>>)
-    requires desk { desk_of counted.seat ≡ desk_id desk.now }
+) -> (Seat<H>, Result<(T, u64), HandleFault<E>>)
+    requires desk { desk_of seat ≡ desk_id desk.now }
     requires any { (words : WordMap) → H.begun.stops words }
     requires callable { F.IsAlwaysCallable change }
-    ensures desk { desk_of result.0.seat ≡ desk_id desk.now }
-    ensures changed { AnswersChange F.FnOnce change (held credits (shape_in desk.now) map.empty) (made_by counted.seat)
-        (made_by result.0.seat) result.1 }
-    ensures stopped { IfOk result.1 (λ given. given.1 < (view_of result.0.seat).stopped) }
-    ensures sees { SeesChange (made_by counted.seat) (made_by result.0.seat) seen.old seen.new result.1 }
+    ensures desk { desk_of result.0 ≡ desk_id desk.now }
+    ensures changed { AnswersChange F.FnOnce change (held credits (shape_in desk.now) map.empty) (made_by seat)
+        (made_by result.0) result.1 }
+    ensures stopped { IfOk result.1 (λ given. given.1 < (view_of result.0).stopped) }
+    ensures sees { SeesChange (made_by seat) (made_by result.0) seen.old seen.new result.1 }
 {
-    let CountedSeat { seat } = counted;
     let handle = match desk.begin_waiting(rt, seat, credits) {
         Ok(handle) => handle,
-        Err((seat, fault)) => return (CountedSeat { seat }, Err(HandleFault::Begin(fault))),
+        Err((seat, fault)) => return (seat, Err(HandleFault::Begin(fault))),
     };
     let (seat, mut handle) = handle.with_seat(());
     let answer = call(change, &mut handle);
     let (_, handle) = handle.with_seat(seat);
     match answer {
         Ok(answer) => stop(rt, desk, seen, handle, answer),
-        Err(fault) => (abandon(rt, desk, handle), Err(HandleFault::Refused(fault))),
+        Err(fault) => (desk.abandon(rt, handle), Err(HandleFault::Refused(fault))),
     }
 }
 
@@ -73,40 +67,25 @@ fn call<T, E, F: FnOnce(&mut Handle<()>) -> Result<T, E>>(
 }
 
 /// Stops a handle, or drops it where that is refused.
-fn stop<D: Disk, C: Clock, R: Wait, H: Origin, N: Ledger, T: Drop, E>(
+fn stop<D: Disk, C: Clock, R: Wait, H: Origin, T: Drop, E>(
     rt: &R,
-    desk: &Desk<D, C, H, N>,
+    desk: &Desk<D, C, H>,
     seen: &mut Sights<D, H>,
-    handle: Handle<Seat<H, N>>,
+    handle: Handle<Seat<H>>,
     answer: T,
-) -> (CountedSeat<H, N>, Result<(T, u64), HandleFault<E>>)
+) -> (Seat<H>, Result<(T, u64), HandleFault<E>>)
     requires desk { desk_of (holder handle) ≡ desk_id desk.now }
-    requires counted { changes (holder handle) ≡ sum_by changed_by (made_by (holder handle)) }
     requires any { (words : WordMap) → H.begun.stops words }
-    ensures desk { desk_of result.0.seat ≡ desk_id desk.now }
+    ensures desk { desk_of result.0 ≡ desk_id desk.now }
     ensures answer { StopsWith answer (changes_of handle).words (made_by (holder handle))
-        (made_by result.0.seat) result.1 }
-    ensures stopped { IfOk result.1 (λ given. given.1 < (view_of result.0.seat).stopped) }
-    ensures sees { SeesChange (made_by (holder handle)) (made_by result.0.seat) seen.old seen.new result.1 }
+        (made_by result.0) result.1 }
+    ensures stopped { IfOk result.1 (λ given. given.1 < (view_of result.0).stopped) }
+    ensures sees { SeesChange (made_by (holder handle)) (made_by result.0) seen.old seen.new result.1 }
 {
     match desk.stop(rt, seen, handle) {
-        Ok((seat, ticket)) => (CountedSeat { seat }, Ok((answer, ticket))),
-        Err(StopFault::Aborted(seat)) => (CountedSeat { seat }, Err(HandleFault::Aborted)),
-        Err(StopFault::NotOpen(handle)) => (abandon(rt, desk, handle), Err(HandleFault::NotOpen)),
-        Err(StopFault::Memory(handle)) => (abandon(rt, desk, handle), Err(HandleFault::Memory)),
-    }
-}
-
-/// Drops a handle with all of its changes. Gives its seat back.
-fn abandon<D: Disk, C: Clock, R: Wait, H: Origin, N: Ledger>(
-    rt: &R,
-    desk: &Desk<D, C, H, N>,
-    handle: Handle<Seat<H, N>>,
-) -> CountedSeat<H, N>
-    requires { changes (holder handle) ≡ sum_by changed_by (made_by (holder handle)) }
-    ensures { result.seat ≡ holder handle }
-{
-    CountedSeat {
-        seat: desk.abandon(rt, handle),
+        Ok((seat, ticket)) => (seat, Ok((answer, ticket))),
+        Err(StopFault::Aborted(seat)) => (seat, Err(HandleFault::Aborted)),
+        Err(StopFault::NotOpen(handle)) => (desk.abandon(rt, handle), Err(HandleFault::NotOpen)),
+        Err(StopFault::Memory(handle)) => (desk.abandon(rt, handle), Err(HandleFault::Memory)),
     }
 }

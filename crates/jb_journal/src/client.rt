@@ -12,34 +12,32 @@ mod durable;
 mod figures;
 
 use crate::change::change_at;
-use crate::counted::CountedSeat;
 use crate::fault::HandleFault;
 use crate::options::Commits;
 pub use figures::Figures;
 use jb_block::{BlockSize, Memory};
 use jb_cost::{Geometry, most_credits};
 use jb_deck::{Entry, ReadHomeFault};
-use jb_desk::{Desk, Origin, Sights, WaitFault};
+use jb_desk::{Desk, Origin, Seat, Sights, WaitFault};
 use jb_disk::{Clock, Disk};
 use jb_handle::{Handle, Shape};
 use std::sync::Wait;
-use std::sync::ledger::Ledger;
 use std::{mem, time};
 
 /// A worker's client of a journal: it changes home blocks, waits until changes are committed, and reads what is
 /// committed.
-pub struct Client<'a, D: Disk, C: Clock, R, H: Origin, N: Ledger> {
+pub struct Client<'a, D: Disk, C: Clock, R, H: Origin> {
     rt: &'a R,
-    desk: &'a Desk<D, C, H, N>,
+    desk: &'a Desk<D, C, H>,
     shape: Shape,
     /// when commits are made, in its run
     commits: Commits,
-    seat: Option<CountedSeat<H, N>>,
+    seat: Option<Seat<H>>,
     /// what it has seen of the handles that stopped and of the journal
     seen: Sights<D, H>,
 }
 
-impl<'a, D: Disk, C: Clock, R: Wait + time::Clock, H: Origin, N: Ledger> Client<'a, D, C, R, H, N> {
+impl<'a, D: Disk, C: Clock, R: Wait + time::Clock, H: Origin> Client<'a, D, C, R, H> {
     ghost use Rattle.jb_book.specs.Journal.{GivesTrail, ReadsHome};
     ghost use Rattle.jb_plan.specs.Costs.{geometry_of};
     ghost use Rattle.jb_cost.specs.Credits.{IsMost};
@@ -51,15 +49,15 @@ impl<'a, D: Disk, C: Clock, R: Wait + time::Clock, H: Origin, N: Ledger> Client<
     /// A client at a desk, where handles may stop with any words.
     pub(crate) fn new(
         rt: &'a R,
-        desk: &'a Desk<D, C, H, N>,
+        desk: &'a Desk<D, C, H>,
         shape: Shape,
         commits: Commits,
-        seat: CountedSeat<H, N>,
-    ) -> Client<'a, D, C, R, H, N>
-        requires desk { desk_of seat.seat ≡ desk_id desk.now }
+        seat: Seat<H>,
+    ) -> Client<'a, D, C, R, H>
+        requires desk { desk_of seat ≡ desk_id desk.now }
         requires shape { shape ≡ shape_in desk.now }
         requires any { (words : WordMap) → H.begun.stops words }
-        requires fresh { made_by seat.seat ≡ [] }
+        requires fresh { made_by seat ≡ [] }
         ensures client { IsClient H.begun result }
         ensures shape { shape_of result ≡ shape }
         ensures commits { when_committed result ≡ commits }
@@ -113,7 +111,7 @@ impl<'a, D: Disk, C: Clock, R: Wait + time::Clock, H: Origin, N: Ledger> Client<
     }
 
     /// The seat, and what was seen, once the worker has ended.
-    pub(crate) fn into_seat(self) -> (Option<CountedSeat<H, N>>, Sights<D, H>)
+    pub(crate) fn into_seat(self) -> (Option<Seat<H>>, Sights<D, H>)
         ensures seat { made_from result.0 ≡ client_stops self.entry }
         ensures seen { result.1 ≡ sights_of self.entry }
     {
@@ -219,7 +217,7 @@ impl<'a, D: Disk, C: Clock, R: Wait + time::Clock, H: Origin, N: Ledger> Client<
     }
 
     /// The seat is put back.
-    fn sit(&mut self, seat: CountedSeat<H, N>)
+    fn sit(&mut self, seat: Seat<H>)
         requires { self.old.seat ≡ None }
         ensures seat { self.new.seat ≡ Some seat }
         ensures desk { self.new.desk ≡ self.old.desk }
@@ -230,7 +228,7 @@ impl<'a, D: Disk, C: Clock, R: Wait + time::Clock, H: Origin, N: Ledger> Client<
         match mem::replace(&mut self.seat, Some(seat)) {
             None => {}
             Some(seat) => {
-                let _left = seat.leave(self.rt, self.desk);
+                let _left = self.desk.leave(self.rt, seat);
                 unreachable!()
             }
         }
@@ -262,7 +260,7 @@ impl<'a, D: Disk, C: Clock, R: Wait + time::Clock, H: Origin, N: Ledger> Client<
         let (rt, desk) = (self.rt, self.desk);
         let Client { seat, seen, .. } = self;
         match seat {
-            Some(counted) => desk.wait(rt, &mut counted.seat, seen, ticket),
+            Some(seat) => desk.wait(rt, seat, seen, ticket),
             None => unreachable!(),
         }
     }

@@ -17,7 +17,6 @@ use jb_deck::Entry;
 use jb_desk::{CloseFault, Closed, Desk, Ended, Left, Origin, Sights};
 use jb_disk::{Clock, Disk};
 use jb_handle::Shape;
-use std::sync::ledger::Ledger;
 
 /// Closes the desk of a run of this many workers, whose journal had this shape when it was opened, and tells what that
 /// leaves.
@@ -25,14 +24,14 @@ use std::sync::ledger::Ledger;
 /// # Errors
 /// `NoThread` where the threads were waited for in vain, no worker has answered and no handle has stopped; `Accounts`
 /// where the desk's sums do not agree, its journal has another shape, or an answer is missing.
-pub(crate) fn close<T: Drop, D: Disk + Drop, C: Clock + Drop, H: Origin, N: Ledger>(
-    desk: Desk<D, C, H, N>,
+pub(crate) fn close<T: Drop, D: Disk + Drop, C: Clock + Drop, H: Origin>(
+    desk: Desk<D, C, H>,
     shape: Shape,
     workers: usize,
-    gathered: ThreadResults<T, D, H, N>,
+    gathered: ThreadResults<T, D, H>,
     ends: Ends,
 ) -> Result<Ran<T, D>, NotRun<T, D>>
-    requires parts { (H.parts ≡ 2 ^ 61 + 1) × (N.parts ≡ 2 ^ 61 + 1) }
+    requires parts { H.parts ≡ 2 ^ 61 + 1 }
     ensures closed { IfOk result (IsClosed D.Disk H.begun workers gathered shape) }
     ensures ends { IfOk result (λ ran. (asked : Bool) → EndsChecked asked ends.checkpoint → EndsRun asked ran) }
     ensures since { IfOk result (λ ran. EndsSince D.Disk H.begun ran.disk ran.trail.items) }
@@ -57,12 +56,12 @@ pub(crate) fn close<T: Drop, D: Disk + Drop, C: Clock + Drop, H: Origin, N: Ledg
 ///
 /// # Errors
 /// The journal's disk, where the desk's sums do not agree.
-fn closed_by<D: Disk + Drop, C: Clock + Drop, H: Origin, N: Ledger>(
-    desk: Desk<D, C, H, N>,
-    lefts: Vec<Left<H, N>>,
+fn closed_by<D: Disk + Drop, C: Clock + Drop, H: Origin>(
+    desk: Desk<D, C, H>,
+    lefts: Vec<Left<H>>,
     seen: Sights<D, H>,
 ) -> Result<Closed<D, C>, D>
-    requires parts { (H.parts ≡ 2 ^ 61 + 1) × (N.parts ≡ 2 ^ 61 + 1) }
+    requires parts { H.parts ≡ 2 ^ 61 + 1 }
     ensures ok { IfOk result (HasEnded D.Disk H.begun lefts.items seen) }
     ensures err { IfErr result (λ disk. EndsSeen D.Disk H.begun disk seen.stops seen.marks) }
 {

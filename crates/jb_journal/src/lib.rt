@@ -7,7 +7,6 @@ mod client;
 mod clock;
 mod closing;
 mod committing;
-mod counted;
 mod fault;
 mod gate;
 mod image;

@@ -9,28 +9,27 @@ use jb_desk::{Desk, Left, Origin};
 use jb_disk::{Clock, Disk};
 use std::alloc::Global;
 use std::sync::Wait;
-use std::sync::ledger::Ledger;
 
 /// Room for what the threads of a run leave, taken before the first of them is made, so that no run fails for want of
 /// memory once a worker was called. Nothing is in the lists yet.
 #[derive(Drop)]
-pub(crate) struct Room<T, D: Disk, H: Origin, N: Ledger> {
+pub(crate) struct Room<T, D: Disk, H: Origin> {
     /// For what each worker leaves.
-    pub places: Vec<WorkerResult<T, D, H, N>>,
+    pub places: Vec<WorkerResult<T, D, H>>,
     /// For what their seats and the committer's leave.
-    pub lefts: Vec<Left<H, N>>,
+    pub lefts: Vec<Left<H>>,
     /// For what they answer.
     pub answers: Vec<T>,
 }
 
-impl<T: Drop, D: Disk, H: Origin, N: Ledger> Room<T, D, H, N> {
+impl<T: Drop, D: Disk, H: Origin> Room<T, D, H> {
     ghost use Rattle.jb_journal.specs.Gather.{IsRoomFor};
 
     /// Room for this many workers.
     ///
     /// # Errors
     /// `Memory` where there is none for it.
-    pub(crate) fn take(alloc: Global, workers: usize) -> Result<Room<T, D, H, N>, Memory>
+    pub(crate) fn take(alloc: Global, workers: usize) -> Result<Room<T, D, H>, Memory>
         requires { workers ≤ 64 }
         ensures { IfOk result (IsRoomFor workers) }
     {
@@ -46,12 +45,12 @@ impl<T: Drop, D: Disk, H: Origin, N: Ledger> Room<T, D, H, N> {
 }
 
 /// A place for what each of this many workers leaves, with nothing in it.
-pub(crate) fn places_of<T: Drop, D: Disk, C: Clock, R: Wait, H: Origin, N: Ledger>(
+pub(crate) fn places_of<T: Drop, D: Disk, C: Clock, R: Wait, H: Origin>(
     rt: &R,
-    desk: &Desk<D, C, H, N>,
+    desk: &Desk<D, C, H>,
     workers: usize,
-    room: Vec<WorkerResult<T, D, H, N>>,
-) -> Vec<WorkerResult<T, D, H, N>>
+    room: Vec<WorkerResult<T, D, H>>,
+) -> Vec<WorkerResult<T, D, H>>
     requires { IsFree workers room }
     ensures number { vec_len result ≡ workers }
     ensures none { All HasNotWorked result.items }

@@ -28,11 +28,10 @@ use jb_handle::Shape;
 use std::alloc::Global;
 use std::marker::Brand;
 use std::sync::Wait;
-use std::sync::ledger::{Blank, Ledger};
 use std::thread::Threads;
 use std::time;
 
-/// How many parts the ledgers of a desk have.
+/// How many parts the ledger of a desk has.
 const PARTS: u64 = (1 << 61) + 1;
 
 /// Opens the journal on a disk, runs the workers, commits what they stopped, and closes the journal. The disk is
@@ -173,12 +172,11 @@ fn run_deck<
     ensures faults { IfErr result (StopsRun D.Disk H.begun deck.disk options.commits
         (W.answers worker.now H.begun shape) options.workers) }
 {
-    let changes = Blank::new(PARTS);
     let Some((handles, marks)) = histories(alloc) else {
         return Err(NotRun::of(alloc, deck.close(), RunFault::Memory));
     };
-    run_open::<T, W, D, C, R, Brand, Brand>(
-        rt, alloc, handles, changes, marks, deck, shape, clock, options, worker,
+    run_open::<T, W, D, C, R, Brand>(
+        rt, alloc, handles, marks, deck, shape, clock, options, worker,
     )
 }
 
@@ -192,8 +190,8 @@ fn histories<D: Disk>(alloc: Global) -> Option<(StopLedger, NewHistory<Deck<D>>)
     Some((handles, marks))
 }
 
-/// Runs the workers at a desk over a journal that was just opened. The desk's ledgers are `handles`, with its history,
-/// and `changes`; `marks` is the history of its commits.
+/// Runs the workers at a desk over a journal that was just opened. `handles` is the ledger of its handles, with their
+/// history; `marks` is the history of its commits.
 fn run_open<
     T: Drop + Send,
     W: Worker<T> + Sync,
@@ -201,12 +199,10 @@ fn run_open<
     C: Clock + Drop + Send,
     R: Threads + Wait + time::Clock + Sync,
     H: Origin + Send + Sync,
-    N: Ledger + Send + Sync,
 >(
     rt: &R,
     alloc: Global,
     handles: StopLedger,
-    changes: Blank,
     marks: NewHistory<Deck<D>>,
     deck: Deck<D>,
     shape: Shape,
@@ -214,8 +210,7 @@ fn run_open<
     options: Options,
     worker: &W,
 ) -> Result<Ran<T, D>, NotRun<T, D>>
-    requires ledgers { (handles.tickets.name ≡ H.name) × (handles.tickets.parts ≡ H.parts) × (H.parts ≡ 2 ^ 61 + 1)
-        × (changes.name ≡ N.name) × (changes.parts ≡ N.parts) × (N.parts ≡ 2 ^ 61 + 1) }
+    requires ledger { (handles.tickets.name ≡ H.name) × (handles.tickets.parts ≡ H.parts) × (H.parts ≡ 2 ^ 61 + 1) }
     requires histories { (history_in handles ≡ H.history) × (history_id marks ≡ H.marks) }
     requires deck { (deck.trail ≡ []) × (deck.aborted ≡ false) × (deck.shape ≡ shape) × IsSince D.Disk H.begun deck }
     requires work { (1 ≤ options.workers) × (options.workers ≤ 64) × ((words : WordMap) → H.begun.stops words)
@@ -229,7 +224,7 @@ fn run_open<
     let Ok(room) = Room::take(alloc, options.workers) else {
         return Err(NotRun::of(alloc, deck.close(), RunFault::Memory));
     };
-    match start::<D, C, H, N>(alloc, handles, changes, marks, deck, clock) {
+    match start::<D, C, H>(alloc, handles, marks, deck, clock) {
         Ok(desk) => run_at(rt, desk, shape, options, worker, room),
         Err(disk) => Err(NotRun::of(alloc, disk, RunFault::Memory)),
     }
@@ -239,24 +234,22 @@ fn run_open<
 ///
 /// # Errors
 /// The journal's disk, where there is no memory for it.
-fn start<D: Disk + Drop, C: Clock + Drop, H: Origin, N: Ledger>(
+fn start<D: Disk + Drop, C: Clock + Drop, H: Origin>(
     alloc: Global,
     handles: StopLedger,
-    changes: Blank,
     marks: NewHistory<Deck<D>>,
     deck: Deck<D>,
     clock: C,
-) -> Result<Desk<D, C, H, N>, D>
-    requires ledgers { (handles.tickets.name ≡ H.name) × (handles.tickets.parts ≡ H.parts) × (H.parts ≡ 2 ^ 61 + 1)
-        × (changes.name ≡ N.name) × (changes.parts ≡ N.parts) × (N.parts ≡ 2 ^ 61 + 1) }
+) -> Result<Desk<D, C, H>, D>
+    requires ledger { (handles.tickets.name ≡ H.name) × (handles.tickets.parts ≡ H.parts) × (H.parts ≡ 2 ^ 61 + 1) }
     requires histories { (history_in handles ≡ H.history) × (history_id marks ≡ H.marks) }
     requires deck { (deck.trail ≡ []) × (deck.aborted ≡ false) × IsSince D.Disk H.begun deck }
     ensures ok { IfOk result (λ desk. shape_in desk ≡ deck.shape) }
     ensures err { IfErr result (λ disk. disk ≡ deck.disk) }
 {
-    match Desk::start(alloc, handles, changes, marks, deck, clock) {
+    match Desk::start(alloc, handles, marks, deck, clock) {
         Ok(desk) => Ok(desk),
-        Err((_, _, _, deck, _)) => Err(deck.close()),
+        Err((_, _, deck, _)) => Err(deck.close()),
     }
 }
 
@@ -268,16 +261,15 @@ fn run_at<
     C: Clock + Drop + Send,
     R: Threads + Wait + time::Clock + Sync,
     H: Origin + Send + Sync,
-    N: Ledger + Send + Sync,
 >(
     rt: &R,
-    desk: Desk<D, C, H, N>,
+    desk: Desk<D, C, H>,
     shape: Shape,
     options: Options,
     worker: &W,
-    room: Room<T, D, H, N>,
+    room: Room<T, D, H>,
 ) -> Result<Ran<T, D>, NotRun<T, D>>
-    requires parts { (H.parts ≡ 2 ^ 61 + 1) × (N.parts ≡ 2 ^ 61 + 1) }
+    requires parts { H.parts ≡ 2 ^ 61 + 1 }
     requires shape { shape ≡ shape_in desk }
     requires work { (1 ≤ options.workers) × (options.workers ≤ 64) × ((words : WordMap) → H.begun.stops words)
         × W.needs worker.now options.commits }

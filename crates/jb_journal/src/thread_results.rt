@@ -1,37 +1,32 @@
 //! What the workers leave is put together.
-ghost use Rattle.std.specs.Prelude.{◌≡◌, map};
-ghost use Rattle.std.specs.List.{sum_by};
+ghost use Rattle.std.specs.Prelude.{map};
 ghost use Rattle.jb_cost.specs.Pieces.{joined};
-ghost use Rattle.jb_desk.specs.Seats.{changes_left, made_left};
-ghost use Rattle.jb_journal.specs.Notes.{changed_by};
+ghost use Rattle.jb_desk.specs.Seats.{made_left};
 
-use crate::counted::CountedLeft;
 use crate::threads::{Ends, Threaded, WorkerResult};
 use jb_desk::{Desk, Left, Origin, Sights};
 use jb_disk::{Clock, Disk};
 use std::sync::Wait;
-use std::sync::ledger::Ledger;
 
 /// What all threads leave.
 #[derive(Drop)]
-pub(crate) struct ThreadResults<T, D: Disk, H: Origin, N: Ledger> {
+pub(crate) struct ThreadResults<T, D: Disk, H: Origin> {
     /// What their seats left.
-    pub lefts: Vec<Left<H, N>>,
+    pub lefts: Vec<Left<H>>,
     /// What they have seen of the handles that stopped and of the journal.
     pub seen: Sights<D, H>,
     /// What the workers answered that were called, in the order of their places.
     pub answers: Vec<T>,
-    ghost counted: { sum_by changes_left lefts.items ≡ sum_by changed_by (joined (map made_left lefts.items)) },
 }
 
-impl<T: Drop, D: Disk, H: Origin, N: Ledger> ThreadResults<T, D, H, N> {
+impl<T: Drop, D: Disk, H: Origin> ThreadResults<T, D, H> {
     ghost use Rattle.std.specs.Prelude.{◌≡◌, ◌+◌, ◌≤◌, ◌<◌, ◌++◌, [], All, option_to_list, vec_len, vec_capacity};
     ghost use Rattle.jb_book.specs.Marks.{SeesMore};
     ghost use Rattle.jb_journal.specs.Gather.{IsFree, IsGatheredFrom, answers_of};
     ghost use Rattle.jb_journal.specs.Run.{HasAllSeen, stops_left_by, stops_of_worked};
 
     /// Nothing but what is seen by now, with this room for what comes.
-    fn new(lefts: Vec<Left<H, N>>, answers: Vec<T>, seen: Sights<D, H>) -> ThreadResults<T, D, H, N>
+    fn new(lefts: Vec<Left<H>>, answers: Vec<T>, seen: Sights<D, H>) -> ThreadResults<T, D, H>
         requires { lefts.items ≡ [] }
         ensures { (result.lefts ≡ lefts) × (result.answers ≡ answers) }
     {
@@ -43,7 +38,7 @@ impl<T: Drop, D: Disk, H: Origin, N: Ledger> ThreadResults<T, D, H, N> {
     }
 
     /// Adds what a seat left, where there was one.
-    fn add_left(&mut self, left: Option<CountedLeft<H, N>>)
+    fn add_left(&mut self, left: Option<Left<H>>)
         requires { vec_len self.old.lefts < vec_capacity self.old.lefts }
         ensures stops { joined (map made_left self.new.lefts.items) ≡ joined (map made_left self.old.lefts.items)
             ++ stops_left_by left }
@@ -51,8 +46,8 @@ impl<T: Drop, D: Disk, H: Origin, N: Ledger> ThreadResults<T, D, H, N> {
             × (vec_len self.new.lefts ≤ vec_len self.old.lefts + 1) }
         ensures rest { (self.new.answers ≡ self.old.answers) × (self.new.seen ≡ self.old.seen) }
     {
-        if let Some(counted) = left {
-            self.lefts.push_reserved(counted.left);
+        if let Some(left) = left {
+            self.lefts.push_reserved(left);
         }
     }
 
@@ -70,7 +65,7 @@ impl<T: Drop, D: Disk, H: Origin, N: Ledger> ThreadResults<T, D, H, N> {
     }
 
     /// Adds what a worker leaves.
-    fn add<C: Clock>(&mut self, desk: &Desk<D, C, H, N>, worked: WorkerResult<T, D, H, N>)
+    fn add<C: Clock>(&mut self, desk: &Desk<D, C, H>, worked: WorkerResult<T, D, H>)
         requires lefts { vec_len self.old.lefts < vec_capacity self.old.lefts }
         requires answers { vec_len self.old.answers < vec_capacity self.old.answers }
         ensures answers { self.new.answers.items ≡ self.old.answers.items ++ answers_of worked }
@@ -93,7 +88,7 @@ impl<T: Drop, D: Disk, H: Origin, N: Ledger> ThreadResults<T, D, H, N> {
     }
 
     /// Adds what all workers leave.
-    fn add_all<C: Clock>(&mut self, desk: &Desk<D, C, H, N>, workers: Vec<WorkerResult<T, D, H, N>>)
+    fn add_all<C: Clock>(&mut self, desk: &Desk<D, C, H>, workers: Vec<WorkerResult<T, D, H>>)
         requires lefts { vec_len self.old.lefts + vec_len workers ≤ vec_capacity self.old.lefts }
         requires answers { IsFree (vec_len workers) self.old.answers }
         ensures answers { self.new.answers.items ≡ joined (map answers_of workers.items) }
@@ -109,11 +104,11 @@ impl<T: Drop, D: Disk, H: Origin, N: Ledger> ThreadResults<T, D, H, N> {
     /// Puts together what the threads of a run leave, in room that was taken before; says how they ended, too.
     pub(crate) fn of<C: Clock, R: Wait>(
         rt: &R,
-        desk: &Desk<D, C, H, N>,
-        lefts: Vec<Left<H, N>>,
+        desk: &Desk<D, C, H>,
+        lefts: Vec<Left<H>>,
         answers: Vec<T>,
-        ran: Threaded<T, D, H, N>,
-    ) -> (ThreadResults<T, D, H, N>, Ends)
+        ran: Threaded<T, D, H>,
+    ) -> (ThreadResults<T, D, H>, Ends)
         requires lefts { IsFree (vec_len ran.workers + 1) lefts }
         requires answers { IsFree (vec_len ran.workers) answers }
         ensures gathered { IsGatheredFrom ran result.0 }

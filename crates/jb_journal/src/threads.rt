@@ -6,33 +6,31 @@ ghost use Rattle.jb_journal.specs.Run.{HasNotWorked, HasThreaded, EndsChecked};
 ghost use Rattle.jb_journal.specs.declared.options.Commits.TheVariants.{Meanwhile};
 
 use crate::committing::{commit_all, commit_from};
-use crate::counted::{CountedLeft, CountedSeat};
 use crate::gate::Gate;
 use crate::options::{Commits, Options};
 use crate::worker::Worker;
 use crate::working::work;
-use jb_desk::{Desk, Ended, Origin, Sights};
+use jb_desk::{Desk, Ended, Left, Origin, Sights};
 use jb_disk::{Clock, Disk};
 use jb_handle::Shape;
 use std::sync::Wait;
-use std::sync::ledger::Ledger;
 use std::thread::Threads;
 use std::{thread, time};
 
 /// What a worker leaves.
 #[derive(Drop)]
-pub(crate) struct WorkerResult<T, D: Disk, H: Origin, N: Ledger> {
+pub(crate) struct WorkerResult<T, D: Disk, H: Origin> {
     /// What its seat left; `None` where it had none.
-    pub left: Option<CountedLeft<H, N>>,
+    pub left: Option<Left<H>>,
     /// What its client had seen of the handles that stopped and of the journal.
     pub seen: Sights<D, H>,
     /// What it answered; `None` where it was not called.
     pub answer: Option<T>,
 }
 
-impl<T, D: Disk, H: Origin, N: Ledger> WorkerResult<T, D, H, N> {
+impl<T, D: Disk, H: Origin> WorkerResult<T, D, H> {
     /// What one leaves that was not called.
-    pub fn none(seen: Sights<D, H>) -> WorkerResult<T, D, H, N>
+    pub fn none(seen: Sights<D, H>) -> WorkerResult<T, D, H>
         ensures { HasNotWorked result }
     {
         WorkerResult {
@@ -45,11 +43,11 @@ impl<T, D: Disk, H: Origin, N: Ledger> WorkerResult<T, D, H, N> {
 
 /// What the threads leave.
 #[derive(Drop)]
-pub(crate) struct Threaded<T, D: Disk, H: Origin, N: Ledger> {
+pub(crate) struct Threaded<T, D: Disk, H: Origin> {
     /// What the workers leave.
-    pub workers: Vec<WorkerResult<T, D, H, N>>,
+    pub workers: Vec<WorkerResult<T, D, H>>,
     /// What the committer's seat left; `None` where it had none.
-    pub committer: Option<CountedLeft<H, N>>,
+    pub committer: Option<Left<H>>,
     /// How the threads ended.
     pub ends: Ends,
 }
@@ -75,15 +73,14 @@ pub(crate) fn run_all<
     C: Clock + Drop + Send,
     R: Threads + Wait + time::Clock + Sync,
     H: Origin + Send + Sync,
-    N: Ledger + Send + Sync,
 >(
     rt: &R,
-    desk: &Desk<D, C, H, N>,
+    desk: &Desk<D, C, H>,
     shape: Shape,
     options: Options,
     worker: &W,
-    places: Vec<WorkerResult<T, D, H, N>>,
-) -> Threaded<T, D, H, N>
+    places: Vec<WorkerResult<T, D, H>>,
+) -> Threaded<T, D, H>
     requires shape { shape ≡ shape_in desk.now }
     requires needs { W.needs worker.now options.commits }
     requires work { (1 ≤ vec_len places) × (vec_len places ≤ 64) × ((words : WordMap) → H.begun.stops words) }
@@ -100,7 +97,7 @@ pub(crate) fn run_all<
     let (checkpoint, mut ran) = thread::join(
         rt,
         || check_home(rt, desk, &gate, options.level),
-        || -> Threaded<T, D, H, N>
+        || -> Threaded<T, D, H>
             requires { (shape ≡ shape_in desk.now) × (1 ≤ vec_len places) × (vec_len places ≤ 64)
                 × ((words : WordMap) → H.begun.stops words) × All HasNotWorked places.items
                 × W.needs worker.now options.commits }
@@ -122,9 +119,9 @@ fn threads_of(options: Options) -> usize {
 }
 
 /// Comes to the gate, and writes committed transactions home until the desk is over.
-fn check_home<D: Disk, C: Clock, R: Wait, H: Origin, N: Ledger>(
+fn check_home<D: Disk, C: Clock, R: Wait, H: Origin>(
     rt: &R,
-    desk: &Desk<D, C, H, N>,
+    desk: &Desk<D, C, H>,
     gate: &Gate,
     level: u32,
 ) -> Ended
@@ -143,16 +140,15 @@ fn run_workers<
     C: Clock + Drop + Send,
     R: Threads + Wait + time::Clock + Sync,
     H: Origin + Send + Sync,
-    N: Ledger + Send + Sync,
 >(
     rt: &R,
-    desk: &Desk<D, C, H, N>,
+    desk: &Desk<D, C, H>,
     shape: Shape,
     gate: &Gate,
     options: Options,
     worker: &W,
-    places: Vec<WorkerResult<T, D, H, N>>,
-) -> Threaded<T, D, H, N>
+    places: Vec<WorkerResult<T, D, H>>,
+) -> Threaded<T, D, H>
     requires shape { shape ≡ shape_in desk.now }
     requires needs { W.needs worker.now options.commits }
     requires work { (1 ≤ vec_len places) × (vec_len places ≤ 64) × ((words : WordMap) → H.begun.stops words) }
@@ -161,7 +157,7 @@ fn run_workers<
     ensures given_up { result.ends.given_up ≡ true → options.commits ≡ Meanwhile }
     ensures checkpoint { result.ends.checkpoint ≡ None }
 {
-    let Some(seat) = CountedSeat::at(rt, desk) else {
+    let Ok(seat) = desk.seat(rt) else {
         desk.shut(rt);
         return Threaded::of(places, None, false);
     };
@@ -175,27 +171,27 @@ fn run_workers<
     let (committed, places) = thread::join(
         rt,
         || commit_from(rt, desk, gate, delay, &mut place),
-        || -> Vec<WorkerResult<T, D, H, N>>
+        || -> Vec<WorkerResult<T, D, H>>
             requires { (shape ≡ shape_in desk.now) × (1 ≤ vec_len places) × (vec_len places ≤ 64)
                 × ((words : WordMap) → H.begun.stops words) × W.needs worker.now options.commits }
         { work(rt, desk, shape, gate, options.commits, worker, places) },
     );
     if let Some(seat) = place {
-        let _left = seat.leave(rt, desk);
+        let _left = desk.leave(rt, seat);
     }
     let given_up = options.commits == Commits::Meanwhile && gate.is_given_up(rt);
     Threaded::of(places, committed, given_up)
 }
 
-impl<T, D: Disk, H: Origin, N: Ledger> Threaded<T, D, H, N> {
+impl<T, D: Disk, H: Origin> Threaded<T, D, H> {
     ghost use Rattle.jb_journal.specs.Run.{committed_stops, stops_left_by};
 
     /// What the threads leave, where there was no checkpointer.
     fn of(
-        workers: Vec<WorkerResult<T, D, H, N>>,
-        committed: Option<(CountedLeft<H, N>, Ended)>,
+        workers: Vec<WorkerResult<T, D, H>>,
+        committed: Option<(Left<H>, Ended)>,
         given_up: bool,
-    ) -> Threaded<T, D, H, N>
+    ) -> Threaded<T, D, H>
         ensures workers { result.workers ≡ workers }
         ensures stops { stops_left_by result.committer ≡ committed_stops committed }
         ensures given_up { result.ends.given_up ≡ given_up }

@@ -5,7 +5,6 @@ use crate::client::Client;
 use jb_desk::Origin;
 use jb_disk::{Clock, Disk};
 use std::sync::Wait;
-use std::sync::ledger::Ledger;
 use std::time;
 
 /// What each worker does with the journal. It is shared by all of them, and answers a `T` each.
@@ -28,9 +27,9 @@ pub trait Worker<T> {
     ghost needs: { Self → Commits → Type 0 } = { λ _ _. Unit {0} };
 
     /// Works with the journal through a client of its own, as the worker at the place `at` of this many.
-    fn work<'a, D: Disk, C: Clock, R: Wait + time::Clock, H: Origin, N: Ledger>(
+    fn work<'a, D: Disk, C: Clock, R: Wait + time::Clock, H: Origin>(
         &self,
-        client: &mut Client<'a, D, C, R, H, N>,
+        client: &mut Client<'a, D, C, R, H>,
         workers: usize,
         at: usize,
     ) -> T

@@ -5,7 +5,6 @@ ghost use Rattle.jb_desk.specs.Desks.{shape_in};
 ghost use Rattle.jb_journal.specs.Run.{HasWorked, HaveWorked};
 
 use crate::client::Client;
-use crate::counted::CountedSeat;
 use crate::gate::Gate;
 use crate::options::Commits;
 use crate::threads::WorkerResult;
@@ -14,7 +13,6 @@ use jb_desk::{Desk, Origin};
 use jb_disk::{Clock, Disk};
 use jb_handle::Shape;
 use std::sync::Wait;
-use std::sync::ledger::Ledger;
 use std::thread::Threads;
 use std::{thread, time};
 
@@ -26,16 +24,15 @@ pub(crate) fn work<
     C: Clock + Drop + Send,
     R: Threads + Wait + time::Clock + Sync,
     H: Origin + Send + Sync,
-    N: Ledger + Send + Sync,
 >(
     rt: &R,
-    desk: &Desk<D, C, H, N>,
+    desk: &Desk<D, C, H>,
     shape: Shape,
     gate: &Gate,
     commits: Commits,
     worker: &W,
-    places: Vec<WorkerResult<T, D, H, N>>,
-) -> Vec<WorkerResult<T, D, H, N>>
+    places: Vec<WorkerResult<T, D, H>>,
+) -> Vec<WorkerResult<T, D, H>>
     requires shape { shape ≡ shape_in desk.now }
     requires needs { W.needs worker.now commits }
     requires work { (1 ≤ vec_len places) × (vec_len places ≤ 64) × ((words : WordMap) → H.begun.stops words) }
@@ -63,15 +60,14 @@ fn work_each<
     C: Clock + Drop + Send,
     R: Threads + Wait + time::Clock + Sync,
     H: Origin + Send + Sync,
-    N: Ledger + Send + Sync,
 >(
     rt: &R,
-    desk: &Desk<D, C, H, N>,
+    desk: &Desk<D, C, H>,
     shape: Shape,
     gate: &Gate,
     commits: Commits,
     worker: &W,
-    places: &mut [WorkerResult<T, D, H, N>],
+    places: &mut [WorkerResult<T, D, H>],
 )
     requires shape { shape ≡ shape_in desk.now }
     requires needs { W.needs worker.now commits }
@@ -84,7 +80,7 @@ fn work_each<
         rt,
         places,
         workers,
-        &|at: usize, place: &mut WorkerResult<T, D, H, N>|
+        &|at: usize, place: &mut WorkerResult<T, D, H>|
             requires { (shape ≡ shape_in desk.now) × (1 ≤ workers) × (workers ≤ 64)
                 × ((words : WordMap) → H.begun.stops words) × W.needs worker.now commits }
             ensures { HasWorked D.Disk (W.answers worker.entry.now H.begun shape) workers at place.exit.now }
@@ -93,16 +89,16 @@ fn work_each<
 }
 
 /// Runs the worker at this place, once each thread of the run is there.
-fn work_at<T, W: Worker<T>, D: Disk, C: Clock, R: Wait + time::Clock, H: Origin, N: Ledger>(
+fn work_at<T, W: Worker<T>, D: Disk, C: Clock, R: Wait + time::Clock, H: Origin>(
     rt: &R,
-    desk: &Desk<D, C, H, N>,
+    desk: &Desk<D, C, H>,
     shape: Shape,
     gate: &Gate,
     commits: Commits,
     workers: usize,
     worker: &W,
     at: usize,
-) -> WorkerResult<T, D, H, N>
+) -> WorkerResult<T, D, H>
     requires shape { shape ≡ shape_in desk.now }
     requires needs { W.needs worker.now commits }
     requires work { (1 ≤ workers) × (workers ≤ 64) × ((words : WordMap) → H.begun.stops words) }
@@ -111,14 +107,14 @@ fn work_at<T, W: Worker<T>, D: Disk, C: Clock, R: Wait + time::Clock, H: Origin,
     if !gate.wait(rt) {
         return WorkerResult::none(desk.sights(rt));
     }
-    let Some(seat) = CountedSeat::at(rt, desk) else {
+    let Ok(seat) = desk.seat(rt) else {
         return WorkerResult::none(desk.sights(rt));
     };
     let mut client = Client::new(rt, desk, shape, commits, seat);
     let answer = worker.work(&mut client, workers, at);
     let (seat, seen) = client.into_seat();
     let left = match seat {
-        Some(seat) => Some(seat.leave(rt, desk)),
+        Some(seat) => Some(desk.leave(rt, seat)),
         None => None,
     };
     WorkerResult {

@@ -3,7 +3,6 @@ ghost use Rattle.std.specs.Prelude.{IfSome};
 ghost use Rattle.proof_clients.specs.TwoWorkers.{HasFound, HasWritten};
 
 use jb_journal::{Client, Clock, Disk, Handle, Origin, TouchFault, Worker};
-use std::sync::ledger::Ledger;
 use std::sync::{Condvar, Mutex, Wait};
 use std::time;
 
@@ -52,9 +51,9 @@ impl Worker<Found> for TellingWorkers {
 
     ghost needs = { λ _ commits. commits ≡ Meanwhile };
 
-    fn work<'a, D: Disk, C: Clock, R: Wait + time::Clock, H: Origin, N: Ledger>(
+    fn work<'a, D: Disk, C: Clock, R: Wait + time::Clock, H: Origin>(
         &self,
-        client: &mut Client<'a, D, C, R, H, N>,
+        client: &mut Client<'a, D, C, R, H>,
         _workers: usize,
         at: usize,
     ) -> Found
@@ -93,9 +92,9 @@ impl TellingWorkers {
     }
 
     /// Writes the home and waits; gives the ticket, or nothing where a call was refused.
-    fn write<'a, D: Disk, C: Clock, R: Wait + time::Clock, H: Origin, N: Ledger>(
+    fn write<'a, D: Disk, C: Clock, R: Wait + time::Clock, H: Origin>(
         &self,
-        client: &mut Client<'a, D, C, R, H, N>,
+        client: &mut Client<'a, D, C, R, H>,
     ) -> Option<u64>
         requires client { MayWait H.begun client.old }
         requires fresh { client_stops client.old ≡ [] }
@@ -114,9 +113,9 @@ impl TellingWorkers {
     }
 
     /// Waits until it is told of a ticket, waits for it, and reads the home.
-    fn read<'a, D: Disk, C: Clock, R: Wait + time::Clock, H: Origin, N: Ledger>(
+    fn read<'a, D: Disk, C: Clock, R: Wait + time::Clock, H: Origin>(
         &self,
-        client: &mut Client<'a, D, C, R, H, N>,
+        client: &mut Client<'a, D, C, R, H>,
     ) -> Found
         requires client { MayWait H.begun client.old }
         requires fresh { client_stops client.old ≡ [] }

@@ -10,7 +10,6 @@ use jb_desk::{Desk, Origin, StopLedger};
 use jb_disk::Disk;
 use std::alloc::Global;
 use std::process::Abort;
-use std::sync::ledger::{Blank, Ledger};
 
 /// A new ledger for the handles that will stop, and a new history of them.
 pub fn stops(rt: &impl Abort, alloc: Global) -> StopLedger
@@ -25,22 +24,20 @@ pub fn marks<D: Disk>(rt: &impl Abort, alloc: Global) -> NewHistory<Deck<D>> {
 }
 
 /// Starts a desk over a journal, where nothing is known of the disk at the start, so that any disk will do.
-pub fn start<D: Disk + Drop, H: Origin, N: Ledger>(
+pub fn start<D: Disk + Drop, H: Origin>(
     rt: &impl Abort,
     alloc: Global,
     handles: StopLedger,
-    changes: Blank,
     marks: NewHistory<Deck<D>>,
     deck: Deck<D>,
-) -> Still<D, H, N>
+) -> Still<D, H>
     requires blind { (H.begun.is_known → ⊥) × (H.begun.none_failed → ⊥) }
     requires handles { (handles.tickets.name ≡ H.name) × (handles.tickets.parts ≡ H.parts) × (H.parts ≡ 2 ^ 61 + 1) }
     requires histories { (history_in handles ≡ H.history) × (history_id marks ≡ H.marks) }
-    requires changes { (changes.name ≡ N.name) × (changes.parts ≡ N.parts) × (N.parts ≡ 2 ^ 61 + 1) }
     requires fresh { deck.trail ≡ [] }
     requires running { deck.aborted ≡ false }
 {
-    Desk::start(alloc, handles, changes, marks, deck, CLOCK)
+    Desk::start(alloc, handles, marks, deck, CLOCK)
         .ok()
         .expect(rt, "the desk is not started")
 }

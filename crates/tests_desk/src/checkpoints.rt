@@ -15,7 +15,6 @@ use std::alloc::Global;
 use std::process::Abort;
 use std::sync::Wait;
 use std::sync::atomic::{AtomicBool, Ordering};
-use std::sync::ledger::Ledger;
 use std::thread;
 use std::thread::Threads;
 use std::time::Clock;
@@ -47,11 +46,11 @@ fn lost_ticket(begun: Option<BeginFault>) -> u64 {
 }
 
 /// What a begin answers, and what is answered of both tickets.
-fn after<R: Wait, D: Disk, H: Origin, N: Ledger>(
+fn after<R: Wait, D: Disk, H: Origin>(
     rt: &R,
-    desk: &Still<D, H, N>,
-    seat: Seat<H, N>,
-) -> (Seat<H, N>, Answers)
+    desk: &Still<D, H>,
+    seat: Seat<H>,
+) -> (Seat<H>, Answers)
     requires desk { desk_of seat ≡ desk_id desk.now }
 {
     let (mut seat, begun) = refused(rt, desk, seat, 1);
@@ -66,13 +65,13 @@ fn after<R: Wait, D: Disk, H: Origin, N: Ledger>(
 }
 
 /// Commits a handle, stops another, and brings the first one's group home; then looks what follows.
-fn after_checkpoint<R: Abort + Wait, D: Disk + Drop, H: Origin, N: Ledger>(
+fn after_checkpoint<R: Abort + Wait, D: Disk + Drop, H: Origin>(
     rt: &R,
     alloc: Global,
-    desk: Still<D, H, N>,
+    desk: Still<D, H>,
 ) -> Found
     requires any { (words : WordMap) → H.begun.stops words }
-    requires parts { (H.parts ≡ 2 ^ 61 + 1) × (N.parts ≡ 2 ^ 61 + 1) }
+    requires parts { H.parts ≡ 2 ^ 61 + 1 }
 {
     let (seat, first) = commit(rt, &desk, seated(rt, &desk), 1);
     let (seat, _) = write(rt, &desk, seat, 1, &[2]);
@@ -122,14 +121,14 @@ fn check_failed(rt: &impl Abort, call: u64, found: &Found) -> bool {
 }
 
 /// Makes a checkpoint of which this call of the disk fails, and checks what follows it.
-pub fn fate_of<R: Abort + Wait, H: Origin, N: Ledger>(
+pub fn fate_of<R: Abort + Wait, H: Origin>(
     rt: &R,
     alloc: Global,
     call: u64,
-    desk: Failing<H, N>,
+    desk: Failing<H>,
 ) -> Fate
     requires any { (words : WordMap) → H.begun.stops words }
-    requires parts { (H.parts ≡ 2 ^ 61 + 1) × (N.parts ≡ 2 ^ 61 + 1) }
+    requires parts { H.parts ≡ 2 ^ 61 + 1 }
 {
     let found = after_checkpoint(rt, alloc, desk);
     if is_whole(&found) {
@@ -151,7 +150,7 @@ fn the_round_after_a_failed_checkpoint_fails_the_book(rt: HostRuntime) {
 const RACES: u64 = 200;
 
 /// Stops a handle, shuts the desk and commits the handle.
-fn commit_last<R: Abort + Wait, D: Disk, H: Origin, N: Ledger>(rt: &R, desk: &Still<D, H, N>)
+fn commit_last<R: Abort + Wait, D: Disk, H: Origin>(rt: &R, desk: &Still<D, H>)
     requires { (words : WordMap) → H.begun.stops words }
 {
     let (seat, _) = write(rt, desk, seated(rt, desk), 1, &[1]);
@@ -161,11 +160,7 @@ fn commit_last<R: Abort + Wait, D: Disk, H: Origin, N: Ledger>(rt: &R, desk: &St
 }
 
 /// Asks for the book again and again, until this has happened.
-fn crowd<R: Wait, D: Disk, H: Origin, N: Ledger>(
-    rt: &R,
-    desk: &Still<D, H, N>,
-    is_done: &AtomicBool,
-) {
+fn crowd<R: Wait, D: Disk, H: Origin>(rt: &R, desk: &Still<D, H>, is_done: &AtomicBool) {
     for _ in 0..1_000_000 {
         if is_done.load(Ordering::SeqCst) {
             return;
@@ -175,10 +170,10 @@ fn crowd<R: Wait, D: Disk, H: Origin, N: Ledger>(
 }
 
 /// Runs a checkpointer to its end, and says so to the threads that ask for the book.
-fn checkpoint<R: Abort + Wait, D: Disk, H: Origin, N: Ledger>(
+fn checkpoint<R: Abort + Wait, D: Disk, H: Origin>(
     rt: &R,
     race: u64,
-    desk: &Still<D, H, N>,
+    desk: &Still<D, H>,
     is_done: &AtomicBool,
 ) {
     let ended = desk.run_checkpointer(rt);
@@ -193,10 +188,10 @@ fn checkpoint<R: Abort + Wait, D: Disk, H: Origin, N: Ledger>(
 
 /// What each of four threads does: the last handle of the desk is committed while a checkpointer runs, beside two
 /// threads that ask for the book.
-fn race_one<R: Abort + Wait, D: Disk, H: Origin, N: Ledger>(
+fn race_one<R: Abort + Wait, D: Disk, H: Origin>(
     rt: &R,
     race: u64,
-    desk: &Still<D, H, N>,
+    desk: &Still<D, H>,
     is_done: &AtomicBool,
     thread: usize,
 )
@@ -211,12 +206,12 @@ fn race_one<R: Abort + Wait, D: Disk, H: Origin, N: Ledger>(
 
 /// Checks that no group is left once a checkpointer has ended that ran while the last handle of the desk was
 /// committed.
-pub fn check_race<
-    R: Abort + Threads + Wait + Sync,
-    D: Disk + Send,
-    H: Origin + Send + Sync,
-    N: Ledger + Send + Sync,
->(rt: &R, alloc: Global, race: u64, desk: &Still<D, H, N>)
+pub fn check_race<R: Abort + Threads + Wait + Sync, D: Disk + Send, H: Origin + Send + Sync>(
+    rt: &R,
+    alloc: Global,
+    race: u64,
+    desk: &Still<D, H>,
+)
     requires { (words : WordMap) → H.begun.stops words }
 {
     let is_done = AtomicBool::new(false);

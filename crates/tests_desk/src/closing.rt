@@ -8,10 +8,9 @@ use jb_disk::{Disk, FixedClock};
 use std::alloc::Global;
 use std::process::Abort;
 use std::sync::Wait;
-use std::sync::ledger::Ledger;
 
 /// Whether a desk gives no seat for being shut.
-pub fn is_closed<R: Wait, D: Disk, H: Origin, N: Ledger>(rt: &R, desk: &Still<D, H, N>) -> bool {
+pub fn is_closed<R: Wait, D: Disk, H: Origin>(rt: &R, desk: &Still<D, H>) -> bool {
     match desk.seat(rt) {
         Ok(seat) => {
             let _left = desk.leave(rt, seat);
@@ -30,24 +29,24 @@ pub fn over_at(ended: Ended) -> Option<u64> {
 }
 
 /// What is left by the only seat of a desk.
-pub fn left<R: Abort + Wait, D: Disk, H: Origin, N: Ledger>(
+pub fn left<R: Abort + Wait, D: Disk, H: Origin>(
     rt: &R,
     alloc: Global,
-    desk: &Still<D, H, N>,
-    seat: Seat<H, N>,
-) -> Vec<Left<H, N>> {
+    desk: &Still<D, H>,
+    seat: Seat<H>,
+) -> Vec<Left<H>> {
     let mut lefts = Vec::new(alloc);
     lefts.push(desk.leave(rt, seat)).expect(rt, "memory");
     lefts
 }
 
 /// Closes a desk of which all seats have left.
-pub fn closed<R: Abort + Wait, D: Disk + Drop, H: Origin, N: Ledger>(
+pub fn closed<R: Abort + Wait, D: Disk + Drop, H: Origin>(
     rt: &R,
-    desk: Still<D, H, N>,
-    lefts: Vec<Left<H, N>>,
+    desk: Still<D, H>,
+    lefts: Vec<Left<H>>,
 ) -> Closed<D, FixedClock>
-    requires parts { (H.parts ≡ 2 ^ 61 + 1) × (N.parts ≡ 2 ^ 61 + 1) }
+    requires parts { H.parts ≡ 2 ^ 61 + 1 }
 {
     let seen = desk.sights(rt);
     desk.close(lefts, seen)
@@ -57,14 +56,14 @@ pub fn closed<R: Abort + Wait, D: Disk + Drop, H: Origin, N: Ledger>(
 
 /// Closes a desk of which all seats have left, and checks how many handles and changes it has counted, and how many
 /// groups its trail has, and that its clock comes back. Where that is wrong, it gives the desk this name.
-pub fn check_close<R: Abort + Wait, D: Disk + Drop, H: Origin, N: Ledger>(
+pub fn check_close<R: Abort + Wait, D: Disk + Drop, H: Origin>(
     rt: &R,
     name: &'static str,
-    desk: Still<D, H, N>,
-    lefts: Vec<Left<H, N>>,
+    desk: Still<D, H>,
+    lefts: Vec<Left<H>>,
     counts: (u64, u64, usize),
 )
-    requires parts { (H.parts ≡ 2 ^ 61 + 1) × (N.parts ≡ 2 ^ 61 + 1) }
+    requires parts { H.parts ≡ 2 ^ 61 + 1 }
 {
     let closed = closed(rt, desk, lefts);
     let handles = closed.handles;
@@ -89,15 +88,15 @@ fn not_refused(rt: &impl Abort, name: &'static str) {
 }
 
 /// Checks that closing a desk is refused while a seat is out, and what is counted once the last one has left.
-pub fn check_close_twice<R: Abort + Wait, D: Disk + Drop, H: Origin, N: Ledger>(
+pub fn check_close_twice<R: Abort + Wait, D: Disk + Drop, H: Origin>(
     rt: &R,
     name: &'static str,
-    desk: Still<D, H, N>,
-    lefts: Vec<Left<H, N>>,
-    last: Left<H, N>,
+    desk: Still<D, H>,
+    lefts: Vec<Left<H>>,
+    last: Left<H>,
     counts: (u64, u64, usize),
 )
-    requires parts { (H.parts ≡ 2 ^ 61 + 1) × (N.parts ≡ 2 ^ 61 + 1) }
+    requires parts { H.parts ≡ 2 ^ 61 + 1 }
 {
     let seen = desk.sights(rt);
     match desk.close(lefts, seen) {

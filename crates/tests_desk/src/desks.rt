@@ -15,7 +15,6 @@ use jb_handle::Handle;
 use std::alloc::Global;
 use std::process::Abort;
 use std::sync::Wait;
-use std::sync::ledger::Ledger;
 
 /// One handle has stopped.
 const STOPPED: Front = Front {
@@ -25,11 +24,7 @@ const STOPPED: Front = Front {
 };
 
 /// A handle may have six credits, and no more.
-fn check_credits<R: Abort + Wait, H: Origin, N: Ledger>(
-    rt: &R,
-    desk: &Small<H, N>,
-    seat: Seat<H, N>,
-) -> Seat<H, N>
+fn check_credits<R: Abort + Wait, H: Origin>(rt: &R, desk: &Small<H>, seat: Seat<H>) -> Seat<H>
     requires desk { desk_of seat ≡ desk_id desk.now }
     ensures { desk_of result ≡ desk_id desk.now }
 {
@@ -45,11 +40,7 @@ fn check_credits<R: Abort + Wait, H: Origin, N: Ledger>(
 }
 
 /// A seat stops a handle that revokes a home.
-fn check_stop<R: Abort + Wait, H: Origin, N: Ledger>(
-    rt: &R,
-    desk: &Small<H, N>,
-    seat: Seat<H, N>,
-) -> Seat<H, N>
+fn check_stop<R: Abort + Wait, H: Origin>(rt: &R, desk: &Small<H>, seat: Seat<H>) -> Seat<H>
     requires any { (words : WordMap) → H.begun.stops words }
     requires desk { desk_of seat ≡ desk_id desk.now }
 {
@@ -69,9 +60,9 @@ fn check_stop<R: Abort + Wait, H: Origin, N: Ledger>(
 }
 
 /// What a seat finds that stops one handle, and what is counted at the end: handles, changes and groups.
-pub fn one_handle<R: Abort + Wait, H: Origin, N: Ledger>(rt: &R, alloc: Global, desk: Small<H, N>)
+pub fn one_handle<R: Abort + Wait, H: Origin>(rt: &R, alloc: Global, desk: Small<H>)
     requires any { (words : WordMap) → H.begun.stops words }
-    requires parts { (H.parts ≡ 2 ^ 61 + 1) × (N.parts ≡ 2 ^ 61 + 1) }
+    requires parts { H.parts ≡ 2 ^ 61 + 1 }
 {
     let seat = check_credits(rt, &desk, seated(rt, &desk));
     let seat = check_stop(rt, &desk, seat);
@@ -94,7 +85,7 @@ pub fn one_handle<R: Abort + Wait, H: Origin, N: Ledger>(rt: &R, alloc: Global, 
 }
 
 /// A seat begins a handle, takes it apart, and begins another one. Gives what it leaves.
-fn check_busy<R: Abort + Wait, H: Origin, N: Ledger>(rt: &R, desk: &Small<H, N>) -> Left<H, N> {
+fn check_busy<R: Abort + Wait, H: Origin>(rt: &R, desk: &Small<H>) -> Left<H> {
     let handle = begun(rt, desk, seated(rt, desk), 1, "a handle that its seat ends");
     let (seat, _words) = handle.end();
     let (seat, busy) = refused(rt, desk, seat, 1);
@@ -107,12 +98,12 @@ fn check_busy<R: Abort + Wait, H: Origin, N: Ledger>(rt: &R, desk: &Small<H, N>)
 }
 
 /// A seat stops a handle that nobody has begun.
-fn check_foreign<R: Abort + Wait, H: Origin, N: Ledger>(
+fn check_foreign<R: Abort + Wait, H: Origin>(
     rt: &R,
     alloc: Global,
-    desk: &Small<H, N>,
-    seat: Seat<H, N>,
-) -> Seat<H, N>
+    desk: &Small<H>,
+    seat: Seat<H>,
+) -> Seat<H>
     requires any { (words : WordMap) → H.begun.stops words }
     requires desk { desk_of seat ≡ desk_id desk.now }
 {
@@ -128,9 +119,9 @@ fn check_foreign<R: Abort + Wait, H: Origin, N: Ledger>(
 
 /// What is answered of a handle that its seat has ended itself, of one that nobody has begun, and of a desk
 /// of which one seat has not left; and what is counted once all have.
-pub fn strays<R: Abort + Wait, H: Origin, N: Ledger>(rt: &R, alloc: Global, desk: Small<H, N>)
+pub fn strays<R: Abort + Wait, H: Origin>(rt: &R, alloc: Global, desk: Small<H>)
     requires any { (words : WordMap) → H.begun.stops words }
-    requires parts { (H.parts ≡ 2 ^ 61 + 1) × (N.parts ≡ 2 ^ 61 + 1) }
+    requires parts { H.parts ≡ 2 ^ 61 + 1 }
 {
     let first = check_busy(rt, &desk);
     let seat = check_foreign(rt, alloc, &desk, seated(rt, &desk));
@@ -147,7 +138,7 @@ pub fn strays<R: Abort + Wait, H: Origin, N: Ledger>(rt: &R, alloc: Global, desk
 }
 
 /// Beside five handles of 6 credits, one of 3 is refused, and one of 2 is begun.
-fn check_full<R: Abort + Wait, H: Origin, N: Ledger>(rt: &R, desk: &Small<H, N>) {
+fn check_full<R: Abort + Wait, H: Origin>(rt: &R, desk: &Small<H>) {
     let (seat, three) = refused(rt, desk, seated(rt, desk), 3);
     let (seat, two) = refused(rt, desk, seat, 2);
     let _left = desk.leave(rt, seat);
@@ -160,7 +151,7 @@ fn check_full<R: Abort + Wait, H: Origin, N: Ledger>(rt: &R, desk: &Small<H, N>)
 }
 
 /// Begins this many handles of 6 credits, one in the other, and asks for more beside them.
-pub fn beside<R: Abort + Wait, H: Origin, N: Ledger>(rt: &R, desk: &Small<H, N>, count: u32) {
+pub fn beside<R: Abort + Wait, H: Origin>(rt: &R, desk: &Small<H>, count: u32) {
     if count == 0 {
         return check_full(rt, desk);
     }
@@ -171,7 +162,7 @@ pub fn beside<R: Abort + Wait, H: Origin, N: Ledger>(rt: &R, desk: &Small<H, N>,
 }
 
 /// Six seats, one after the other, begin a handle of 6 credits and leave with it.
-pub fn leavers<R: Abort + Wait, H: Origin, N: Ledger>(rt: &R, desk: &Small<H, N>) {
+pub fn leavers<R: Abort + Wait, H: Origin>(rt: &R, desk: &Small<H>) {
     for _ in 0..6 {
         let handle = begun(rt, desk, seated(rt, desk), 6, "a handle after leavers");
         let (seat, _words) = handle.end();

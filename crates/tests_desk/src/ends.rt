@@ -14,7 +14,6 @@ use jb_desk::{Origin, Retired, Seat};
 use std::alloc::Global;
 use std::process::Abort;
 use std::sync::Wait;
-use std::sync::ledger::Ledger;
 use std::time::Clock;
 
 /// How far the two handles have come at the end.
@@ -25,11 +24,7 @@ const DONE: Front = Front {
 };
 
 /// A committer without a batch gives up, and two handles stop.
-fn stop_two<R: Abort + Wait, H: Origin, N: Ledger>(
-    rt: &R,
-    desk: &Small<H, N>,
-    seat: Seat<H, N>,
-) -> Seat<H, N>
+fn stop_two<R: Abort + Wait, H: Origin>(rt: &R, desk: &Small<H>, seat: Seat<H>) -> Seat<H>
     requires any { (words : WordMap) → H.begun.stops words }
     requires desk { desk_of seat ≡ desk_id desk.now }
     ensures { desk_of result ≡ desk_id desk.now }
@@ -47,11 +42,7 @@ fn stop_two<R: Abort + Wait, H: Origin, N: Ledger>(
 }
 
 /// A committer and a checkpointer end at a desk that is shut, with two handles settled.
-fn end<R: Abort + Wait + Clock, H: Origin, N: Ledger>(
-    rt: &R,
-    desk: &Small<H, N>,
-    seat: Seat<H, N>,
-) -> Seat<H, N>
+fn end<R: Abort + Wait + Clock, H: Origin>(rt: &R, desk: &Small<H>, seat: Seat<H>) -> Seat<H>
     requires desk { desk_of seat ≡ desk_id desk.now }
     ensures { desk_of result ≡ desk_id desk.now }
 {
@@ -73,9 +64,9 @@ fn end<R: Abort + Wait + Clock, H: Origin, N: Ledger>(
 }
 
 /// Two handles stop at a new desk, which is shut then.
-pub fn shut<R: Abort + Wait + Clock, H: Origin, N: Ledger>(rt: &R, alloc: Global, desk: Small<H, N>)
+pub fn shut<R: Abort + Wait + Clock, H: Origin>(rt: &R, alloc: Global, desk: Small<H>)
     requires any { (words : WordMap) → H.begun.stops words }
-    requires parts { (H.parts ≡ 2 ^ 61 + 1) × (N.parts ≡ 2 ^ 61 + 1) }
+    requires parts { H.parts ≡ 2 ^ 61 + 1 }
 {
     let seat = stop_two(rt, &desk, seated(rt, &desk));
     let seat = end(rt, &desk, seat);

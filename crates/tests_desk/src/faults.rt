@@ -14,7 +14,6 @@ use jb_recover::recover;
 use std::alloc::Global;
 use std::process::Abort;
 use std::sync::Wait;
-use std::sync::ledger::Ledger;
 
 /// What follows a round in which one handle is committed while another is open: what the other's stop and a further
 /// begin answer, how many handles have stopped, whether the committer retires, and the handles and changes at the end.
@@ -67,13 +66,13 @@ fn check_whole(rt: &impl Abort, alloc: Global, call: u64, disk: MemoryDisk) {
 }
 
 /// What the round comes to and what follows it, and the disk then.
-fn after_round<R: Abort + Wait, D: Disk + Drop, H: Origin, N: Ledger>(
+fn after_round<R: Abort + Wait, D: Disk + Drop, H: Origin>(
     rt: &R,
     alloc: Global,
-    desk: Still<D, H, N>,
+    desk: Still<D, H>,
 ) -> (Found, D)
     requires any { (words : WordMap) → H.begun.stops words }
-    requires parts { (H.parts ≡ 2 ^ 61 + 1) × (N.parts ≡ 2 ^ 61 + 1) }
+    requires parts { H.parts ≡ 2 ^ 61 + 1 }
 {
     let (seat, _) = write(rt, &desk, seated(rt, &desk), 1, &[1]);
     let mut committer = desk.committer(seat);
@@ -128,14 +127,14 @@ fn check_found(rt: &impl Abort, call: u64, found: &Found) -> Fate {
 }
 
 /// Makes a round of which this call of the disk fails, and checks what follows it.
-pub fn fate_of<R: Abort + Wait, H: Origin, N: Ledger>(
+pub fn fate_of<R: Abort + Wait, H: Origin>(
     rt: &R,
     alloc: Global,
     call: u64,
-    desk: Failing<H, N>,
+    desk: Failing<H>,
 ) -> Fate
     requires any { (words : WordMap) → H.begun.stops words }
-    requires parts { (H.parts ≡ 2 ^ 61 + 1) × (N.parts ≡ 2 ^ 61 + 1) }
+    requires parts { H.parts ≡ 2 ^ 61 + 1 }
 {
     let (found, disk) = after_round(rt, alloc, desk);
     check_whole(rt, alloc, call, disk.into_inner());

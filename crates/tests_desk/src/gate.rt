@@ -22,7 +22,6 @@ use std::marker::Brand;
 use std::process::Abort;
 use std::sync::Wait;
 use std::sync::atomic::{AtomicBool, Ordering};
-use std::sync::ledger::{Blank, Ledger};
 use std::thread;
 use std::thread::Threads;
 use std::time::{Clock, Duration};
@@ -80,7 +79,7 @@ pub struct GateDisk<'a, D: Disk, K: Clock> {
 }
 
 /// A desk over the small journal on such a disk.
-pub type Gated<'a, K, H, N> = Still<GateDisk<'a, MemoryDisk, K>, H, N>;
+pub type Gated<'a, K, H> = Still<GateDisk<'a, MemoryDisk, K>, H>;
 
 /// The small journal on such a disk.
 pub fn gated_disk<'a, R: Abort + Clock>(
@@ -164,11 +163,11 @@ fn pass<K: Clock>(clock: &K, gate: &Gate, failed: &mut u64) -> Result<(), Fault>
 }
 
 /// Commits a handle, and then the one that stops meanwhile. Gives what its seat leaves.
-fn first<K: Abort + Wait + Clock, D: Disk, H: Origin, N: Ledger>(
+fn first<K: Abort + Wait + Clock, D: Disk, H: Origin>(
     rt: &K,
-    desk: &Still<D, H, N>,
+    desk: &Still<D, H>,
     gate: &Gate,
-) -> Left<H, N>
+) -> Left<H>
     requires any { (words : WordMap) → H.begun.stops words }
 {
     let (seat, _) = write(rt, desk, seated(rt, desk), 1, &[1]);
@@ -193,11 +192,11 @@ fn first<K: Abort + Wait + Clock, D: Disk, H: Origin, N: Ledger>(
 }
 
 /// Stops a handle while the disk is at work. Gives what its seat leaves.
-fn second<K: Abort + Wait + Clock, D: Disk, H: Origin, N: Ledger>(
+fn second<K: Abort + Wait + Clock, D: Disk, H: Origin>(
     rt: &K,
-    desk: &Still<D, H, N>,
+    desk: &Still<D, H>,
     gate: &Gate,
-) -> Left<H, N>
+) -> Left<H>
     requires any { (words : WordMap) → H.begun.stops words }
 {
     let mut handle = begun(rt, desk, seated(rt, desk), 2, "the second handle");
@@ -212,12 +211,11 @@ fn second<K: Abort + Wait + Clock, D: Disk, H: Origin, N: Ledger>(
 
 /// Two threads stop a handle each, the second one while the disk is at work for the first. Gives what their seats
 /// leave.
-fn both<
-    R: Abort + Threads + Wait + Clock + Sync,
-    D: Disk + Send,
-    H: Origin + Send + Sync,
-    N: Ledger + Send + Sync,
->(rt: &R, gate: &Gate, desk: &Still<D, H, N>) -> (Left<H, N>, Left<H, N>)
+fn both<R: Abort + Threads + Wait + Clock + Sync, D: Disk + Send, H: Origin + Send + Sync>(
+    rt: &R,
+    gate: &Gate,
+    desk: &Still<D, H>,
+) -> (Left<H>, Left<H>)
     requires { (words : WordMap) → H.begun.stops words }
 {
     thread::join(rt, || second(rt, desk, gate), || first(rt, desk, gate))
@@ -228,10 +226,9 @@ fn stop_both<
     R: Abort + Threads + Wait + Clock + Sync,
     D: Disk + Drop + Send,
     H: Origin + Send + Sync,
-    N: Ledger + Send + Sync,
->(rt: &R, alloc: Global, gate: &Gate, desk: Still<D, H, N>)
+>(rt: &R, alloc: Global, gate: &Gate, desk: Still<D, H>)
     requires any { (words : WordMap) → H.begun.stops words }
-    requires parts { (H.parts ≡ 2 ^ 61 + 1) × (N.parts ≡ 2 ^ 61 + 1) }
+    requires parts { H.parts ≡ 2 ^ 61 + 1 }
 {
     let (other, one) = both(rt, gate, &desk);
     let mut lefts = Vec::new(alloc);
@@ -241,14 +238,15 @@ fn stop_both<
 }
 
 /// Two threads stop a handle each at a desk, or one commits a handle while another reads its home.
-fn meet<
-    R: Abort + Threads + Wait + Clock + Sync,
-    D: Disk + Drop + Send,
-    H: Origin + Send + Sync,
-    N: Ledger + Send + Sync,
->(rt: &R, alloc: Global, gate: &Gate, is_read: bool, desk: Still<D, H, N>)
+fn meet<R: Abort + Threads + Wait + Clock + Sync, D: Disk + Drop + Send, H: Origin + Send + Sync>(
+    rt: &R,
+    alloc: Global,
+    gate: &Gate,
+    is_read: bool,
+    desk: Still<D, H>,
+)
     requires any { (words : WordMap) → H.begun.stops words }
-    requires parts { (H.parts ≡ 2 ^ 61 + 1) × (N.parts ≡ 2 ^ 61 + 1) }
+    requires parts { H.parts ≡ 2 ^ 61 + 1 }
 {
     if is_read {
         commit_and_read(rt, alloc, &desk, gate)
@@ -258,28 +256,21 @@ fn meet<
 }
 
 /// They do so at a new desk.
-fn gated<
-    'a,
-    R: Abort + Threads + Wait + Clock + Sync,
-    H: Origin + Send + Sync,
-    N: Ledger + Send + Sync,
->(
+fn gated<'a, R: Abort + Threads + Wait + Clock + Sync, H: Origin + Send + Sync>(
     rt: &'a R,
     alloc: Global,
     gate: &'a Gate,
     is_read: bool,
     handles: StopLedger,
-    changes: Blank,
     marks: NewHistory<Deck<GateDisk<'a, MemoryDisk, R>>>,
 )
     requires blind { (H.begun.is_known → ⊥) × (H.begun.none_failed → ⊥) }
     requires any { (words : WordMap) → H.begun.stops words }
     requires handles { (handles.tickets.name ≡ H.name) × (handles.tickets.parts ≡ H.parts) × (H.parts ≡ 2 ^ 61 + 1) }
     requires histories { (history_in handles ≡ H.history) × (history_id marks ≡ H.marks) }
-    requires changes { (changes.name ≡ N.name) × (changes.parts ≡ N.parts) × (N.parts ≡ 2 ^ 61 + 1) }
 {
     let deck = opened(alloc, gated_disk(rt, alloc, gate)).expect(rt, "the journal is not opened");
-    let desk: Gated<'_, R, H, N> = start(rt, alloc, handles, changes, marks, deck);
+    let desk: Gated<'_, R, H> = start(rt, alloc, handles, marks, deck);
     meet(rt, alloc, gate, is_read, desk)
 }
 
@@ -288,7 +279,7 @@ pub fn run_gated<R: Abort + Threads + Wait + Clock + Sync>(rt: &R, alloc: Global
     let gate = Gate::shut();
     let handles = stops(rt, alloc);
     let marks = marks(rt, alloc);
-    gated::<R, Brand, Brand>(rt, alloc, &gate, is_read, handles, Blank::new(PARTS), marks)
+    gated::<R, Brand>(rt, alloc, &gate, is_read, handles, marks)
 }
 
 #[test]

@@ -20,18 +20,17 @@ use jb_handle::{Handle, Shape};
 use std::alloc::Global;
 use std::process::Abort;
 use std::sync::Wait;
-use std::sync::ledger::Ledger;
 
 /// A desk over a disk, whose clock stands still.
-pub type Still<D, H, N> = Desk<D, FixedClock, H, N>;
+pub type Still<D, H> = Desk<D, FixedClock, H>;
 
 /// A desk over the small journal.
-pub type Small<H, N> = Still<MemoryDisk, H, N>;
+pub type Small<H> = Still<MemoryDisk, H>;
 
 /// A desk over the small journal whose disk fails once.
-pub type Failing<H, N> = Still<OneFaultDisk<MemoryDisk>, H, N>;
+pub type Failing<H> = Still<OneFaultDisk<MemoryDisk>, H>;
 
-/// The parts of each ledger of a desk.
+/// The parts of the ledger of a desk.
 pub const PARTS: u64 = (1 << 61) + 1;
 
 /// The clock of all desks.
@@ -79,10 +78,7 @@ pub fn opened<D: Disk + Drop>(alloc: Global, disk: D) -> Option<Deck<D>>
 }
 
 /// A seat of a desk that is not shut.
-pub fn seated<R: Abort + Wait, D: Disk, H: Origin, N: Ledger>(
-    rt: &R,
-    desk: &Still<D, H, N>,
-) -> Seat<H, N>
+pub fn seated<R: Abort + Wait, D: Disk, H: Origin>(rt: &R, desk: &Still<D, H>) -> Seat<H>
     ensures { desk_of result ≡ desk_id desk.now }
 {
     desk.seat(rt).expect(rt, "there is no seat")
@@ -94,13 +90,13 @@ fn not_begun(rt: &impl Abort, what: &'static str, fault: BeginFault) -> Never {
 }
 
 /// Begins a handle that is not refused. Fails the test where it is, and says that it was this one.
-pub fn begun<R: Abort + Wait, D: Disk, H: Origin, N: Ledger>(
+pub fn begun<R: Abort + Wait, D: Disk, H: Origin>(
     rt: &R,
-    desk: &Still<D, H, N>,
-    seat: Seat<H, N>,
+    desk: &Still<D, H>,
+    seat: Seat<H>,
     credits: u32,
     what: &'static str,
-) -> Handle<Seat<H, N>>
+) -> Handle<Seat<H>>
     ensures { holder result ≡ seat }
 {
     match desk.begin(rt, seat, credits) {
@@ -110,12 +106,12 @@ pub fn begun<R: Abort + Wait, D: Disk, H: Origin, N: Ledger>(
 }
 
 /// Begins a handle and drops it; says why that was refused.
-pub fn refused<R: Wait, D: Disk, H: Origin, N: Ledger>(
+pub fn refused<R: Wait, D: Disk, H: Origin>(
     rt: &R,
-    desk: &Still<D, H, N>,
-    seat: Seat<H, N>,
+    desk: &Still<D, H>,
+    seat: Seat<H>,
     credits: u32,
-) -> (Seat<H, N>, Option<BeginFault>)
+) -> (Seat<H>, Option<BeginFault>)
     ensures { result.0 ≡ seat }
 {
     match desk.begin(rt, seat, credits) {
@@ -125,11 +121,11 @@ pub fn refused<R: Wait, D: Disk, H: Origin, N: Ledger>(
 }
 
 /// Stops a handle, or drops it where that is refused.
-pub fn stop<R: Wait, D: Disk, H: Origin, N: Ledger>(
+pub fn stop<R: Wait, D: Disk, H: Origin>(
     rt: &R,
-    desk: &Still<D, H, N>,
-    handle: Handle<Seat<H, N>>,
-) -> (Seat<H, N>, Result<Ticket, EnqueueFault>)
+    desk: &Still<D, H>,
+    handle: Handle<Seat<H>>,
+) -> (Seat<H>, Result<Ticket, EnqueueFault>)
     requires any { (words : WordMap) → H.begun.stops words }
     requires desk { desk_of (holder handle) ≡ desk_id desk.now }
     ensures { desk_of result.0 ≡ desk_id desk.now }
@@ -143,13 +139,13 @@ pub fn stop<R: Wait, D: Disk, H: Origin, N: Ledger>(
 }
 
 /// Begins a handle of this many credits, writes home blocks and stops it. Gives its ticket, if it stopped.
-pub fn write<R: Wait, D: Disk, H: Origin, N: Ledger>(
+pub fn write<R: Wait, D: Disk, H: Origin>(
     rt: &R,
-    desk: &Still<D, H, N>,
-    seat: Seat<H, N>,
+    desk: &Still<D, H>,
+    seat: Seat<H>,
     credits: u32,
     homes: &[u64],
-) -> (Seat<H, N>, Option<u64>)
+) -> (Seat<H>, Option<u64>)
     requires any { (words : WordMap) → H.begun.stops words }
     requires desk { desk_of seat ≡ desk_id desk.now }
     ensures { desk_of result.0 ≡ desk_id desk.now }
@@ -164,10 +160,7 @@ pub fn write<R: Wait, D: Disk, H: Origin, N: Ledger>(
 }
 
 /// Writes home blocks in a handle.
-pub fn written<H: Origin, N: Ledger>(
-    handle: Handle<Seat<H, N>>,
-    homes: &[u64],
-) -> Handle<Seat<H, N>>
+pub fn written<H: Origin>(handle: Handle<Seat<H>>, homes: &[u64]) -> Handle<Seat<H>>
     ensures { holder result ≡ holder handle }
 {
     let mut handle = handle;
@@ -200,10 +193,10 @@ pub fn is_one(came: Came, ticket: u64, number: u32) -> bool {
 }
 
 /// One round of a committer.
-pub fn round<R: Wait, D: Disk, H: Origin, N: Ledger>(
+pub fn round<R: Wait, D: Disk, H: Origin>(
     rt: &R,
-    desk: &Still<D, H, N>,
-    committer: &mut Committer<H, N>,
+    desk: &Still<D, H>,
+    committer: &mut Committer<H>,
 ) -> Came
     requires desk { desk_of (seat_of committer.old) ≡ desk_id desk.now }
     ensures desk { desk_of (seat_of committer.new) ≡ desk_of (seat_of committer.old) }
@@ -219,11 +212,11 @@ pub fn round<R: Wait, D: Disk, H: Origin, N: Ledger>(
 }
 
 /// A seat becomes a committer for one round. Says what it came to, and whether the committer retired.
-pub fn round_of<R: Wait, D: Disk, H: Origin, N: Ledger>(
+pub fn round_of<R: Wait, D: Disk, H: Origin>(
     rt: &R,
-    desk: &Still<D, H, N>,
-    seat: Seat<H, N>,
-) -> (Seat<H, N>, Came, bool)
+    desk: &Still<D, H>,
+    seat: Seat<H>,
+) -> (Seat<H>, Came, bool)
     requires desk { desk_of seat ≡ desk_id desk.now }
     ensures { desk_of result.0 ≡ desk_id desk.now }
 {
@@ -234,12 +227,12 @@ pub fn round_of<R: Wait, D: Disk, H: Origin, N: Ledger>(
 }
 
 /// Stops a handle that writes a home block, and commits it.
-pub fn commit<R: Wait, D: Disk, H: Origin, N: Ledger>(
+pub fn commit<R: Wait, D: Disk, H: Origin>(
     rt: &R,
-    desk: &Still<D, H, N>,
-    seat: Seat<H, N>,
+    desk: &Still<D, H>,
+    seat: Seat<H>,
     home: u64,
-) -> (Seat<H, N>, Came)
+) -> (Seat<H>, Came)
     requires any { (words : WordMap) → H.begun.stops words }
     requires desk { desk_of seat ≡ desk_id desk.now }
     ensures { desk_of result.0 ≡ desk_id desk.now }
@@ -250,11 +243,11 @@ pub fn commit<R: Wait, D: Disk, H: Origin, N: Ledger>(
 }
 
 /// A committer retires, or gives up where it is handed back. Says whether it retired.
-pub fn retired<R: Wait, D: Disk, H: Origin, N: Ledger>(
+pub fn retired<R: Wait, D: Disk, H: Origin>(
     rt: &R,
-    desk: &Still<D, H, N>,
-    committer: Committer<H, N>,
-) -> (Seat<H, N>, bool)
+    desk: &Still<D, H>,
+    committer: Committer<H>,
+) -> (Seat<H>, bool)
     ensures { result.0 ≡ seat_of committer }
 {
     match desk.retire(rt, committer) {

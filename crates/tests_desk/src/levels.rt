@@ -14,7 +14,6 @@ use jb_disk::Disk;
 use std::alloc::Global;
 use std::process::Abort;
 use std::sync::Wait;
-use std::sync::ledger::Ledger;
 use std::thread;
 use std::thread::Threads;
 use std::time::{Clock, Duration};
@@ -27,12 +26,12 @@ pub type Answer = Result<CheckpointRound, CheckpointFault>;
 pub type Row = (u64, u32, Answer, u8);
 
 /// Commits this many handles one by one, each of which writes the next home.
-fn commit_all<R: Wait, D: Disk, H: Origin, N: Ledger>(
+fn commit_all<R: Wait, D: Disk, H: Origin>(
     rt: &R,
-    desk: &Still<D, H, N>,
-    seat: Seat<H, N>,
+    desk: &Still<D, H>,
+    seat: Seat<H>,
     commits: u64,
-) -> Seat<H, N>
+) -> Seat<H>
     requires any { (words : WordMap) → H.begun.stops words }
     requires desk { desk_of seat ≡ desk_id desk.now }
     ensures { desk_of result ≡ desk_id desk.now }
@@ -46,15 +45,15 @@ fn commit_all<R: Wait, D: Disk, H: Origin, N: Ledger>(
 }
 
 /// Checks what a desk comes to that has committed nothing yet.
-pub fn check_row<R: Abort + Wait, H: Origin, N: Ledger>(
+pub fn check_row<R: Abort + Wait, H: Origin>(
     rt: &R,
     alloc: Global,
     number: u64,
     row: Row,
-    desk: Small<H, N>,
+    desk: Small<H>,
 )
     requires any { (words : WordMap) → H.begun.stops words }
-    requires parts { (H.parts ≡ 2 ^ 61 + 1) × (N.parts ≡ 2 ^ 61 + 1) }
+    requires parts { H.parts ≡ 2 ^ 61 + 1 }
 {
     let (commits, level, answer, byte) = row;
     let seat = commit_all(rt, &desk, seated(rt, &desk), commits);
@@ -106,7 +105,7 @@ const LEVEL: u32 = 7;
 const APART: u64 = 100;
 
 /// How many blocks of the log are in use.
-fn in_use<R: Abort + Wait, D: Disk, H: Origin, N: Ledger>(rt: &R, desk: &Still<D, H, N>) -> u32 {
+fn in_use<R: Abort + Wait, D: Disk, H: Origin>(rt: &R, desk: &Still<D, H>) -> u32 {
     match desk.checkpoint_round_at(rt, u32::MAX) {
         Ok(CheckpointRound::Low(used)) => used,
         _ => fail(rt, "a round at the highest level"),
@@ -114,10 +113,7 @@ fn in_use<R: Abort + Wait, D: Disk, H: Origin, N: Ledger>(rt: &R, desk: &Still<D
 }
 
 /// How many are in use once there are fewer than the level, within ten seconds.
-fn in_use_at_last<R: Abort + Wait + Clock, D: Disk, H: Origin, N: Ledger>(
-    rt: &R,
-    desk: &Still<D, H, N>,
-) -> u32 {
+fn in_use_at_last<R: Abort + Wait + Clock, D: Disk, H: Origin>(rt: &R, desk: &Still<D, H>) -> u32 {
     for _ in 0..10_000 {
         let used = in_use(rt, desk);
         if used < LEVEL {
@@ -130,10 +126,7 @@ fn in_use_at_last<R: Abort + Wait + Clock, D: Disk, H: Origin, N: Ledger>(
 
 /// Commits two handles and then a third beside a checkpointer, and shuts the desk. Two groups are in use a while after
 /// the second, and none is once the checkpointer has been at work after the third.
-fn commit_beside<R: Abort + Wait + Clock, D: Disk, H: Origin, N: Ledger>(
-    rt: &R,
-    desk: &Still<D, H, N>,
-)
+fn commit_beside<R: Abort + Wait + Clock, D: Disk, H: Origin>(rt: &R, desk: &Still<D, H>)
     requires { (words : WordMap) → H.begun.stops words }
 {
     let seat = commit_all(rt, desk, seated(rt, desk), 2);
@@ -148,11 +141,10 @@ fn commit_beside<R: Abort + Wait + Clock, D: Disk, H: Origin, N: Ledger>(
 }
 
 /// Commits beside a checkpointer at the level, which leaves no group once the desk is over.
-pub fn beside<
-    R: Abort + Threads + Wait + Clock + Sync,
-    H: Origin + Send + Sync,
-    N: Ledger + Send + Sync,
->(rt: &R, desk: &Small<H, N>)
+pub fn beside<R: Abort + Threads + Wait + Clock + Sync, H: Origin + Send + Sync>(
+    rt: &R,
+    desk: &Small<H>,
+)
     requires { (words : WordMap) → H.begun.stops words }
 {
     let (ended, _) = thread::join(

@@ -15,7 +15,6 @@ use jb_disk::Disk;
 use std::alloc::Global;
 use std::process::Abort;
 use std::sync::Wait;
-use std::sync::ledger::Ledger;
 
 /// How a desk lives: how many rounds, in each of which a handle stops and is committed, whether a group is brought home
 /// in each, and whether the trail is taken.
@@ -86,9 +85,9 @@ fn check_entries(rt: &impl Abort, row: u64, entries: &[Entry], first: usize) {
 }
 
 /// After a round a group is brought home or is not, and the trail is taken or is not.
-fn tend<R: Abort + Wait, D: Disk, H: Origin, N: Ledger>(
+fn tend<R: Abort + Wait, D: Disk, H: Origin>(
     rt: &R,
-    desk: &Still<D, H, N>,
+    desk: &Still<D, H>,
     life: Life,
     taken: &mut Taken,
 ) {
@@ -103,13 +102,13 @@ fn tend<R: Abort + Wait, D: Disk, H: Origin, N: Ledger>(
 }
 
 /// The rounds of a life.
-fn rounds<R: Abort + Wait, D: Disk, H: Origin, N: Ledger>(
+fn rounds<R: Abort + Wait, D: Disk, H: Origin>(
     rt: &R,
-    desk: &Still<D, H, N>,
-    seat: Seat<H, N>,
+    desk: &Still<D, H>,
+    seat: Seat<H>,
     life: Life,
     taken: &mut Taken,
-) -> Seat<H, N>
+) -> Seat<H>
     requires any { (words : WordMap) → H.begun.stops words }
     requires desk { desk_of seat ≡ desk_id desk.now }
     ensures { desk_of result ≡ desk_id desk.now }
@@ -124,10 +123,10 @@ fn rounds<R: Abort + Wait, D: Disk, H: Origin, N: Ledger>(
 }
 
 /// Checks what is answered of the first ticket of a life, and of the last one.
-fn check_numbers<R: Abort + Wait, D: Disk, H: Origin, N: Ledger>(
+fn check_numbers<R: Abort + Wait, D: Disk, H: Origin>(
     rt: &R,
-    desk: &Still<D, H, N>,
-    seat: &mut Seat<H, N>,
+    desk: &Still<D, H>,
+    seat: &mut Seat<H>,
     number: u64,
     row: &Row,
 )
@@ -153,15 +152,15 @@ fn check_trail(rt: &impl Abort, number: u64, lived: Lived, taken: &Taken, trail:
 }
 
 /// Checks what the life of a desk comes to.
-pub fn outcome<R: Abort + Wait, H: Origin, N: Ledger>(
+pub fn outcome<R: Abort + Wait, H: Origin>(
     rt: &R,
     alloc: Global,
     number: u64,
     row: &Row,
-    desk: Small<H, N>,
+    desk: Small<H>,
 )
     requires any { (words : WordMap) → H.begun.stops words }
-    requires parts { (H.parts ≡ 2 ^ 61 + 1) × (N.parts ≡ 2 ^ 61 + 1) }
+    requires parts { H.parts ≡ 2 ^ 61 + 1 }
 {
     let (life, lived) = *row;
     let mut taken = Taken::new(alloc);

@@ -23,7 +23,6 @@ use std::alloc::Global;
 use std::marker::Brand;
 use std::process::Abort;
 use std::sync::Wait;
-use std::sync::ledger::{Blank, Ledger};
 use std::thread::Threads;
 use std::time::Clock;
 
@@ -45,7 +44,7 @@ struct Load {
 }
 
 /// A desk whose disk stops.
-type Fused<H, N> = Still<FuseDisk<MemoryDisk>, H, N>;
+type Fused<H> = Still<FuseDisk<MemoryDisk>, H>;
 
 /// A disk after a load, and what was reported of it.
 #[derive(Drop)]
@@ -69,16 +68,16 @@ fn journal(rt: &impl Abort, alloc: Global) -> MemoryDisk {
 
 /// What all threads report, put together; the stops are in the order of their tickets.
 #[derive(Drop)]
-struct Sums<H: Origin, N: Ledger> {
-    lefts: Vec<Left<H, N>>,
+struct Sums<H: Origin> {
+    lefts: Vec<Left<H>>,
     stops: Vec<Stop>,
     waited: Vec<(u64, u32)>,
     touched: u64,
 }
 
-impl<H: Origin, N: Ledger> Sums<H, N> {
+impl<H: Origin> Sums<H> {
     /// Adds what a thread reports.
-    fn add(&mut self, rt: &impl Abort, worked: Worked<H, N>) {
+    fn add(&mut self, rt: &impl Abort, worked: Worked<H>) {
         let Worked { left, report } = worked;
         let Report {
             mut stops,
@@ -94,11 +93,7 @@ impl<H: Origin, N: Ledger> Sums<H, N> {
 }
 
 /// Puts the threads' reports together.
-fn sums_of<H: Origin, N: Ledger>(
-    rt: &impl Abort,
-    alloc: Global,
-    reports: Reports<H, N>,
-) -> Sums<H, N> {
+fn sums_of<H: Origin>(rt: &impl Abort, alloc: Global, reports: Reports<H>) -> Sums<H> {
     let mut all = Sums {
         lefts: Vec::new(alloc),
         stops: Vec::new(alloc),
@@ -116,13 +111,14 @@ fn sums_of<H: Origin, N: Ledger>(
 }
 
 /// A load of a new desk.
-fn loaded<
-    R: Abort + Threads + Wait + Clock + Sync,
-    H: Origin + Send + Sync,
-    N: Ledger + Send + Sync,
->(rt: &R, alloc: Global, load: Load, desk: Fused<H, N>) -> Outcome
+fn loaded<R: Abort + Threads + Wait + Clock + Sync, H: Origin + Send + Sync>(
+    rt: &R,
+    alloc: Global,
+    load: Load,
+    desk: Fused<H>,
+) -> Outcome
     requires any { (words : WordMap) → H.begun.stops words }
-    requires parts { (H.parts ≡ 2 ^ 61 + 1) × (N.parts ≡ 2 ^ 61 + 1) }
+    requires parts { H.parts ≡ 2 ^ 61 + 1 }
 {
     let reports = work_all(rt, alloc, &desk, load.seed, load.handles);
     let (committed, checkpointed) = reports.ended;
@@ -146,27 +142,21 @@ fn loaded<
 }
 
 /// A load of a new desk. `None` where the journal could not be opened.
-fn outcome_of<
-    R: Abort + Threads + Wait + Clock + Sync,
-    H: Origin + Send + Sync,
-    N: Ledger + Send + Sync,
->(
+fn outcome_of<R: Abort + Threads + Wait + Clock + Sync, H: Origin + Send + Sync>(
     rt: &R,
     alloc: Global,
     load: Load,
     handles: StopLedger,
-    changes: Blank,
     marks: NewHistory<Deck<FuseDisk<MemoryDisk>>>,
 ) -> Option<Outcome>
     requires blind { (H.begun.is_known → ⊥) × (H.begun.none_failed → ⊥) }
     requires any { (words : WordMap) → H.begun.stops words }
     requires handles { (handles.tickets.name ≡ H.name) × (handles.tickets.parts ≡ H.parts) × (H.parts ≡ 2 ^ 61 + 1) }
     requires histories { (history_in handles ≡ H.history) × (history_id marks ≡ H.marks) }
-    requires changes { (changes.name ≡ N.name) × (changes.parts ≡ N.parts) × (N.parts ≡ 2 ^ 61 + 1) }
 {
     match opened(alloc, FuseDisk::of(journal(rt, alloc), load.calls)) {
         Some(deck) => {
-            let desk: Fused<H, N> = start(rt, alloc, handles, changes, marks, deck);
+            let desk: Fused<H> = start(rt, alloc, handles, marks, deck);
             Some(loaded(rt, alloc, load, desk))
         }
         None => None,
@@ -288,7 +278,7 @@ fn run_load<R: Abort + Threads + Wait + Clock + Sync>(rt: &R, alloc: Global, see
     let load = load_of(&mut draws, seed);
     let handles = stops(rt, alloc);
     let marks = marks(rt, alloc);
-    let outcome = outcome_of::<R, Brand, Brand>(rt, alloc, load, handles, Blank::new(PARTS), marks);
+    let outcome = outcome_of::<R, Brand>(rt, alloc, load, handles, marks);
     check_load(rt, alloc, &mut draws, load, outcome)
 }
 

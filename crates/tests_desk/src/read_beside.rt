@@ -11,7 +11,6 @@ use std::alloc::Global;
 use std::process::Abort;
 use std::sync::Wait;
 use std::sync::atomic::Ordering;
-use std::sync::ledger::Ledger;
 use std::thread;
 use std::thread::Threads;
 use std::time::{Clock, Duration};
@@ -20,7 +19,7 @@ use std::time::{Clock, Duration};
 const APART: u64 = 100;
 
 /// Stops a handle and commits it. The home is read between the two as it was.
-fn commit<R: Abort + Wait, D: Disk, H: Origin, N: Ledger>(rt: &R, desk: &Still<D, H, N>)
+fn commit<R: Abort + Wait, D: Disk, H: Origin>(rt: &R, desk: &Still<D, H>)
     requires { (words : WordMap) → H.begun.stops words }
 {
     let (seat, _) = write(rt, desk, seated(rt, desk), 1, &[1]);
@@ -43,11 +42,7 @@ fn let_pass<R: Abort + Clock>(rt: &R, gate: &Gate) {
 }
 
 /// Reads the home while the disk holds a round.
-fn read<R: Abort + Wait + Clock, D: Disk, H: Origin, N: Ledger>(
-    rt: &R,
-    desk: &Still<D, H, N>,
-    gate: &Gate,
-) {
+fn read<R: Abort + Wait + Clock, D: Disk, H: Origin>(rt: &R, desk: &Still<D, H>, gate: &Gate) {
     await_flag(rt, &gate.is_writing, "the log is not written");
     let during = filled(rt, desk, 1);
     check_at(
@@ -60,9 +55,9 @@ fn read<R: Abort + Wait + Clock, D: Disk, H: Origin, N: Ledger>(
 
 /// What each of three threads does: one commits, one reads the home while the disk holds the round, and one lets the
 /// round go on.
-fn act<R: Abort + Wait + Clock, D: Disk, H: Origin, N: Ledger>(
+fn act<R: Abort + Wait + Clock, D: Disk, H: Origin>(
     rt: &R,
-    desk: &Still<D, H, N>,
+    desk: &Still<D, H>,
     gate: &Gate,
     thread: usize,
 )
@@ -80,8 +75,7 @@ pub fn commit_and_read<
     R: Abort + Threads + Wait + Clock + Sync,
     D: Disk + Send,
     H: Origin + Send + Sync,
-    N: Ledger + Send + Sync,
->(rt: &R, alloc: Global, desk: &Still<D, H, N>, gate: &Gate)
+>(rt: &R, alloc: Global, desk: &Still<D, H>, gate: &Gate)
     requires { (words : WordMap) → H.begun.stops words }
 {
     thread::map_indices(

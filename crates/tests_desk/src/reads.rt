@@ -13,7 +13,6 @@ use jb_disk::Disk;
 use std::alloc::Global;
 use std::process::Abort;
 use std::sync::Wait;
-use std::sync::ledger::Ledger;
 use std::thread::Threads;
 use std::time::Clock;
 
@@ -21,11 +20,7 @@ use std::time::Clock;
 type Homes = [u8; 16];
 
 /// The byte that fills a home, which is read and has no other bytes.
-pub fn filled<R: Abort + Wait, D: Disk, H: Origin, N: Ledger>(
-    rt: &R,
-    desk: &Still<D, H, N>,
-    home: u64,
-) -> u8 {
+pub fn filled<R: Abort + Wait, D: Disk, H: Origin>(rt: &R, desk: &Still<D, H>, home: u64) -> u8 {
     let mut block = [0; 1024];
     let read = desk.read(rt, &mut desk.sights(rt), home, &mut block);
     let byte = block[0];
@@ -35,9 +30,9 @@ pub fn filled<R: Abort + Wait, D: Disk, H: Origin, N: Ledger>(
 }
 
 /// Checks what each home is filled with, after the step of this number.
-fn check_homes<R: Abort + Wait, D: Disk, H: Origin, N: Ledger>(
+fn check_homes<R: Abort + Wait, D: Disk, H: Origin>(
     rt: &R,
-    desk: &Still<D, H, N>,
+    desk: &Still<D, H>,
     number: u64,
     wanted: &Homes,
 ) {
@@ -63,13 +58,13 @@ enum Step {
 }
 
 /// A handle that fills a home with a byte stops.
-fn fill<R: Abort + Wait, D: Disk, H: Origin, N: Ledger>(
+fn fill<R: Abort + Wait, D: Disk, H: Origin>(
     rt: &R,
-    desk: &Still<D, H, N>,
-    seat: Seat<H, N>,
+    desk: &Still<D, H>,
+    seat: Seat<H>,
     home: u64,
     byte: u8,
-) -> (Seat<H, N>, bool)
+) -> (Seat<H>, bool)
     requires any { (words : WordMap) → H.begun.stops words }
     requires desk { desk_of seat ≡ desk_id desk.now }
 {
@@ -80,11 +75,7 @@ fn fill<R: Abort + Wait, D: Disk, H: Origin, N: Ledger>(
 }
 
 /// A round that commits something.
-fn commit<R: Wait, D: Disk, H: Origin, N: Ledger>(
-    rt: &R,
-    desk: &Still<D, H, N>,
-    seat: Seat<H, N>,
-) -> (Seat<H, N>, bool)
+fn commit<R: Wait, D: Disk, H: Origin>(rt: &R, desk: &Still<D, H>, seat: Seat<H>) -> (Seat<H>, bool)
     requires desk { desk_of seat ≡ desk_id desk.now }
 {
     let (seat, came, _) = round_of(rt, desk, seat);
@@ -92,12 +83,7 @@ fn commit<R: Wait, D: Disk, H: Origin, N: Ledger>(
 }
 
 /// Takes the step of this number, with a seat of its own.
-fn take<R: Abort + Wait, D: Disk, H: Origin, N: Ledger>(
-    rt: &R,
-    desk: &Still<D, H, N>,
-    number: u64,
-    step: Step,
-)
+fn take<R: Abort + Wait, D: Disk, H: Origin>(rt: &R, desk: &Still<D, H>, number: u64, step: Step)
     requires any { (words : WordMap) → H.begun.stops words }
 {
     let seat = seated(rt, desk);
@@ -154,7 +140,7 @@ impl Written {
 }
 
 /// Takes all steps, and checks after each that the homes are read as they are committed.
-fn check_steps<R: Abort + Wait, D: Disk, H: Origin, N: Ledger>(rt: &R, desk: &Still<D, H, N>)
+fn check_steps<R: Abort + Wait, D: Disk, H: Origin>(rt: &R, desk: &Still<D, H>)
     requires any { (words : WordMap) → H.begun.stops words }
 {
     let mut filled = Written {
@@ -170,7 +156,7 @@ fn check_steps<R: Abort + Wait, D: Disk, H: Origin, N: Ledger>(rt: &R, desk: &St
 }
 
 /// Takes all steps at a new desk, and then reads into half a block.
-pub fn stepped<R: Abort + Wait, D: Disk, H: Origin, N: Ledger>(rt: &R, desk: &Still<D, H, N>)
+pub fn stepped<R: Abort + Wait, D: Disk, H: Origin>(rt: &R, desk: &Still<D, H>)
     requires { (words : WordMap) → H.begun.stops words }
 {
     check_steps(rt, desk);
@@ -194,10 +180,7 @@ fn homes_are_read_as_they_are_committed(rt: HostRuntime) {
 }
 
 /// A read fails, a handle is committed after it, and the home is read again.
-pub fn fate_of<R: Abort + Wait, D: Disk, H: Origin, N: Ledger>(
-    rt: &R,
-    desk: &Still<D, H, N>,
-) -> Fate
+pub fn fate_of<R: Abort + Wait, D: Disk, H: Origin>(rt: &R, desk: &Still<D, H>) -> Fate
     requires any { (words : WordMap) → H.begun.stops words }
 {
     let read = desk.read(rt, &mut desk.sights(rt), 2, &mut [0; 1024]);

@@ -14,7 +14,6 @@ use jb_desk::{BeginFault, Origin, RoundFault, Seat, WaitFault};
 use std::alloc::Global;
 use std::process::Abort;
 use std::sync::Wait;
-use std::sync::ledger::Ledger;
 use std::time::Clock;
 
 /// A handle has stopped.
@@ -45,11 +44,7 @@ const HOME: Checked = Checked {
 };
 
 /// A seat commits after a round that has nothing to commit, since its handle was dropped.
-fn check_idle<R: Abort + Wait, H: Origin, N: Ledger>(
-    rt: &R,
-    desk: &Small<H, N>,
-    seat: Seat<H, N>,
-) -> Seat<H, N>
+fn check_idle<R: Abort + Wait, H: Origin>(rt: &R, desk: &Small<H>, seat: Seat<H>) -> Seat<H>
     requires desk { desk_of seat ≡ desk_id desk.now }
     ensures { desk_of result ≡ desk_id desk.now }
 {
@@ -64,11 +59,7 @@ fn check_idle<R: Abort + Wait, H: Origin, N: Ledger>(
 }
 
 /// A seat commits its own handle.
-fn check_commit<R: Abort + Wait, H: Origin, N: Ledger>(
-    rt: &R,
-    desk: &Small<H, N>,
-    seat: Seat<H, N>,
-) -> Seat<H, N>
+fn check_commit<R: Abort + Wait, H: Origin>(rt: &R, desk: &Small<H>, seat: Seat<H>) -> Seat<H>
     requires any { (words : WordMap) → H.begun.stops words }
     requires desk { desk_of seat ≡ desk_id desk.now }
     ensures { desk_of result ≡ desk_id desk.now }
@@ -86,11 +77,7 @@ fn check_commit<R: Abort + Wait, H: Origin, N: Ledger>(
 }
 
 /// The group is brought home, and its ticket is asked for beside one that nobody has.
-fn check_settled<R: Abort + Wait, H: Origin, N: Ledger>(
-    rt: &R,
-    desk: &Small<H, N>,
-    seat: &mut Seat<H, N>,
-)
+fn check_settled<R: Abort + Wait, H: Origin>(rt: &R, desk: &Small<H>, seat: &mut Seat<H>)
     requires desk { desk_of seat.old ≡ desk_id desk.now }
     ensures { desk_of seat.new ≡ desk_id desk.now }
 {
@@ -113,11 +100,7 @@ fn check_settled<R: Abort + Wait, H: Origin, N: Ledger>(
 }
 
 /// The desk is shut, and a committer ends.
-fn check_shut<R: Abort + Wait + Clock, H: Origin, N: Ledger>(
-    rt: &R,
-    desk: &Small<H, N>,
-    seat: Seat<H, N>,
-) -> Seat<H, N>
+fn check_shut<R: Abort + Wait + Clock, H: Origin>(rt: &R, desk: &Small<H>, seat: Seat<H>) -> Seat<H>
     requires desk { desk_of seat ≡ desk_id desk.now }
 {
     desk.shut(rt);
@@ -134,13 +117,9 @@ fn check_shut<R: Abort + Wait + Clock, H: Origin, N: Ledger>(
 }
 
 /// What a seat finds that commits its own handle, and what is counted at the end: handles, changes and groups.
-pub fn one_round<R: Abort + Wait + Clock, H: Origin, N: Ledger>(
-    rt: &R,
-    alloc: Global,
-    desk: Small<H, N>,
-)
+pub fn one_round<R: Abort + Wait + Clock, H: Origin>(rt: &R, alloc: Global, desk: Small<H>)
     requires any { (words : WordMap) → H.begun.stops words }
-    requires parts { (H.parts ≡ 2 ^ 61 + 1) × (N.parts ≡ 2 ^ 61 + 1) }
+    requires parts { H.parts ≡ 2 ^ 61 + 1 }
 {
     let seat = check_idle(rt, &desk, seated(rt, &desk));
     let mut seat = check_commit(rt, &desk, seat);
@@ -151,11 +130,7 @@ pub fn one_round<R: Abort + Wait + Clock, H: Origin, N: Ledger>(
 }
 
 /// A round in which two handles take a group each, where the journal has one number left.
-fn check_refused<R: Abort + Wait, H: Origin, N: Ledger>(
-    rt: &R,
-    desk: &Small<H, N>,
-    seat: Seat<H, N>,
-) -> Seat<H, N>
+fn check_refused<R: Abort + Wait, H: Origin>(rt: &R, desk: &Small<H>, seat: Seat<H>) -> Seat<H>
     requires desk { desk_of seat ≡ desk_id desk.now }
 {
     let (mut seat, came, is_retired) = round_of(rt, desk, seat);
@@ -179,9 +154,9 @@ fn check_refused<R: Abort + Wait, H: Origin, N: Ledger>(
 
 /// What two handles find of which each takes a group, where the journal has one number left: tickets, how the round
 /// ends, whether the committer retires then, and how the desk is closed.
-pub fn no_number<R: Abort + Wait, H: Origin, N: Ledger>(rt: &R, alloc: Global, desk: Small<H, N>)
+pub fn no_number<R: Abort + Wait, H: Origin>(rt: &R, alloc: Global, desk: Small<H>)
     requires any { (words : WordMap) → H.begun.stops words }
-    requires parts { (H.parts ≡ 2 ^ 61 + 1) × (N.parts ≡ 2 ^ 61 + 1) }
+    requires parts { H.parts ≡ 2 ^ 61 + 1 }
 {
     let (seat, first) = write(rt, &desk, seated(rt, &desk), 6, &[0, 1, 2, 3, 4, 5]);
     let last = desk.leave(rt, seat);

@@ -17,7 +17,6 @@ use jb_handle::{Handle, TouchFault};
 use std::alloc::Global;
 use std::process::Abort;
 use std::sync::Wait;
-use std::sync::ledger::Ledger;
 use std::thread;
 use std::thread::Threads;
 use std::time::Clock;
@@ -26,8 +25,8 @@ use std::time::Clock;
 const TURNS: u32 = 1_000_000;
 
 /// Makes one change in a handle.
-fn touch<H: Origin, N: Ledger>(
-    handle: &mut Handle<Seat<H, N>>,
+fn touch<H: Origin>(
+    handle: &mut Handle<Seat<H>>,
     key: u64,
     change: Change,
 ) -> Result<(), TouchFault>
@@ -42,12 +41,7 @@ fn touch<H: Origin, N: Ledger>(
 }
 
 /// The same. A change that is out of memory is made once more.
-fn touch_again<H: Origin, N: Ledger>(
-    rt: &impl Abort,
-    handle: &mut Handle<Seat<H, N>>,
-    key: u64,
-    change: Change,
-)
+fn touch_again<H: Origin>(rt: &impl Abort, handle: &mut Handle<Seat<H>>, key: u64, change: Change)
     ensures { holder handle.new ≡ holder handle.old }
 {
     let mut made = touch(handle, key, change);
@@ -58,11 +52,7 @@ fn touch_again<H: Origin, N: Ledger>(
 }
 
 /// Makes the changes of this key in a handle.
-fn change_all<H: Origin, N: Ledger>(
-    rt: &impl Abort,
-    handle: Handle<Seat<H, N>>,
-    key: u64,
-) -> Handle<Seat<H, N>>
+fn change_all<H: Origin>(rt: &impl Abort, handle: Handle<Seat<H>>, key: u64) -> Handle<Seat<H>>
     ensures { holder result ≡ holder handle }
 {
     let mut handle = handle;
@@ -75,11 +65,11 @@ fn change_all<H: Origin, N: Ledger>(
 }
 
 /// Stops a handle. A stop that is out of memory is called again.
-fn stop_again<R: Wait, D: Disk, H: Origin, N: Ledger>(
+fn stop_again<R: Wait, D: Disk, H: Origin>(
     rt: &R,
-    desk: &Still<D, H, N>,
-    handle: Handle<Seat<H, N>>,
-) -> (Seat<H, N>, Result<u64, EnqueueFault>)
+    desk: &Still<D, H>,
+    handle: Handle<Seat<H>>,
+) -> (Seat<H>, Result<u64, EnqueueFault>)
     requires any { (words : WordMap) → H.begun.stops words }
     requires desk { desk_of (holder handle) ≡ desk_id desk.now }
     ensures { desk_of result.0 ≡ desk_id desk.now }
@@ -93,10 +83,10 @@ fn stop_again<R: Wait, D: Disk, H: Origin, N: Ledger>(
 }
 
 /// Waits for the last ticket that a thread was given.
-fn wait_for_last<R: Abort + Wait, D: Disk, H: Origin, N: Ledger>(
+fn wait_for_last<R: Abort + Wait, D: Disk, H: Origin>(
     rt: &R,
-    desk: &Still<D, H, N>,
-    seat: &mut Seat<H, N>,
+    desk: &Still<D, H>,
+    seat: &mut Seat<H>,
     report: &mut Report,
 )
     requires desk { desk_of seat.old ≡ desk_id desk.now }
@@ -109,13 +99,13 @@ fn wait_for_last<R: Abort + Wait, D: Disk, H: Origin, N: Ledger>(
 }
 
 /// Stops a handle, and waits for some.
-fn stop_noted<R: Abort + Wait, D: Disk, H: Origin, N: Ledger>(
+fn stop_noted<R: Abort + Wait, D: Disk, H: Origin>(
     rt: &R,
-    desk: &Still<D, H, N>,
-    handle: Handle<Seat<H, N>>,
+    desk: &Still<D, H>,
+    handle: Handle<Seat<H>>,
     key: u64,
     report: &mut Report,
-) -> Seat<H, N>
+) -> Seat<H>
     requires any { (words : WordMap) → H.begun.stops words }
     requires desk { desk_of (holder handle) ≡ desk_id desk.now }
     ensures { desk_of result ≡ desk_id desk.now }
@@ -130,13 +120,13 @@ fn stop_noted<R: Abort + Wait, D: Disk, H: Origin, N: Ledger>(
 }
 
 /// Makes the changes of this key in a handle, and stops it or drops it.
-fn run<R: Abort + Wait, D: Disk, H: Origin, N: Ledger>(
+fn run<R: Abort + Wait, D: Disk, H: Origin>(
     rt: &R,
-    desk: &Still<D, H, N>,
-    handle: Handle<Seat<H, N>>,
+    desk: &Still<D, H>,
+    handle: Handle<Seat<H>>,
     key: u64,
     report: &mut Report,
-) -> Seat<H, N>
+) -> Seat<H>
     requires any { (words : WordMap) → H.begun.stops words }
     requires desk { desk_of (holder handle) ≡ desk_id desk.now }
     ensures { desk_of result ≡ desk_id desk.now }
@@ -150,13 +140,13 @@ fn run<R: Abort + Wait, D: Disk, H: Origin, N: Ledger>(
 }
 
 /// Begins a handle and stops it, or drops it; says whether one was begun.
-fn once<R: Abort + Wait + Clock, D: Disk, H: Origin, N: Ledger>(
+fn once<R: Abort + Wait + Clock, D: Disk, H: Origin>(
     rt: &R,
-    desk: &Still<D, H, N>,
-    seat: Seat<H, N>,
+    desk: &Still<D, H>,
+    seat: Seat<H>,
     key: u64,
     report: &mut Report,
-) -> (Seat<H, N>, bool)
+) -> (Seat<H>, bool)
     requires any { (words : WordMap) → H.begun.stops words }
     requires desk { desk_of seat ≡ desk_id desk.now }
     ensures { desk_of result.0 ≡ desk_id desk.now }
@@ -172,19 +162,19 @@ fn once<R: Abort + Wait + Clock, D: Disk, H: Origin, N: Ledger>(
 
 /// What a thread has done, and what its seat left.
 #[derive(Drop)]
-pub struct Worked<H: Origin, N: Ledger> {
-    pub left: Left<H, N>,
+pub struct Worked<H: Origin> {
+    pub left: Left<H>,
     pub report: Report,
 }
 
 /// Takes a seat, begins this many handles, and leaves after the last one is settled.
-fn work<R: Abort + Wait + Clock, D: Disk, H: Origin, N: Ledger>(
+fn work<R: Abort + Wait + Clock, D: Disk, H: Origin>(
     rt: &R,
     alloc: Global,
-    desk: &Still<D, H, N>,
+    desk: &Still<D, H>,
     draws: Draws,
     handles: u32,
-) -> Worked<H, N>
+) -> Worked<H>
     requires any { (words : WordMap) → H.begun.stops words }
 {
     let mut report = Report::new(alloc);
@@ -210,10 +200,10 @@ fn work<R: Abort + Wait + Clock, D: Disk, H: Origin, N: Ledger>(
 
 /// Commits until the desk is shut; where a round is out of memory, the next one takes its batch up. Gives what its seat
 /// left, and how it ended.
-fn commit<R: Abort + Wait + Clock, D: Disk, H: Origin, N: Ledger>(
+fn commit<R: Abort + Wait + Clock, D: Disk, H: Origin>(
     rt: &R,
-    desk: &Still<D, H, N>,
-) -> (Left<H, N>, Ended) {
+    desk: &Still<D, H>,
+) -> (Left<H>, Ended) {
     let (mut committer, mut ended) = desk.run_committer(rt, desk.committer(seated(rt, desk)));
     if ended == Ended::Memory {
         (committer, ended) = desk.run_committer(rt, committer);
@@ -224,28 +214,29 @@ fn commit<R: Abort + Wait + Clock, D: Disk, H: Origin, N: Ledger>(
 
 /// What all threads report.
 #[derive(Drop)]
-pub struct Reports<H: Origin, N: Ledger> {
-    pub of_threads: Vec<Worked<H, N>>,
+pub struct Reports<H: Origin> {
+    pub of_threads: Vec<Worked<H>>,
     /// what the committer's seat left
-    pub left: Left<H, N>,
+    pub left: Left<H>,
     /// how the committer and the checkpointer ended
     pub ended: (Ended, Ended),
 }
 
 /// Eight threads begin this many handles each; then the desk is shut.
-fn work_eight<
-    R: Abort + Threads + Wait + Clock + Sync,
-    D: Disk + Send,
-    H: Origin + Send + Sync,
-    N: Ledger + Send + Sync,
->(rt: &R, alloc: Global, desk: &Still<D, H, N>, seed: u64, handles: u32) -> Vec<Worked<H, N>>
+fn work_eight<R: Abort + Threads + Wait + Clock + Sync, D: Disk + Send, H: Origin + Send + Sync>(
+    rt: &R,
+    alloc: Global,
+    desk: &Still<D, H>,
+    seed: u64,
+    handles: u32,
+) -> Vec<Worked<H>>
     requires { (words : WordMap) → H.begun.stops words }
 {
     let reports = thread::map_indices(
         rt,
         alloc,
         8,
-        &|k: usize| -> Worked<H, N>
+        &|k: usize| -> Worked<H>
             requires { (words : WordMap) → H.begun.stops words }
         {
             work(
@@ -262,17 +253,18 @@ fn work_eight<
 }
 
 /// Eight threads begin this many handles each, while one commits and one brings groups home.
-pub fn work_all<
-    R: Abort + Threads + Wait + Clock + Sync,
-    D: Disk + Send,
-    H: Origin + Send + Sync,
-    N: Ledger + Send + Sync,
->(rt: &R, alloc: Global, desk: &Still<D, H, N>, seed: u64, handles: u32) -> Reports<H, N>
+pub fn work_all<R: Abort + Threads + Wait + Clock + Sync, D: Disk + Send, H: Origin + Send + Sync>(
+    rt: &R,
+    alloc: Global,
+    desk: &Still<D, H>,
+    seed: u64,
+    handles: u32,
+) -> Reports<H>
     requires any { (words : WordMap) → H.begun.stops words }
 {
     let (of_threads, ((left, ended), checkpointed)) = thread::join(
         rt,
-        || -> Vec<Worked<H, N>>
+        || -> Vec<Worked<H>>
             requires { (words : WordMap) → H.begun.stops words }
         { work_eight(rt, alloc, desk, seed, handles) },
         || thread::join(rt, || commit(rt, desk), || desk.run_checkpointer(rt)),

@@ -17,7 +17,6 @@ use std::alloc::Global;
 use std::marker::Brand;
 use std::process::Abort;
 use std::sync::Wait;
-use std::sync::ledger::{Blank, Ledger};
 use std::thread::Threads;
 use std::time::Clock;
 
@@ -49,11 +48,12 @@ pub enum Look {
 }
 
 /// Asks this of a desk.
-fn look_at<
-    R: Abort + Threads + Wait + Clock + Sync,
-    H: Origin + Send + Sync,
-    N: Ledger + Send + Sync,
->(rt: &R, alloc: Global, look: Look, desk: &Small<H, N>)
+fn look_at<R: Abort + Threads + Wait + Clock + Sync, H: Origin + Send + Sync>(
+    rt: &R,
+    alloc: Global,
+    look: Look,
+    desk: &Small<H>,
+)
     requires { (words : WordMap) → H.begun.stops words }
 {
     match look {
@@ -67,14 +67,14 @@ fn look_at<
 }
 
 /// Asks this of a desk.
-fn ask<R: Abort + Threads + Wait + Clock + Sync, H: Origin + Send + Sync, N: Ledger + Send + Sync>(
+fn ask<R: Abort + Threads + Wait + Clock + Sync, H: Origin + Send + Sync>(
     rt: &R,
     alloc: Global,
     trial: Trial,
-    desk: Small<H, N>,
+    desk: Small<H>,
 )
     requires any { (words : WordMap) → H.begun.stops words }
-    requires parts { (H.parts ≡ 2 ^ 61 + 1) × (N.parts ≡ 2 ^ 61 + 1) }
+    requires parts { H.parts ≡ 2 ^ 61 + 1 }
 {
     match trial {
         Trial::OneHandle => desks::one_handle(rt, alloc, desk),
@@ -97,26 +97,20 @@ fn disk_of(rt: &impl Abort, alloc: Global, trial: Trial) -> MemoryDisk {
 }
 
 /// Starts a desk, and asks this of it.
-fn started<
-    R: Abort + Threads + Wait + Clock + Sync,
-    H: Origin + Send + Sync,
-    N: Ledger + Send + Sync,
->(
+fn started<R: Abort + Threads + Wait + Clock + Sync, H: Origin + Send + Sync>(
     rt: &R,
     alloc: Global,
     trial: Trial,
     handles: StopLedger,
-    changes: Blank,
     marks: NewHistory<Deck<MemoryDisk>>,
 )
     requires blind { (H.begun.is_known → ⊥) × (H.begun.none_failed → ⊥) }
     requires any { (words : WordMap) → H.begun.stops words }
     requires handles { (handles.tickets.name ≡ H.name) × (handles.tickets.parts ≡ H.parts) × (H.parts ≡ 2 ^ 61 + 1) }
     requires histories { (history_in handles ≡ H.history) × (history_id marks ≡ H.marks) }
-    requires changes { (changes.name ≡ N.name) × (changes.parts ≡ N.parts) × (N.parts ≡ 2 ^ 61 + 1) }
 {
     let deck = opened(alloc, disk_of(rt, alloc, trial)).expect(rt, "the journal is not opened");
-    let desk: Small<H, N> = start(rt, alloc, handles, changes, marks, deck);
+    let desk: Small<H> = start(rt, alloc, handles, marks, deck);
     ask(rt, alloc, trial, desk)
 }
 
@@ -124,7 +118,7 @@ fn started<
 pub fn run<R: Abort + Threads + Wait + Clock + Sync>(rt: &R, alloc: Global, trial: Trial) {
     let handles = stops(rt, alloc);
     let marks = marks(rt, alloc);
-    started::<R, Brand, Brand>(rt, alloc, trial, handles, Blank::new(PARTS), marks)
+    started::<R, Brand>(rt, alloc, trial, handles, marks)
 }
 
 /// What is asked of a new desk over the small journal whose disk fails once.
@@ -150,13 +144,15 @@ pub enum Fate {
 }
 
 /// Asks this of a desk, where this call of the disk fails.
-fn ask_failing<
-    R: Abort + Threads + Wait + Clock + Sync,
-    H: Origin + Send + Sync,
-    N: Ledger + Send + Sync,
->(rt: &R, alloc: Global, trial: FaultTrial, call: u64, desk: Failing<H, N>) -> Fate
+fn ask_failing<R: Abort + Threads + Wait + Clock + Sync, H: Origin + Send + Sync>(
+    rt: &R,
+    alloc: Global,
+    trial: FaultTrial,
+    call: u64,
+    desk: Failing<H>,
+) -> Fate
     requires any { (words : WordMap) → H.begun.stops words }
-    requires parts { (H.parts ≡ 2 ^ 61 + 1) × (N.parts ≡ 2 ^ 61 + 1) }
+    requires parts { H.parts ≡ 2 ^ 61 + 1 }
 {
     match trial {
         FaultTrial::Round => faults::fate_of(rt, alloc, call, desk),
@@ -175,31 +171,25 @@ fn failing_disk(rt: &impl Abort, alloc: Global, trial: FaultTrial) -> MemoryDisk
 }
 
 /// Starts a desk, and asks this of it where this call of the disk fails.
-fn started_failing<
-    R: Abort + Threads + Wait + Clock + Sync,
-    H: Origin + Send + Sync,
-    N: Ledger + Send + Sync,
->(
+fn started_failing<R: Abort + Threads + Wait + Clock + Sync, H: Origin + Send + Sync>(
     rt: &R,
     alloc: Global,
     trial: FaultTrial,
     call: u64,
     handles: StopLedger,
-    changes: Blank,
     marks: NewHistory<Deck<OneFaultDisk<MemoryDisk>>>,
 ) -> Fate
     requires blind { (H.begun.is_known → ⊥) × (H.begun.none_failed → ⊥) }
     requires any { (words : WordMap) → H.begun.stops words }
     requires handles { (handles.tickets.name ≡ H.name) × (handles.tickets.parts ≡ H.parts) × (H.parts ≡ 2 ^ 61 + 1) }
     requires histories { (history_in handles ≡ H.history) × (history_id marks ≡ H.marks) }
-    requires changes { (changes.name ≡ N.name) × (changes.parts ≡ N.parts) × (N.parts ≡ 2 ^ 61 + 1) }
 {
     match opened(
         alloc,
         OneFaultDisk::of(failing_disk(rt, alloc, trial), call),
     ) {
         Some(deck) => {
-            let desk: Failing<H, N> = start(rt, alloc, handles, changes, marks, deck);
+            let desk: Failing<H> = start(rt, alloc, handles, marks, deck);
             ask_failing(rt, alloc, trial, call, desk)
         }
         None => Fate::Unopened,
@@ -215,7 +205,7 @@ pub fn run_failing<R: Abort + Threads + Wait + Clock + Sync>(
 ) -> Fate {
     let handles = stops(rt, alloc);
     let marks = marks(rt, alloc);
-    started_failing::<R, Brand, Brand>(rt, alloc, trial, call, handles, Blank::new(PARTS), marks)
+    started_failing::<R, Brand>(rt, alloc, trial, call, handles, marks)
 }
 
 /// Asks this where each call of the disk fails in turn, up to one that is not made. Where none fails what is asked for,

@@ -6,7 +6,6 @@ use crate::trials::{Look, Trial, run};
 use jb_desk::{BeginFault, Origin};
 use std::alloc::Global;
 use std::process::Abort;
-use std::sync::ledger::Ledger;
 use std::sync::{Mutex, Wait};
 use std::thread;
 use std::thread::Threads;
@@ -24,9 +23,9 @@ fn not_begun(rt: &impl Abort, k: usize, fault: BeginFault) -> Never {
 }
 
 /// Begins a handle of six credits, notes that it is begun, and drops it once all threads have come.
-fn come<R: Abort + Wait + Clock, H: Origin, N: Ledger>(
+fn come<R: Abort + Wait + Clock, H: Origin>(
     rt: &R,
-    desk: &Small<H, N>,
+    desk: &Small<H>,
     k: usize,
     begun: &Mutex<Vec<usize>>,
 ) {
@@ -46,11 +45,11 @@ fn come<R: Abort + Wait + Clock, H: Origin, N: Ledger>(
 }
 
 /// The order in which the threads begin their handles.
-fn order<
-    R: Abort + Threads + Wait + Clock + Sync,
-    H: Origin + Send + Sync,
-    N: Ledger + Send + Sync,
->(rt: &R, alloc: Global, desk: &Small<H, N>) -> Vec<usize> {
+fn order<R: Abort + Threads + Wait + Clock + Sync, H: Origin + Send + Sync>(
+    rt: &R,
+    alloc: Global,
+    desk: &Small<H>,
+) -> Vec<usize> {
     let begun = Mutex::new(Vec::new(alloc));
     thread::map_indices(rt, alloc, THREADS, &|k| come(rt, desk, k, &begun)).expect(rt, "memory");
     begun.into_inner()
@@ -74,11 +73,11 @@ fn check_order(rt: &impl Abort, begun: &[usize]) {
 }
 
 /// Checks that handles that wait for room at a new desk are begun in the order in which their threads come.
-pub fn check_turns<
-    R: Abort + Threads + Wait + Clock + Sync,
-    H: Origin + Send + Sync,
-    N: Ledger + Send + Sync,
->(rt: &R, alloc: Global, desk: &Small<H, N>) {
+pub fn check_turns<R: Abort + Threads + Wait + Clock + Sync, H: Origin + Send + Sync>(
+    rt: &R,
+    alloc: Global,
+    desk: &Small<H>,
+) {
     check_order(rt, &order(rt, alloc, desk))
 }
 

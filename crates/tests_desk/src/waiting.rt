@@ -16,7 +16,6 @@ use std::alloc::Global;
 use std::process::Abort;
 use std::sync::Wait;
 use std::sync::atomic::{AtomicBool, Ordering};
-use std::sync::ledger::Ledger;
 use std::thread;
 use std::thread::Threads;
 use std::time::{Clock, Duration};
@@ -77,9 +76,9 @@ struct Told {
 }
 
 /// Reads what the first handle wrote, with sights that are informed of what was seen after a wait for it.
-fn read_informed<R: Abort + Wait, D: Disk, H: Origin, N: Ledger>(
+fn read_informed<R: Abort + Wait, D: Disk, H: Origin>(
     rt: &R,
-    desk: &Still<D, H, N>,
+    desk: &Still<D, H>,
     seen: &mut Sights<D, H>,
 ) {
     let mut informed = desk.sights(rt);
@@ -95,9 +94,9 @@ fn read_informed<R: Abort + Wait, D: Disk, H: Origin, N: Ledger>(
 
 /// Waits for a ticket, which is committed or lost. Its seat leaves once the checkpointer has ended, since that would
 /// wake it.
-fn wait<R: Abort + Wait + Clock, D: Disk, H: Origin, N: Ledger>(
+fn wait<R: Abort + Wait + Clock, D: Disk, H: Origin>(
     rt: &R,
-    desk: &Still<D, H, N>,
+    desk: &Still<D, H>,
     told: &Told,
     end: End,
 ) {
@@ -118,11 +117,7 @@ fn wait<R: Abort + Wait + Clock, D: Disk, H: Origin, N: Ledger>(
 }
 
 /// One handle stops, before its journal fails or after; or two, of which each takes a transaction.
-fn stopped<R: Abort + Wait, D: Disk, H: Origin, N: Ledger>(
-    rt: &R,
-    desk: &Still<D, H, N>,
-    end: End,
-) -> Seat<H, N>
+fn stopped<R: Abort + Wait, D: Disk, H: Origin>(rt: &R, desk: &Still<D, H>, end: End) -> Seat<H>
     requires { (words : WordMap) → H.begun.stops words }
     ensures { desk_of result ≡ desk_id desk.now }
 {
@@ -157,9 +152,9 @@ fn is_round(end: End, came: Came) -> bool {
 
 /// Commits a handle that another thread waits for, whose wait ends before anything else happens; or its round fails, or
 /// it is given up.
-fn end_wait<R: Abort + Wait + Clock, D: Disk, H: Origin, N: Ledger>(
+fn end_wait<R: Abort + Wait + Clock, D: Disk, H: Origin>(
     rt: &R,
-    desk: &Still<D, H, N>,
+    desk: &Still<D, H>,
     told: &Told,
     end: End,
 )
@@ -203,15 +198,15 @@ fn end_wait<R: Abort + Wait + Clock, D: Disk, H: Origin, N: Ledger>(
 }
 
 /// A checkpointer that rests until the desk is over or the journal has failed.
-fn rest<R: Wait, D: Disk, H: Origin, N: Ledger>(rt: &R, desk: &Still<D, H, N>, told: &Told) {
+fn rest<R: Wait, D: Disk, H: Origin>(rt: &R, desk: &Still<D, H>, told: &Told) {
     let _ended = desk.run_checkpointer_at(rt, u32::MAX);
     told.is_over.store(true, Ordering::SeqCst);
 }
 
 /// What each of three threads does: one waits for a ticket, one is a checkpointer, and one ends the wait.
-fn act<R: Abort + Wait + Clock, D: Disk, H: Origin, N: Ledger>(
+fn act<R: Abort + Wait + Clock, D: Disk, H: Origin>(
     rt: &R,
-    desk: &Still<D, H, N>,
+    desk: &Still<D, H>,
     told: &Told,
     end: End,
     thread: usize,
@@ -227,12 +222,12 @@ fn act<R: Abort + Wait + Clock, D: Disk, H: Origin, N: Ledger>(
 
 /// A thread waits for the ticket of a handle that another one commits or gives up, or whose journal fails, beside a
 /// checkpointer.
-pub fn fate_of<
-    R: Abort + Threads + Wait + Clock + Sync,
-    D: Disk + Send,
-    H: Origin + Send + Sync,
-    N: Ledger + Send + Sync,
->(rt: &R, alloc: Global, end: End, desk: &Still<D, H, N>) -> Fate
+pub fn fate_of<R: Abort + Threads + Wait + Clock + Sync, D: Disk + Send, H: Origin + Send + Sync>(
+    rt: &R,
+    alloc: Global,
+    end: End,
+    desk: &Still<D, H>,
+) -> Fate
     requires { (words : WordMap) → H.begun.stops words }
 {
     let told = Told {

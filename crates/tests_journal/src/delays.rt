@@ -10,7 +10,6 @@ use jb_journal::{
     Worker, run,
 };
 use std::sync::Wait;
-use std::sync::ledger::Ledger;
 use std::time::{Duration, Instant};
 use std::{thread, time};
 use tests_support::{Must, Test, check_in};
@@ -34,9 +33,9 @@ struct Stopping {
 impl Worker<Result<(), JournalFault>> for Stopping {
     ghost needs = { λ stopping commits. stopping.is_awaited ≡ true → commits ≡ Meanwhile };
 
-    fn work<'a, D: Disk, C: Clock, R: Wait + time::Clock, H: Origin, N: Ledger>(
+    fn work<'a, D: Disk, C: Clock, R: Wait + time::Clock, H: Origin>(
         &self,
-        client: &mut Client<'a, D, C, R, H, N>,
+        client: &mut Client<'a, D, C, R, H>,
         _workers: usize,
         at: usize,
     ) -> Result<(), JournalFault>

@@ -8,7 +8,6 @@ use jb_journal::{
 use std::alloc::Global;
 use std::process::Abort;
 use std::sync::Wait;
-use std::sync::ledger::Ledger;
 use std::time;
 use tests_support::{Bench, Must, Test, check, check_at, zeros};
 
@@ -100,9 +99,9 @@ struct Asking;
 impl Worker<Sizes> for Asking {
     ghost use Rattle.jb_journal.specs.Client.{IsClient};
 
-    fn work<'a, D: Disk, C: Clock, R: Wait + time::Clock, H: Origin, N: Ledger>(
+    fn work<'a, D: Disk, C: Clock, R: Wait + time::Clock, H: Origin>(
         &self,
-        client: &mut Client<'a, D, C, R, H, N>,
+        client: &mut Client<'a, D, C, R, H>,
         _workers: usize,
         _at: usize,
     ) -> Sizes

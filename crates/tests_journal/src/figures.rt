@@ -10,7 +10,6 @@ use jb_journal::{
     run,
 };
 use std::sync::Wait;
-use std::sync::ledger::Ledger;
 use std::time::Duration;
 use std::{thread, time};
 use tests_support::{Must, Test, check_in};
@@ -33,9 +32,9 @@ struct Found {
 }
 
 impl Worker<Option<Found>> for Looking {
-    fn work<'a, D: Disk, C: Clock, R: Wait + time::Clock, H: Origin, N: Ledger>(
+    fn work<'a, D: Disk, C: Clock, R: Wait + time::Clock, H: Origin>(
         &self,
-        client: &mut Client<'a, D, C, R, H, N>,
+        client: &mut Client<'a, D, C, R, H>,
         _workers: usize,
         _at: usize,
     ) -> Option<Found>

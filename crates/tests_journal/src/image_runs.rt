@@ -12,7 +12,6 @@ use jb_journal::{
     TouchFault, Unknown, Worker, open, run_image,
 };
 use std::sync::Wait;
-use std::sync::ledger::Ledger;
 use std::time;
 use tests_support::check_at;
 
@@ -23,9 +22,9 @@ struct Counting;
 impl Worker<Option<u8>> for Counting {
     ghost needs = { λ _ commits. commits ≡ Meanwhile };
 
-    fn work<'a, D: Disk, C: Clock, R: Wait + time::Clock, H: Origin, N: Ledger>(
+    fn work<'a, D: Disk, C: Clock, R: Wait + time::Clock, H: Origin>(
         &self,
-        client: &mut Client<'a, D, C, R, H, N>,
+        client: &mut Client<'a, D, C, R, H>,
         _workers: usize,
         _at: usize,
     ) -> Option<u8>

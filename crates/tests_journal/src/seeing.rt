@@ -8,7 +8,6 @@ use jb_journal::{
 };
 use std::sync::Wait;
 use std::sync::atomic::{AtomicU64, Ordering};
-use std::sync::ledger::Ledger;
 use std::time::Duration;
 use std::{thread, time};
 use tests_support::{Must, Test, check};
@@ -38,8 +37,8 @@ struct Found {
 }
 
 /// Stops a handle that writes home 0. Gives its ticket; 0 where it does not stop.
-fn stop<'a, D: Disk, C: Clock, R: Wait + time::Clock, H: Origin, N: Ledger>(
-    client: &mut Client<'a, D, C, R, H, N>,
+fn stop<'a, D: Disk, C: Clock, R: Wait + time::Clock, H: Origin>(
+    client: &mut Client<'a, D, C, R, H>,
 ) -> u64
     requires client { IsClient H.begun client.old }
     ensures client { IsClient H.begun client.new }
@@ -66,9 +65,9 @@ fn await_told<K: time::Clock>(clock: &K, told: &AtomicU64) -> u64 {
 }
 
 impl Worker<Option<Found>> for Seeing {
-    fn work<'a, D: Disk, C: Clock, R: Wait + time::Clock, H: Origin, N: Ledger>(
+    fn work<'a, D: Disk, C: Clock, R: Wait + time::Clock, H: Origin>(
         &self,
-        client: &mut Client<'a, D, C, R, H, N>,
+        client: &mut Client<'a, D, C, R, H>,
         _workers: usize,
         at: usize,
     ) -> Option<Found>

@@ -9,7 +9,6 @@ use jb_journal::{
     BlockSize, Client, Clock, Disk, Handle, Origin, Ran, TouchFault, WaitFault, Worker, run,
 };
 use std::sync::Wait;
-use std::sync::ledger::Ledger;
 use std::time;
 use tests_support::{Must, Test, check};
 
@@ -31,9 +30,9 @@ struct Long {
 impl Worker<Taken> for Long {
     ghost needs = { λ _ commits. commits ≡ Meanwhile };
 
-    fn work<'a, D: Disk, C: Clock, R: Wait + time::Clock, H: Origin, N: Ledger>(
+    fn work<'a, D: Disk, C: Clock, R: Wait + time::Clock, H: Origin>(
         &self,
-        client: &mut Client<'a, D, C, R, H, N>,
+        client: &mut Client<'a, D, C, R, H>,
         _workers: usize,
         _at: usize,
     ) -> Taken

@@ -10,7 +10,6 @@ use jb_journal::{
     OpenFault, Options, Origin, Ran, RunFault, TouchFault, WaitFault, Worker, recover, run,
 };
 use std::sync::Wait;
-use std::sync::ledger::Ledger;
 use std::time;
 use tests_support::{Must, Test, check, check_at, crashed};
 
@@ -32,9 +31,9 @@ pub struct Pairs {
 impl Worker<Found> for Pairs {
     ghost needs = { λ _ commits. commits ≡ Meanwhile };
 
-    fn work<'a, D: Disk, C: Clock, R: Wait + time::Clock, H: Origin, N: Ledger>(
+    fn work<'a, D: Disk, C: Clock, R: Wait + time::Clock, H: Origin>(
         &self,
-        client: &mut Client<'a, D, C, R, H, N>,
+        client: &mut Client<'a, D, C, R, H>,
         _workers: usize,
         at: usize,
     ) -> Found

@@ -6,9 +6,8 @@ use jb_book::{CheckpointRound, Origin};
 use jb_deck::{Checked, CheckpointFault};
 use jb_disk::{Clock, Disk};
 use std::sync::Wait;
-use std::sync::ledger::Ledger;
 
-impl<D: Disk, C: Clock, H: Origin, N: Ledger> Desk<D, C, H, N> {
+impl<D: Disk, C: Clock, H: Origin> Desk<D, C, H> {
     ghost use Rattle.jb_desk.specs.Ends.{EndsChecking};
     ghost use Rattle.jb_book.specs.Journal.{ChecksAt, ChecksRound};
 

@@ -20,7 +20,6 @@ use jb_disk::{Clock, Disk};
 use jb_handle::{Shape, Words};
 use std::fmt;
 use std::sync::Mutex;
-use std::sync::ledger::Ledger;
 
 /// What is left of a desk that was closed.
 #[derive(Drop)]
@@ -45,9 +44,9 @@ pub struct Closed<D, C> {
 
 /// Why a desk is not closed.
 #[derive(Drop)]
-pub enum CloseFault<D: Disk, C: Clock, H: Origin, N: Ledger> {
+pub enum CloseFault<D: Disk, C: Clock, H: Origin> {
     /// A seat that was given has not left. Here are the desk, what the other seats left, and what was seen.
-    SeatsOut(Desk<D, C, H, N>, Vec<Left<H, N>>, Sights<D, H>),
+    SeatsOut(Desk<D, C, H>, Vec<Left<H>>, Sights<D, H>),
     /// The groups that the journal has settled are not those of the book.
     TrailsDiffer {
         /// The journal.
@@ -59,7 +58,7 @@ pub enum CloseFault<D: Disk, C: Clock, H: Origin, N: Ledger> {
     },
 }
 
-impl<D: Disk, C: Clock, H: Origin, N: Ledger> fmt::Display for CloseFault<D, C, H, N> {
+impl<D: Disk, C: Clock, H: Origin> fmt::Display for CloseFault<D, C, H> {
     fn fmt<W: fmt::Write>(&self, f: &mut fmt::Formatter<W>) -> fmt::Result {
         match self {
             CloseFault::SeatsOut(..) => write!(
@@ -76,7 +75,7 @@ impl<D: Disk, C: Clock, H: Origin, N: Ledger> fmt::Display for CloseFault<D, C, 
     }
 }
 
-impl<D: Disk + Drop, C: Clock, H: Origin, N: Ledger> Desk<D, C, H, N> {
+impl<D: Disk + Drop, C: Clock, H: Origin> Desk<D, C, H> {
     ghost use Rattle.jb_book.specs.History.{CameAbout};
     ghost use Rattle.jb_book.specs.AtHome.{EndsUsing};
     ghost use Rattle.jb_book.specs.SinceMark.{EndsSeen};
@@ -94,10 +93,10 @@ impl<D: Disk + Drop, C: Clock, H: Origin, N: Ledger> Desk<D, C, H, N> {
     /// journal holds what [`Desk::end`] says.
     pub fn close(
         self,
-        lefts: Vec<Left<H, N>>,
+        lefts: Vec<Left<H>>,
         seen: Sights<D, H>,
-    ) -> Result<Closed<D, C>, CloseFault<D, C, H, N>>
-        requires parts { (H.parts ≡ 2 ^ 61 + 1) × (N.parts ≡ 2 ^ 61 + 1) }
+    ) -> Result<Closed<D, C>, CloseFault<D, C, H>>
+        requires parts { H.parts ≡ 2 ^ 61 + 1 }
         /// A closed desk gives the sums over what its seats left; neither is above 2^61.
         ensures sums { IfOk result (λ closed. AddsUp lefts.items closed.handles closed.changes) }
         /// Its trail has the tickets from that of its first entry on without a gap, and none that no handle has.
@@ -199,14 +198,14 @@ impl<D: Disk + Drop, C: Clock, H: Origin, N: Ledger> Desk<D, C, H, N> {
 }
 
 /// Closes what the two locks guarded, where every seat that was given has left.
-fn close_parts<D: Disk + Drop, C: Clock, H: Origin, N: Ledger>(
+fn close_parts<D: Disk + Drop, C: Clock, H: Origin>(
     histories: &Histories<D, H>,
-    queue: QueueState<D, H, N>,
+    queue: QueueState<D, H>,
     journal: JournalState<D, C, H>,
-    lefts: Vec<Left<H, N>>,
+    lefts: Vec<Left<H>>,
     seen: Sights<D, H>,
-) -> Result<Closed<D, C>, CloseFault<D, C, H, N>>
-    requires parts { (H.parts ≡ ledger_parts) × (N.parts ≡ ledger_parts) }
+) -> Result<Closed<D, C>, CloseFault<D, C, H>>
+    requires parts { H.parts ≡ ledger_parts }
     requires all { vec_len lefts ≡ queue.given }
     ensures sums { IfOk result (λ closed. AddsUp lefts.items closed.handles closed.changes) }
     ensures tiles { IfOk result (λ closed. (past : ℕ) × Follow (start_of closed.trail.items) 0 past closed.trail.items

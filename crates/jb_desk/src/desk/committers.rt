@@ -8,14 +8,13 @@ use crate::seat::Seat;
 use jb_book::{Origin, Sights};
 use jb_disk::{Clock, Disk};
 use std::sync::Wait;
-use std::sync::ledger::Ledger;
 
-impl<D: Disk, C: Clock, H: Origin, N: Ledger> Desk<D, C, H, N> {
+impl<D: Disk, C: Clock, H: Origin> Desk<D, C, H> {
     ghost use Rattle.jb_book.specs.Marks.{HasFailedMark, SeesSame};
     ghost use Rattle.jb_desk.specs.Rounds.{seat_of, held_by};
 
     /// A seat becomes a committer, which holds no batch.
-    pub fn committer(&self, seat: Seat<H, N>) -> Committer<H, N>
+    pub fn committer(&self, seat: Seat<H>) -> Committer<H>
         /// A committer holds no batch at first.
         ensures { (seat_of result ≡ seat) × (held_by result ≡ None) }
     {
@@ -30,8 +29,8 @@ impl<D: Disk, C: Clock, H: Origin, N: Ledger> Desk<D, C, H, N> {
     pub fn retire<R: Wait>(
         &self,
         rt: &R,
-        committer: Committer<H, N>,
-    ) -> Result<Retired<H, N>, Committer<H, N>>
+        committer: Committer<H>,
+    ) -> Result<Retired<H>, Committer<H>>
         ensures seat { IfOk result (λ left. left.seat ≡ seat_of committer) }
         ensures lost { IfOk result (λ left. is_some left.lost ≡ is_some (held_by committer)) }
         /// With `lost`: Only a committer with a batch is handed back when it retires; where one with a batch retires,
@@ -57,7 +56,7 @@ impl<D: Disk, C: Clock, H: Origin, N: Ledger> Desk<D, C, H, N> {
 
     /// A committer ends. Where it holds a batch, this is lost, and the journal has failed then: no handle is begun,
     /// stopped or committed any more.
-    pub fn give_up<R: Wait>(&self, rt: &R, committer: Committer<H, N>) -> Retired<H, N>
+    pub fn give_up<R: Wait>(&self, rt: &R, committer: Committer<H>) -> Retired<H>
         /// With `lost`: A committer that gives up gives its seat back; where it held a batch, the book has failed.
         ensures seat { result.seat ≡ seat_of committer }
         ensures lost { is_some result.lost ≡ is_some (held_by committer) }

@@ -10,10 +10,9 @@ use crate::queue_state::Drained;
 use jb_book::Origin;
 use jb_disk::{Clock, Disk};
 use std::sync::Wait;
-use std::sync::ledger::Ledger;
 use std::time;
 
-impl<D: Disk, C: Clock, H: Origin, N: Ledger> Desk<D, C, H, N> {
+impl<D: Disk, C: Clock, H: Origin> Desk<D, C, H> {
     ghost use Rattle.jb_desk.specs.Desks.{desk_id};
     ghost use Rattle.jb_desk.specs.Ends.{EndsHolding};
     ghost use Rattle.jb_desk.specs.Rounds.{seat_of, held_by};
@@ -24,8 +23,8 @@ impl<D: Disk, C: Clock, H: Origin, N: Ledger> Desk<D, C, H, N> {
     pub fn run_committer<R: Wait + time::Clock>(
         &self,
         rt: &R,
-        committer: Committer<H, N>,
-    ) -> (Committer<H, N>, Ended)
+        committer: Committer<H>,
+    ) -> (Committer<H>, Ended)
         requires { desk_of (seat_of committer) ≡ desk_id self.now }
         ensures seat { KeepsSeat (seat_of committer) (seat_of result.0) }
         ensures rises { IsWithin (view_of (seat_of committer)) (view_of (seat_of result.0)) }
@@ -38,9 +37,9 @@ impl<D: Disk, C: Clock, H: Origin, N: Ledger> Desk<D, C, H, N> {
     pub fn run_committer_after<R: Wait + time::Clock>(
         &self,
         rt: &R,
-        committer: Committer<H, N>,
+        committer: Committer<H>,
         delay: Delay,
-    ) -> (Committer<H, N>, Ended)
+    ) -> (Committer<H>, Ended)
         requires { desk_of (seat_of committer) ≡ desk_id self.now }
         ensures seat { KeepsSeat (seat_of committer) (seat_of result.0) }
         ensures rises { IsWithin (view_of (seat_of committer)) (view_of (seat_of result.0)) }

@@ -6,7 +6,6 @@ use crate::delay::Delay;
 use crate::desk::Desk;
 use jb_book::Origin;
 use jb_disk::{Clock, Disk};
-use std::sync::ledger::Ledger;
 use std::sync::{CondvarTimeouts, Wait};
 use std::time;
 use std::time::{Duration, Instant};
@@ -61,13 +60,13 @@ impl Pace {
     }
 }
 
-impl<D: Disk, C: Clock, H: Origin, N: Ledger> Desk<D, C, H, N> {
+impl<D: Disk, C: Clock, H: Origin> Desk<D, C, H> {
     /// Begins a round, and waits before it where handles have stopped, unless the committer holds a batch, to which
     /// none can be added.
     pub(crate) fn gather<R: Wait + time::Clock>(
         &self,
         rt: &R,
-        committer: &Committer<H, N>,
+        committer: &Committer<H>,
         pace: &mut Pace,
     ) {
         if committer.batch.is_none() {

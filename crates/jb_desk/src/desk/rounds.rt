@@ -14,9 +14,8 @@ use jb_deck::{Batch, BatchFault, Done, PrepareFault, Prepared, prepare};
 use jb_disk::{Clock, Disk};
 use jb_handle::Words;
 use std::sync::Wait;
-use std::sync::ledger::Ledger;
 
-impl<D: Disk, C: Clock, H: Origin, N: Ledger> Desk<D, C, H, N> {
+impl<D: Disk, C: Clock, H: Origin> Desk<D, C, H> {
     ghost use Rattle.jb_desk.specs.Desks.{desk_id};
     ghost use Rattle.jb_desk.specs.Journal.{CommitsRound, CutsRound};
     ghost use Rattle.jb_book.specs.Rounds.{end_of as end_in};
@@ -43,7 +42,7 @@ impl<D: Disk, C: Clock, H: Origin, N: Ledger> Desk<D, C, H, N> {
     pub fn commit_round<R: Wait>(
         &self,
         rt: &R,
-        committer: &mut Committer<H, N>,
+        committer: &mut Committer<H>,
         seen: &mut Sights<D, H>,
     ) -> Result<Round, RoundFault>
         requires { desk_of (seat_of committer.old) ≡ desk_id self.now }
@@ -106,7 +105,7 @@ impl<D: Disk, C: Clock, H: Origin, N: Ledger> Desk<D, C, H, N> {
     fn commit<R: Wait>(
         &self,
         rt: &R,
-        committer: &mut Committer<H, N>,
+        committer: &mut Committer<H>,
         prepared: Prepared,
         held: (Tickets<H>, Prefix<Words, H>, OutstandingBatch),
     ) -> Result<Round, RoundFault>
@@ -167,7 +166,7 @@ impl<D: Disk, C: Clock, H: Origin, N: Ledger> Desk<D, C, H, N> {
     fn settle<R: Wait>(
         &self,
         rt: &R,
-        seat: &mut Seat<H, N>,
+        seat: &mut Seat<H>,
         seen: &mut Sights<D, H>,
         done: &Done,
         out: OutstandingBatch,
@@ -206,7 +205,7 @@ impl<D: Disk, C: Clock, H: Origin, N: Ledger> Desk<D, C, H, N> {
     fn settle_last<R: Wait>(
         &self,
         rt: &R,
-        seat: &mut Seat<H, N>,
+        seat: &mut Seat<H>,
         seen: &mut Sights<D, H>,
         done: &Done,
         out: OutstandingBatch,

@@ -5,9 +5,8 @@ use crate::desk::Desk;
 use jb_book::{Origin, Sights};
 use jb_disk::{Clock, Disk};
 use std::sync::Wait;
-use std::sync::ledger::Ledger;
 
-impl<D: Disk, C: Clock, H: Origin, N: Ledger> Desk<D, C, H, N> {
+impl<D: Disk, C: Clock, H: Origin> Desk<D, C, H> {
     ghost use Rattle.jb_book.specs.Marks.{SeesMore, SeesSame};
 
     /// What can be seen now of the handles that stopped and of the journal's marks, with which a thread stops, waits

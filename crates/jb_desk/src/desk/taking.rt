@@ -5,9 +5,8 @@ use jb_book::Origin;
 use jb_deck::Entry;
 use jb_disk::{Clock, Disk};
 use std::sync::Wait;
-use std::sync::ledger::Ledger;
 
-impl<D: Disk, C: Clock, H: Origin, N: Ledger> Desk<D, C, H, N> {
+impl<D: Disk, C: Clock, H: Origin> Desk<D, C, H> {
     ghost use Rattle.jb_book.specs.Journal.{GivesTrail};
 
     /// Takes the entries of groups that are settled and home from the front of the trail, which so does not grow for

@@ -9,7 +9,6 @@ use crate::seat::Seat;
 use jb_book::{BeginFault, Origin};
 use jb_disk::{Clock, Disk};
 use jb_handle::Handle;
-use std::sync::ledger::Ledger;
 use std::sync::{CondvarTimeouts, Wait};
 use std::time;
 use std::time::{Duration, Instant};
@@ -17,7 +16,7 @@ use std::time::{Duration, Instant};
 /// How long a handle waits for room while nothing is committed, in seconds.
 const PATIENCE: u64 = 10;
 
-impl<D: Disk, C: Clock, H: Origin, N: Ledger> Desk<D, C, H, N> {
+impl<D: Disk, C: Clock, H: Origin> Desk<D, C, H> {
     ghost use Rattle.jb_desk.specs.Desks.{shape_in};
     ghost use Rattle.jb_desk.specs.Refusals.{IsTooMany};
 
@@ -32,9 +31,9 @@ impl<D: Disk, C: Clock, H: Origin, N: Ledger> Desk<D, C, H, N> {
     pub fn begin_waiting<R: Wait + time::Clock>(
         &self,
         rt: &R,
-        seat: Seat<H, N>,
+        seat: Seat<H>,
         credits: u32,
-    ) -> Result<Handle<Seat<H, N>>, (Seat<H, N>, BeginFault)>
+    ) -> Result<Handle<Seat<H>>, (Seat<H>, BeginFault)>
         /// With `back`, `refused`: A handle that is begun after a wait is untouched, with these credits, and has the
         /// seat. Where it is refused the seat comes back, and credits that are too many are more than the number that
         /// is named. The order of arrival and the ten seconds are tested. [But
@@ -62,9 +61,9 @@ impl<D: Disk, C: Clock, H: Origin, N: Ledger> Desk<D, C, H, N> {
     fn begin_at_once<R: Wait>(
         &self,
         rt: &R,
-        seat: Seat<H, N>,
+        seat: Seat<H>,
         credits: u32,
-    ) -> Result<Handle<Seat<H, N>>, (Seat<H, N>, Option<BeginFault>)>
+    ) -> Result<Handle<Seat<H>>, (Seat<H>, Option<BeginFault>)>
         ensures ok { IfOk result (λ handle. (holder handle ≡ seat)
             × (changes_of handle ≡ held credits (shape_in self.now) map.empty)) }
         ensures back { IfErr result (λ back. back.0 ≡ seat) }
@@ -88,13 +87,10 @@ impl<D: Disk, C: Clock, H: Origin, N: Ledger> Desk<D, C, H, N> {
     fn begin_in_turn<R: Wait + time::Clock>(
         &self,
         rt: &R,
-        seat: Seat<H, N>,
+        seat: Seat<H>,
         credits: u32,
         in_vain: Option<u64>,
-    ) -> (
-        Result<Handle<Seat<H, N>>, (Seat<H, N>, BeginFault)>,
-        Option<u64>,
-    )
+    ) -> (Result<Handle<Seat<H>>, (Seat<H>, BeginFault)>, Option<u64>)
         ensures ok { IfOk result.0 (λ handle. (holder handle ≡ seat)
             × (changes_of handle ≡ held credits (shape_in self.now) map.empty)) }
         ensures back { IfErr result.0 (λ back. back.0 ≡ seat) }

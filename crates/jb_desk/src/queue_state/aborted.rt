@@ -4,7 +4,6 @@ ghost use Rattle.std.specs.Prelude.{◌≡◌, true};
 use crate::queue_state::QueueState;
 use jb_book::Origin;
 use jb_disk::Disk;
-use std::sync::ledger::Ledger;
 
 /// A desk's book has failed: what was queued or taken in it is lost. Only a look at a desk's book under its lock gives
 /// one; it does not say which desk. A book that has failed stays so.
@@ -22,7 +21,7 @@ impl HasAborted {
     }
 }
 
-impl<D: Disk, H: Origin, N: Ledger> QueueState<D, H, N> {
+impl<D: Disk, H: Origin> QueueState<D, H> {
     /// That the book has failed.
     pub fn failed(&self) -> HasAborted
         requires { self.now.register.book.aborted ≡ true }

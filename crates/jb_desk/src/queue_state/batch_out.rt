@@ -5,7 +5,6 @@ use crate::queue_state::{BookCounts, HasAborted, QueueState};
 use jb_book::Origin;
 use jb_disk::Disk;
 use jb_handle::Shape;
-use std::sync::ledger::Ledger;
 
 /// A batch is out: the tickets that were taken from a book and not settled when it was looked at, for a journal of this
 /// shape. It must be used up, under the book's lock: the batch is settled or given up, or the book has failed.
@@ -37,7 +36,7 @@ impl OutstandingBatch {
     }
 }
 
-impl<D: Disk, H: Origin, N: Ledger> QueueState<D, H, N> {
+impl<D: Disk, H: Origin> QueueState<D, H> {
     /// That the tickets are out which are taken and not settled.
     pub(super) fn out(&self) -> OutstandingBatch
         ensures tickets { (result.counts.settled ≡ self.now.register.book.shadow.settled)

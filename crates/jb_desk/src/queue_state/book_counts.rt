@@ -4,7 +4,6 @@ ghost use Rattle.std.specs.Prelude.{◌≡◌, ◌≤◌};
 use crate::queue_state::QueueState;
 use jb_book::Origin;
 use jb_disk::Disk;
-use std::sync::ledger::Ledger;
 
 /// How many tickets of a book were taken, and how many settled. Only a look at the book under its lock gives one.
 #[derive(Clone, Copy)]
@@ -22,7 +21,7 @@ impl BookCounts {
     }
 }
 
-impl<D: Disk, H: Origin, N: Ledger> QueueState<D, H, N> {
+impl<D: Disk, H: Origin> QueueState<D, H> {
     /// How far the book has come.
     pub fn seen(&self) -> BookCounts
         ensures counts { (result.taken ≡ self.now.register.book.shadow.taken)

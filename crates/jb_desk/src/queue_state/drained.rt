@@ -4,7 +4,6 @@ ghost use Rattle.std.specs.Prelude.{◌≡◌, false, IfSome, IfNone};
 use crate::queue_state::QueueState;
 use jb_book::Origin;
 use jb_disk::Disk;
-use std::sync::ledger::Ledger;
 
 /// A desk is over: it is shut, no handle is open, queued or taken, and the journal has not failed. Only a look
 /// at a desk's book under its lock gives one; it says neither of which desk nor when. A desk that is over stays so
@@ -23,7 +22,7 @@ impl Drained {
     }
 }
 
-impl<D: Disk, H: Origin, N: Ledger> QueueState<D, H, N> {
+impl<D: Disk, H: Origin> QueueState<D, H> {
     ghost use Rattle.jb_book.specs.Account.{IsOver};
 
     /// That the desk is over, where it is.

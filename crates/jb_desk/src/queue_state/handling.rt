@@ -11,9 +11,8 @@ use jb_book::{BeginFault, EnqueueFault, Histories, Origin, Sights};
 use jb_disk::Disk;
 use jb_handle::{Handle, Shape};
 use std::alloc::Global;
-use std::sync::ledger::Ledger;
 
-impl<D: Disk, H: Origin, N: Ledger> QueueState<D, H, N> {
+impl<D: Disk, H: Origin> QueueState<D, H> {
     ghost use Rattle.jb_book.specs.Account.{granted_to, dropped_of, begin_refusal, RefusesBegin};
     ghost use Rattle.jb_book.specs.Marks.{SeesStop};
     ghost use Rattle.jb_desk.specs.Stops.{IsStopped, RefusesStopOf};
@@ -27,9 +26,9 @@ impl<D: Disk, H: Origin, N: Ledger> QueueState<D, H, N> {
         &mut self,
         alloc: Global,
         shape: Shape,
-        seat: Seat<H, N>,
+        seat: Seat<H>,
         credits: u32,
-    ) -> Result<Handle<Seat<H, N>>, (Seat<H, N>, BeginFault)>
+    ) -> Result<Handle<Seat<H>>, (Seat<H>, BeginFault)>
         ensures ok { IfOk result (λ handle. (holder handle ≡ seat)
             × (changes_of handle ≡ held credits shape map.empty)) }
         ensures book { OnOk result (self.new.register.book ≡ granted_to seat.number credits self.old.register.book) }
@@ -44,8 +43,8 @@ impl<D: Disk, H: Origin, N: Ledger> QueueState<D, H, N> {
         }
     }
 
-    /// A handle stops: it joins the queue and gets the next ticket, and its seat's shares count it and
-    /// the blocks that it touched. It is added to the history, as one of the seat's, and is seen there.
+    /// A handle stops: it joins the queue and gets the next ticket, and its seat's share counts it. It is added to the
+    /// history, as one of the seat's, and is seen there.
     ///
     /// # Errors
     ///
@@ -55,8 +54,8 @@ impl<D: Disk, H: Origin, N: Ledger> QueueState<D, H, N> {
         &mut self,
         histories: &Histories<D, H>,
         seen: &mut Sights<D, H>,
-        handle: Handle<Seat<H, N>>,
-    ) -> Result<(Seat<H, N>, u64), StopFault<H, N>>
+        handle: Handle<Seat<H>>,
+    ) -> Result<(Seat<H>, u64), StopFault<H>>
         requires { H.begun.stops (changes_of handle).words }
         ensures ok { IfOk result (λ given. IsStopped handle self.old.register.book given.0 given.1
             self.new.register.book) }
@@ -69,11 +68,9 @@ impl<D: Disk, H: Origin, N: Ledger> QueueState<D, H, N> {
     {
         let (mut seat, handle) = handle.with_seat(());
         let number = seat.number;
-        let touched = handle.touched();
         let QueueState {
             register,
             handles,
-            changes,
             ..
         } = self;
         match register.stop(
@@ -85,7 +82,6 @@ impl<D: Disk, H: Origin, N: Ledger> QueueState<D, H, N> {
         ) {
             Ok((_, ticket)) => {
                 handles.add(&mut seat.handles, 1);
-                changes.add(&mut seat.changes, u64::from(touched));
                 Ok((seat, ticket))
             }
             Err((handle, EnqueueFault::Aborted)) => {
@@ -105,7 +101,7 @@ impl<D: Disk, H: Origin, N: Ledger> QueueState<D, H, N> {
     }
 
     /// A handle is dropped with all of its changes.
-    pub fn abandon(&mut self, handle: Handle<Seat<H, N>>) -> Seat<H, N>
+    pub fn abandon(&mut self, handle: Handle<Seat<H>>) -> Seat<H>
         ensures seat { result ≡ holder handle }
         ensures book { self.new.register.book ≡ dropped_of result.number self.old.register.book }
     {

@@ -3,7 +3,7 @@ ghost use Rattle.std.specs.Prelude.{◌≡◌, ℕ, ◌+◌, ◌≤◌, length, 
 ghost use Rattle.std.specs.List.{sum_by};
 ghost use Rattle.jb_cost.specs.Pieces.{joined};
 ghost use Rattle.jb_deck.specs.Done.{Follow, start_of};
-ghost use Rattle.jb_desk.specs.Seats.{stops_left, changes_left, made_left};
+ghost use Rattle.jb_desk.specs.Seats.{stops_left, made_left};
 
 use crate::queue_state::QueueState;
 use crate::seat::Left;
@@ -12,38 +12,30 @@ use jb_book::{Marks, Origin};
 use jb_deck::{Deck, Entry};
 use jb_disk::Disk;
 use jb_handle::Words;
-use std::sync::ledger::{Ledger, Share};
+use std::sync::ledger::Share;
 
-/// Merges what seats have left into two shares, and puts their stops together.
-fn merged<H: Origin, N: Ledger>(
+/// Merges what seats have left into one share, and puts their stops together.
+fn merged<H: Origin>(
     history: &History<Words, H>,
     handles: Share<H>,
-    changes: Share<N>,
-    lefts: Vec<Left<H, N>>,
-) -> (Share<H>, Share<N>, OwnEntries<Words, H>)
-    ensures parts { (result.0.parts ≡ handles.parts + vec_len lefts)
-        × (result.1.parts ≡ changes.parts + vec_len lefts) }
+    lefts: Vec<Left<H>>,
+) -> (Share<H>, OwnEntries<Words, H>)
+    ensures parts { result.0.parts ≡ handles.parts + vec_len lefts }
     ensures handles { result.0.amount ≡ handles.amount + sum_by stops_left lefts.items }
-    ensures changes { result.1.amount ≡ changes.amount + sum_by changes_left lefts.items }
-    ensures made { result.2 ≡ joined (map made_left lefts.items) }
-    ensures many { result.0.amount ≡ handles.amount + length result.2 }
+    ensures made { result.1 ≡ joined (map made_left lefts.items) }
+    ensures many { result.0.amount ≡ handles.amount + length result.1 }
 {
-    let (mut all_handles, mut all_changes) = (handles, changes);
+    let mut all_handles = handles;
     let mut all = history.enter();
     for left in lefts {
-        let Left {
-            handles,
-            changes,
-            made,
-        } = left;
+        let Left { handles, made } = left;
         all_handles.merge(handles);
-        all_changes.merge(changes);
         history.join(&mut all, made);
     }
-    (all_handles, all_changes, all)
+    (all_handles, all)
 }
 
-impl<D: Disk, H: Origin, N: Ledger> QueueState<D, H, N> {
+impl<D: Disk, H: Origin> QueueState<D, H> {
     ghost use Rattle.jb_book.specs.CallsToBook.{IsMachineRun};
     ghost use Rattle.jb_book.specs.Marks.{HasShapeMark};
     ghost use Rattle.jb_book.specs.History.{AreAllStops};
@@ -57,7 +49,7 @@ impl<D: Disk, H: Origin, N: Ledger> QueueState<D, H, N> {
     pub fn totals(
         self,
         history: &History<Words, H>,
-        lefts: Vec<Left<H, N>>,
+        lefts: Vec<Left<H>>,
     ) -> (
         Vec<Entry>,
         u64,
@@ -65,7 +57,7 @@ impl<D: Disk, H: Origin, N: Ledger> QueueState<D, H, N> {
         Appender<Words, H>,
         Prefix<Deck<D>, Marks<H>>,
     )
-        requires parts { (H.parts ≡ ledger_parts) × (N.parts ≡ ledger_parts) }
+        requires parts { H.parts ≡ ledger_parts }
         requires all { vec_len lefts ≡ self.given }
         ensures book { (result.0.items ≡ self.register.book.trail) × (result.1 ≡ self.register.book.shadow.next)
             × (result.2 ≡ self.register.book.changes) }
@@ -78,19 +70,11 @@ impl<D: Disk, H: Origin, N: Ledger> QueueState<D, H, N> {
         let QueueState {
             register,
             mut handles,
-            mut changes,
             spare_handles,
-            spare_changes,
             ..
         } = self;
-        let (mut spare_handles, mut spare_changes, all) = merged(
-            history,
-            spare_handles,
-            spare_changes,
-            lefts,
-        );
+        let (mut spare_handles, all) = merged(history, spare_handles, lefts);
         handles.audit(&mut spare_handles);
-        changes.audit(&mut spare_changes);
         let stops = register.book().next();
         let touched = register.book().changes();
         let (trail, mut appender, seen) = register.end();

@@ -5,7 +5,6 @@ use crate::queue_state::QueueState;
 use jb_board::Front;
 use jb_book::Origin;
 use jb_disk::Disk;
-use std::sync::ledger::Ledger;
 
 /// There was nothing to take: the journal had not failed, and no handle waited or a batch was out. Only a look at a
 /// desk's book under its lock gives one; it says neither of which desk nor when.
@@ -25,7 +24,7 @@ impl NothingToTake {
     }
 }
 
-impl<D: Disk, H: Origin, N: Ledger> QueueState<D, H, N> {
+impl<D: Disk, H: Origin> QueueState<D, H> {
     ghost use Rattle.jb_board.specs.Front.{front};
     ghost use Rattle.jb_book.specs.Account.{CanTake};
 

@@ -10,9 +10,8 @@ use jb_book::{Histories, Origin, Sights, WrongBatch};
 use jb_deck::Done;
 use jb_disk::Disk;
 use jb_handle::Words;
-use std::sync::ledger::Ledger;
 
-impl<D: Disk, H: Origin, N: Ledger> QueueState<D, H, N> {
+impl<D: Disk, H: Origin> QueueState<D, H> {
     ghost use Rattle.jb_book.specs.Account.{failed_of, CanTake};
     ghost use Rattle.jb_desk.specs.Rounds.{GivesBatch, GivesUp, Rests, TakesQueue};
     ghost use Rattle.jb_book.specs.CallsToBook.{FailsAfter, IsSettling, SettlesOrFails};

@@ -2,9 +2,8 @@
 use crate::queue_state::QueueState;
 use jb_book::Origin;
 use jb_disk::Disk;
-use std::sync::ledger::Ledger;
 
-impl<D: Disk, H: Origin, N: Ledger> QueueState<D, H, N> {
+impl<D: Disk, H: Origin> QueueState<D, H> {
     ghost use Rattle.std.specs.Prelude.{◌≡◌};
     ghost use Rattle.jb_book.specs.Account.{last_start, shortened};
 

@@ -6,10 +6,9 @@ use crate::client::Client;
 use jb_desk::Origin;
 use jb_disk::{Clock, Disk};
 use std::sync::Wait;
-use std::sync::ledger::Ledger;
 use std::time;
 
-impl<'a, D: Disk, C: Clock, R: Wait + time::Clock, H: Origin, N: Ledger> Client<'a, D, C, R, H, N> {
+impl<'a, D: Disk, C: Clock, R: Wait + time::Clock, H: Origin> Client<'a, D, C, R, H> {
     ghost use Rattle.jb_journal.specs.Client.{ClientGoesOn, IsClient, client_stops, seen_by};
 
     /// Whether the handle with this ticket is committed, as far as its run has told by now. It waits for nobody, takes
@@ -27,7 +26,7 @@ impl<'a, D: Disk, C: Clock, R: Wait + time::Clock, H: Origin, N: Ledger> Client<
     {
         let Client { desk, seat, .. } = self;
         match seat {
-            Some(counted) => ticket < desk.front(&mut counted.seat).settled,
+            Some(seat) => ticket < desk.front(seat).settled,
             None => unreachable!(),
         }
     }

@@ -7,7 +7,6 @@ use crate::client::Client;
 use jb_desk::{CheckpointRound, Desk, Origin};
 use jb_disk::{Clock, Disk};
 use std::sync::Wait;
-use std::sync::ledger::Ledger;
 use std::time;
 
 /// How far a journal has come: each figure as it was at some time of the call.
@@ -21,7 +20,7 @@ pub struct Figures {
     pub in_log: Option<u32>,
 }
 
-impl<'a, D: Disk, C: Clock, R: Wait + time::Clock, H: Origin, N: Ledger> Client<'a, D, C, R, H, N> {
+impl<'a, D: Disk, C: Clock, R: Wait + time::Clock, H: Origin> Client<'a, D, C, R, H> {
     ghost use Rattle.jb_journal.specs.Client.{ClientGoesOn, IsClient, client_stops, seen_by};
 
     /// How far the journal has come. Waits while the disk is at work for another thread, and for no commit.
@@ -41,8 +40,8 @@ impl<'a, D: Disk, C: Clock, R: Wait + time::Clock, H: Origin, N: Ledger> Client<
         let (rt, desk) = (self.rt, self.desk);
         let in_log = log_in_use(rt, desk);
         let Client { seat, .. } = self;
-        let Some(counted) = seat else { unreachable!() };
-        let front = desk.front(&mut counted.seat);
+        let Some(seat) = seat else { unreachable!() };
+        let front = desk.front(seat);
         Figures {
             stopped: front.stopped,
             settled: front.settled,
@@ -53,10 +52,7 @@ impl<'a, D: Disk, C: Clock, R: Wait + time::Clock, H: Origin, N: Ledger> Client<
 
 /// How many blocks of the log are in use; `None` where the journal has failed. A round of a checkpointer at a level
 /// that no log comes to writes nothing home, and tells that.
-fn log_in_use<D: Disk, C: Clock, R: Wait, H: Origin, N: Ledger>(
-    rt: &R,
-    desk: &Desk<D, C, H, N>,
-) -> Option<u32>
+fn log_in_use<D: Disk, C: Clock, R: Wait, H: Origin>(rt: &R, desk: &Desk<D, C, H>) -> Option<u32>
     ensures { IfSome result (IsLow D.Disk H.begun (2 ^ 32 - 1)) }
 {
     match desk.checkpoint_round_at(rt, u32::MAX) {

@@ -8,12 +8,11 @@ use crate::loading::words::put_words;
 use jb_handle::{Handle, TouchFault, Words};
 use jb_journal::{Client, Clock, Disk, Origin};
 use std::sync::Wait;
-use std::sync::ledger::Ledger;
 use std::time;
 
 /// Runs a handle with these words, with as many credits as it touches blocks; gives its ticket.
-pub(crate) fn run_handle<'a, D: Disk, C: Clock, R: Wait + time::Clock, H: Origin, N: Ledger>(
-    client: &mut Client<'a, D, C, R, H, N>,
+pub(crate) fn run_handle<'a, D: Disk, C: Clock, R: Wait + time::Clock, H: Origin>(
+    client: &mut Client<'a, D, C, R, H>,
     words: &Words,
 ) -> Result<u64, QueueHandleFault>
     requires client { IsClient H.begun client.old }

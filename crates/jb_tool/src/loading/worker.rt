@@ -14,7 +14,6 @@ use jb_queue::{HandleReader, QueueLines};
 use std::alloc::Global;
 use std::fs::File;
 use std::sync::Wait;
-use std::sync::ledger::Ledger;
 use std::time;
 
 /// Workers that run the handles of a queue. The one at the place k of T runs the handles k, k + T, k + 2T and so on,
@@ -34,9 +33,9 @@ impl Worker<Option<Refused>> for Loader<'_> {
     ghost answers = { λ loader begun shape sure workers at stops known refused.
         IsRun shape (handles_of loader.queue.now) workers at stops refused };
 
-    fn work<'a, D: Disk, C: Clock, R: Wait + time::Clock, H: Origin, N: Ledger>(
+    fn work<'a, D: Disk, C: Clock, R: Wait + time::Clock, H: Origin>(
         &self,
-        client: &mut Client<'a, D, C, R, H, N>,
+        client: &mut Client<'a, D, C, R, H>,
         workers: usize,
         at: usize,
     ) -> Option<Refused>
@@ -87,9 +86,9 @@ fn run_each<'a, D: Disk, C: Clock, R: Wait + time::Clock, H: Origin, N: Ledger, 
 
 /// Passes over this many handles of a queue, reads the next one, and runs it; the words of one handle are read at a
 /// time.
-fn run_next<'a, D: Disk, C: Clock, R: Wait + time::Clock, H: Origin, N: Ledger>(
+fn run_next<'a, D: Disk, C: Clock, R: Wait + time::Clock, H: Origin>(
     alloc: Global,
-    client: &mut Client<'a, D, C, R, H, N>,
+    client: &mut Client<'a, D, C, R, H>,
     reader: &mut HandleReader<'_>,
     passed: usize,
 ) -> Result<u64, QueueHandleFault>

@@ -12,6 +12,3 @@ ghosts-run_row-H-Place g a = record { history = history_in a.handles }
 -- nothing is known of the start
 abbrev pub ghosts-run_row-H-Origin : goal.ghosts-run_row-H-Origin
 ghosts-run_row-H-Origin g a = record { begun = unknown; marks = history_id a.marks }
-
-abbrev pub ghosts-run_row-N-Ledger : goal.ghosts-run_row-N-Ledger
-ghosts-run_row-N-Ledger g a = record { name = a.changes.name; parts = a.changes.parts }

@@ -11,6 +11,3 @@ ghosts-run_open-H-Place g a = record { history = history_in a.handles }
 -- the start is that of the caller
 abbrev pub ghosts-run_open-H-Origin : goal.ghosts-run_open-H-Origin
 ghosts-run_open-H-Origin g a = record { marks = history_id a.marks; begun = g.H.Origin.begun }
-
-abbrev pub ghosts-run_open-N-Ledger : goal.ghosts-run_open-N-Ledger
-ghosts-run_open-N-Ledger g a = record { name = a.changes.name; parts = a.changes.parts }

@@ -9,8 +9,5 @@ ghosts-gated-H-Ledger g a = record { name = a.handles.tickets.name; parts = a.ha
 abbrev pub ghosts-gated-H-Place : goal.ghosts-gated-H-Place
 ghosts-gated-H-Place g a = record { history = history_in a.handles }
 
-abbrev pub ghosts-gated-N-Ledger : goal.ghosts-gated-N-Ledger
-ghosts-gated-N-Ledger g a = record { name = a.changes.name; parts = a.changes.parts }
-
 abbrev pub ghosts-gated-H-Origin : goal.ghosts-gated-H-Origin
 ghosts-gated-H-Origin g a = record { marks = history_id a.marks; begun = unknown }

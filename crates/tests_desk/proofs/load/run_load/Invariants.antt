@@ -9,8 +9,5 @@ ghosts-outcome_of-H-Ledger g a = record { name = a.handles.tickets.name; parts =
 abbrev pub ghosts-outcome_of-H-Place : goal.ghosts-outcome_of-H-Place
 ghosts-outcome_of-H-Place g a = record { history = history_in a.handles }
 
-abbrev pub ghosts-outcome_of-N-Ledger : goal.ghosts-outcome_of-N-Ledger
-ghosts-outcome_of-N-Ledger g a = record { name = a.changes.name; parts = a.changes.parts }
-
 abbrev pub ghosts-outcome_of-H-Origin : goal.ghosts-outcome_of-H-Origin
 ghosts-outcome_of-H-Origin g a = record { marks = history_id a.marks; begun = unknown }

@@ -9,8 +9,5 @@ ghosts-started-H-Ledger g a = record { name = a.handles.tickets.name; parts = a.
 abbrev pub ghosts-started-H-Place : goal.ghosts-started-H-Place
 ghosts-started-H-Place g a = record { history = history_in a.handles }
 
-abbrev pub ghosts-started-N-Ledger : goal.ghosts-started-N-Ledger
-ghosts-started-N-Ledger g a = record { name = a.changes.name; parts = a.changes.parts }
-
 abbrev pub ghosts-started-H-Origin : goal.ghosts-started-H-Origin
 ghosts-started-H-Origin g a = record { marks = history_id a.marks; begun = unknown }

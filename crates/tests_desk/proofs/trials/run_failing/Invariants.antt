@@ -9,8 +9,5 @@ ghosts-started_failing-H-Ledger g a = record { name = a.handles.tickets.name; pa
 abbrev pub ghosts-started_failing-H-Place : goal.ghosts-started_failing-H-Place
 ghosts-started_failing-H-Place g a = record { history = history_in a.handles }
 
-abbrev pub ghosts-started_failing-N-Ledger : goal.ghosts-started_failing-N-Ledger
-ghosts-started_failing-N-Ledger g a = record { name = a.changes.name; parts = a.changes.parts }
-
 abbrev pub ghosts-started_failing-H-Origin : goal.ghosts-started_failing-H-Origin
 ghosts-started_failing-H-Origin g a = record { marks = history_id a.marks; begun = unknown }

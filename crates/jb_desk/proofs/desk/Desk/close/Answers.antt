@@ -31,7 +31,7 @@ ends-since G b stops handles shape disk trail known marks marked =
     let ends = marked.ends in
     record { deck = ends.deck; same_disk = ends.same_disk; same_trail = ends.same_trail; since = is-weaker G b (IsStop b ends.log) (may_stop b) (λ h s. s.0) ends.deck ends.since }
 
-not-closed : {D C H N : Type 0} {Q : Disks D} {O : Ghosts H} {P : Places H} (G : Disks D) (b : Begun) (queue : QueueState D H N Q O P) (journal : JournalAndClock D C) (desk : Desk D C H N Q O P) (lefts : Vec (Left H N O P)) (seen : Sights D H) (r : Result (Closed D C) (CloseFault D C H N Q O P)) → IfErr r (DiffersAs G b queue journal seen) → IfErr r (IsNotClosed G b desk lefts seen)
+not-closed : {D C H : Type 0} {Q : Disks D} {O : Ghosts H} {P : Places H} (G : Disks D) (b : Begun) (queue : QueueState D H Q O P) (journal : JournalAndClock D C) (desk : Desk D C H Q O P) (lefts : Vec (Left H O P)) (seen : Sights D H) (r : Result (Closed D C) (CloseFault D C H Q O P)) → IfErr r (DiffersAs G b queue journal seen) → IfErr r (IsNotClosed G b desk lefts seen)
 not-closed G b queue journal desk lefts seen (Ok closed) is = tt
 not-closed G b queue journal desk lefts seen (Err (SeatsOut back kept sights)) is = absurd is
 not-closed G b queue journal desk lefts seen (Err (TrailsDiffer deck clock book)) is = (is.3, is.4)

@@ -49,7 +49,7 @@ record Ends {D : Type 0} (G : Disks D) (b : Begun) (p : Planned) (after : Option
   view : SeesCommit p.batch old new r
   round : CommitsRound G b 0 (Some p.batch) after new.settled r
 
-module _ {D H N : Type 0} (G : Disks D) {O : Ghosts H} {P : Places H} (b : Begun) (p : Planned) (done : Done) (after : Option Gathered) (old new : Seat H N O P) (free : after ≡ None) (some : 0 < length p.batch.handles) where
+module _ {D H : Type 0} (G : Disks D) {O : Ghosts H} {P : Places H} (b : Begun) (p : Planned) (done : Done) (after : Option Gathered) (old new : Seat H O P) (free : after ≡ None) (some : 0 < length p.batch.handles) where
   -- the batch is committed: it is settled whole, unless the book has failed
   settled-whole : (settled : Result Unit RoundFault) (r : Result Round RoundFault) → CommitsAs p (Ok done) → EndsRound G b p (Ok done)
       → OnOk settled (r ≡ Ok (Committed done)) → IfErr settled (λ fault. r ≡ Err fault)

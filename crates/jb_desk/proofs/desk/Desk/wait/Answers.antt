@@ -33,7 +33,7 @@ known : {D : Type 0} (marks : List (OpenDeck D)) (ticket : ℕ) (number : Option
 known marks ticket None r is shown = subst (λ (x : Result ℕ WaitFault). IfOk x (Shows marks ticket) × IfErr x (ShowsTaken marks ticket)) (sym is) (tt, shown)
 known marks ticket (Some n) r is shown = subst (λ (x : Result ℕ WaitFault). IfOk x (Shows marks ticket) × IfErr x (ShowsTaken marks ticket)) (sym is) (shown, tt)
 
-was-taken : {H N : Type 0} {O : Ghosts H} {P : Places H} (ticket : ℕ) (old new : Seat H N O P) (number : Option ℕ) (r : Result ℕ WaitFault) → r ≡ ok_or number Taken → view_of new ≡ with_settled (ticket + 1) (view_of old)
+was-taken : {H : Type 0} {O : Ghosts H} {P : Places H} (ticket : ℕ) (old new : Seat H O P) (number : Option ℕ) (r : Result ℕ WaitFault) → r ≡ ok_or number Taken → view_of new ≡ with_settled (ticket + 1) (view_of old)
     → IfErr r (RefusesWait ticket old new)
 was-taken ticket old new None r is view = subst (λ (x : Result ℕ WaitFault). IfErr x (RefusesWait ticket old new)) (sym is) view
 was-taken ticket old new (Some n) r is view = subst (λ (x : Result ℕ WaitFault). IfErr x (RefusesWait ticket old new)) (sym is) tt

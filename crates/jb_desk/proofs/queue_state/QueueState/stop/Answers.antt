@@ -1,11 +1,13 @@
 use Rattle.std.proofs.Common.{◌≡◌, ◌+◌, ◌∷◌, [], ◌++◌, length, rules, refl, ap, subst, ◌∙◌, arith, length-append}
+use Rattle.std.specs.List.{sum_by}
+use Rattle.std.proofs.lemmas.List.Sums.{sum_by_push}
 use mathlib.Core.HLevel.{is_prop→PathP}
 use native.Mathlib.Nat.{ℕ_set}
 use Rattle.jb_handle.specs.Handle.{changes_of, holder}
 use Rattle.jb_handle.specs.HeldChanges.{Held}
 use Rattle.jb_handle.specs.Word.{WordMap}
 use Rattle.jb_handle.specs.declared.handle.Handle.{Handle}
-use Rattle.jb_book.specs.Account.{CanStop, dropped_of, queued}
+use Rattle.jb_book.specs.Account.{CanStop, changed_by, dropped_of, queued}
 use Rattle.jb_book.specs.CallsToBook.{Registered}
 use Rattle.jb_book.specs.Marks.{SeesStop}
 use Rattle.jb_board.specs.declared.place.Place.{Ghosts as Places}
@@ -14,15 +16,13 @@ use Rattle.jb_desk.specs.declared.seat.Seat.{Seat}
 use Rattle.jb_desk.proofs.queue_state.QueueState.stop.Goals as goal
 
 -- seats with the same parts are the same
-same-seat : {H N : Type 0} {O : Ghosts H} {P : Places H} (s t : Seat H N O P) → t.number ≡ s.number → t.board ≡ s.board → t.handles ≡ s.handles → t.changes ≡ s.changes → t.made ≡ s.made → t ≡ s
-same-seat s t number board handles changes made = λ i. record {
+same-seat : {H : Type 0} {O : Ghosts H} {P : Places H} (s t : Seat H O P) → t.number ≡ s.number → t.board ≡ s.board → t.handles ≡ s.handles → t.made ≡ s.made → t ≡ s
+same-seat s t number board handles made = λ i. record {
   number = number i;
   board = board i;
   handles = handles i;
-  changes = changes i;
   made = made i;
   part_of_handles = is_prop→PathP (λ j. (handles j).parts ≡ 1) (λ j. ℕ_set (handles j).parts 1) t.part_of_handles s.part_of_handles i;
-  part_of_changes = is_prop→PathP (λ j. (changes j).parts ≡ 1) (λ j. ℕ_set (changes j).parts 1) t.part_of_changes s.part_of_changes i;
   all_made = is_prop→PathP (λ j. length (made j) ≡ (handles j).amount) (λ j. ℕ_set (length (made j)) (handles j).amount) t.all_made s.all_made i;
 }
 
@@ -38,7 +38,6 @@ invariant_of-seat g c =
     let counted = seat.all_made in
     record {
       part_of_handles = c.add.ensures.parts ∙ seat.part_of_handles;
-      part_of_changes = c.add-in-Ok.ensures.parts ∙ seat.part_of_changes;
       all_made = omega (arith, grown, longer, counted, c.add.ensures.amount);
     }
 
@@ -50,6 +49,7 @@ returns-in-Ok-clause-ok g c =
     let ticket = c.in-Ok.ticket in
     let words : (changes_of c.with_seat-seat.result.1).words ≡ (changes_of c.args.handle).words = ap (λ (h : Held). h.words) took.changes in
     let queues = c.in-Ok.ensures.ok in
+    let made = queues.made_one ∙ ap (λ s. s.made ++ (ticket, (changes_of c.with_seat-seat.result.1).words) ∷ []) took.old ∙ ap (λ (w : WordMap). (holder c.args.handle).made ++ (ticket, w) ∷ []) words in
     record {
       same_number = ap (λ s. s.number) took.old;
       same_board = ap (λ s. s.board) took.old;
@@ -59,8 +59,8 @@ returns-in-Ok-clause-ok g c =
       few = queues.few;
       counted = record {
         stopped = c.add.ensures.amount ∙ ap (λ s. s.handles.amount + 1) took.old;
-        touched = search rules;
-        made = queues.made_one ∙ ap (λ s. s.made ++ (ticket, (changes_of c.with_seat-seat.result.1).words) ∷ []) took.old ∙ ap (λ (w : WordMap). (holder c.args.handle).made ++ (ticket, w) ∷ []) words;
+        touched = ap (sum_by changed_by) made ∙ sum_by_push changed_by (holder c.args.handle).made (ticket, (changes_of c.args.handle).words);
+        made = made;
       };
     }
 
@@ -79,7 +79,7 @@ returns-in-Err-default-Aborted-clause-marks g c = refl
 pub returns-in-Err-default-Aborted-clause-refused : goal.returns-in-Err-default-Aborted-clause-refused
 returns-in-Err-default-Aborted-clause-refused g c = (
   search rules,
-  same-seat c.with_seat-seat.result.0 _ refl refl refl refl c.in-Err-default-Aborted.ensures.err.1 ∙ c.with_seat-seat.ensures.old,
+  same-seat c.with_seat-seat.result.0 _ refl refl refl c.in-Err-default-Aborted.ensures.err.1 ∙ c.with_seat-seat.ensures.old,
   c.drop_open.ensures.book ∙ ap (λ (r : Registered). dropped_of c.with_seat-seat.result.0.number r.book) c.in-Err-default-Aborted.ensures.err.0,
 )
 
@@ -93,7 +93,7 @@ pub returns-in-Err-default-NotOpen-clause-refused : goal.returns-in-Err-default-
 returns-in-Err-default-NotOpen-clause-refused g c =
     let changes = c.with_seat-handle.ensures.changes ∙ ap (λ h. changes_of h) c.in-Err-default-NotOpen.ensures.back ∙ c.with_seat-seat.ensures.changes in (
       search rules,
-      same-handle c.with_seat-handle.result.1 c.args.handle (c.with_seat-handle.ensures.seat ∙ same-seat c.with_seat-seat.result.0 _ refl refl refl refl c.in-Err-default-NotOpen.ensures.err.1 ∙ c.with_seat-seat.ensures.old) changes,
+      same-handle c.with_seat-handle.result.1 c.args.handle (c.with_seat-handle.ensures.seat ∙ same-seat c.with_seat-seat.result.0 _ refl refl refl c.in-Err-default-NotOpen.ensures.err.1 ∙ c.with_seat-seat.ensures.old) changes,
       ap (λ (r : Registered). r.book) c.in-Err-default-NotOpen.ensures.err.0,
     )
 
@@ -107,6 +107,6 @@ pub returns-in-Err-default-Memory-clause-refused : goal.returns-in-Err-default-M
 returns-in-Err-default-Memory-clause-refused g c =
     let changes = c.with_seat-handle-in-Err-default-Memory.ensures.changes ∙ ap (λ h. changes_of h) c.in-Err-default-Memory.ensures.back ∙ c.with_seat-seat.ensures.changes in (
       search rules,
-      same-handle c.with_seat-handle-in-Err-default-Memory.result.1 c.args.handle (c.with_seat-handle-in-Err-default-Memory.ensures.seat ∙ same-seat c.with_seat-seat.result.0 _ refl refl refl refl c.in-Err-default-Memory.ensures.err.1 ∙ c.with_seat-seat.ensures.old) changes,
+      same-handle c.with_seat-handle-in-Err-default-Memory.result.1 c.args.handle (c.with_seat-handle-in-Err-default-Memory.ensures.seat ∙ same-seat c.with_seat-seat.result.0 _ refl refl refl c.in-Err-default-Memory.ensures.err.1 ∙ c.with_seat-seat.ensures.old) changes,
       ap (λ (r : Registered). r.book) c.in-Err-default-Memory.ensures.err.0,
     )

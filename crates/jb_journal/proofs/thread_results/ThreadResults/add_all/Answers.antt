@@ -13,10 +13,10 @@ use Rattle.jb_journal.proofs.thread_results.ThreadResults.add_all.Goals as goal
 
 pub loop-worked-preserved : goal.loop-worked-preserved
 loop-worked-preserved g c =
-    let W = WorkerResult g.row.T.Denot g.row.D.Denot g.row.H.Denot g.row.N.Denot g.H.Origin g.H.Place in
+    let W = WorkerResult g.row.T.Denot g.row.D.Denot g.row.H.Denot g.H.Origin g.H.Place in
     let w : W = c.in-Some.worked in
     let ws = c.loop-worked.yielded in
-    let initial = joined (map (made_left {H = g.row.H.Denot} {N = g.row.N.Denot} {O = g.H.Origin} {P = g.H.Place}) c.args.self.now.lefts.items) in
+    let initial = joined (map (made_left {H = g.row.H.Denot} {O = g.H.Origin} {P = g.H.Place}) c.args.self.now.lefts.items) in
     record {
       answers = c.add.ensures.answers ∙ ap (λ xs. xs ++ answers_of w) c.loop-worked.invariant.answers ∙ sym (joined-more (λ (x : W). answers_of x) ws w);
       stops =
@@ -34,8 +34,8 @@ loop-worked-preserved g c =
 
 pub returns : goal.returns
 returns g c =
-    let W = WorkerResult g.row.T.Denot g.row.D.Denot g.row.H.Denot g.row.N.Denot g.H.Origin g.H.Place in
-    let initial = joined (map (made_left {H = g.row.H.Denot} {N = g.row.N.Denot} {O = g.H.Origin} {P = g.H.Place}) c.args.self.now.lefts.items) in
+    let W = WorkerResult g.row.T.Denot g.row.D.Denot g.row.H.Denot g.H.Origin g.H.Place in
+    let initial = joined (map (made_left {H = g.row.H.Denot} {O = g.H.Origin} {P = g.H.Place}) c.args.self.now.lefts.items) in
     let end = YieldsList-end (YieldsList-from_vec {s = c.into_iter-worked-iterator.result} c.args.workers.items (search rules) (search rules)) c.loop-worked.yielded c.loop-worked.worked-iterator c.loop-worked.yielded_by c.next.result c.next.new.self c.in-None.is c.next.ensures.steps in
     let all = sym (map-id c.loop-worked.yielded) ∙ end.0 in
     record {

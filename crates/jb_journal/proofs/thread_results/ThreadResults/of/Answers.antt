@@ -6,8 +6,8 @@ use Rattle.jb_journal.proofs.thread_results.ThreadResults.of.Goals as goal
 
 pub returns-clause-gathered : goal.returns-clause-gathered
 returns-clause-gathered g c =
-    let made = made_left {H = g.row.H.Denot} {N = g.row.N.Denot} {O = g.H.Origin} {P = g.H.Place} in
-    let stopped = joined (map (stops_of_worked {T = g.row.T.Denot} {D = g.row.D.Denot} {H = g.row.H.Denot} {N = g.row.N.Denot} {O = g.H.Origin} {P = g.H.Place}) c.args.ran.workers.items) in
+    let made = made_left {H = g.row.H.Denot} {O = g.H.Origin} {P = g.H.Place} in
+    let stopped = joined (map (stops_of_worked {T = g.row.T.Denot} {D = g.row.D.Denot} {H = g.row.H.Denot} {O = g.H.Origin} {P = g.H.Place}) c.args.ran.workers.items) in
     let none = ap (λ ls. ls.items) c.new-gathered.ensures.0 ∙ c.requires.lefts.none in
     record {
       answers = c.add_all.ensures.answers;
