@@ -55,13 +55,13 @@ impl Worker<Option<Refused>> for Loader<'_> {
 }
 
 /// Runs the handles of a queue that are at this place of so many, up to the first that is refused, and gives that one.
-fn run_each<'a, D: Disk, C: Clock, R: Wait + time::Clock, H: Origin, N: Ledger, K: time::Clock>(
+fn run_each<'a, D: Disk, C: Clock, R: Wait + time::Clock, H: Origin>(
     alloc: Global,
     queue: &QueueLines,
-    client: &mut Client<'a, D, C, R, H, N>,
+    client: &mut Client<'a, D, C, R, H>,
     workers: usize,
     at: usize,
-    progress: &mut ShownProgress<'_, K>,
+    progress: &mut ShownProgress<'_, R>,
 ) -> Option<Refused>
     requires client { IsClient H.begun client.old }
     requires fresh { client_stops client.old ≡ [] }
