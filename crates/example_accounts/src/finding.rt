@@ -1,6 +1,6 @@
 //! What the accounts hold, for a worker of a run.
 ghost use Rattle.std.specs.Prelude.{◌≡◌, IfOk, None};
-ghost use Rattle.jb_journal.specs.Client.{ClientGoesOn, MayWait, client_honest, client_known, client_stops};
+ghost use Rattle.jb_journal.specs.Client.{ClientGoesOn, when_committed, client_honest, client_known, client_stops};
 ghost use Rattle.example_accounts.specs.Postings.{FindsBalances};
 
 use crate::accounts::{ACCOUNTS, Balances, Block, balance};
@@ -17,8 +17,7 @@ pub fn found<'a, D: Disk, C: Clock, R: Wait + time::Clock, H: Origin>(
     client: &mut Client<'a, D, C, R, H>,
     last: Option<Posting>,
 ) -> Result<Balances, JournalFault>
-    requires { MayWait H.begun client.old }
-    ensures client { MayWait H.begun client.new }
+    requires { when_committed client.old ≡ Meanwhile }
     ensures goes_on { ClientGoesOn client.old client.new }
     ensures kept { client_stops client.new ≡ client_stops client.old }
     ensures found { IfOk result (FindsBalances H.begun (client_honest client.new) (client_known client.new) last) }
@@ -37,8 +36,7 @@ pub fn found<'a, D: Disk, C: Clock, R: Wait + time::Clock, H: Origin>(
 fn read_all<'a, D: Disk, C: Clock, R: Wait + time::Clock, H: Origin>(
     client: &mut Client<'a, D, C, R, H>,
 ) -> Result<Balances, JournalFault>
-    requires { MayWait H.begun client.old }
-    ensures client { MayWait H.begun client.new }
+    requires { when_committed client.old ≡ Meanwhile }
     ensures goes_on { ClientGoesOn client.old client.new }
     ensures kept { client_stops client.new ≡ client_stops client.old }
     ensures found { IfOk result (FindsBalances H.begun (client_honest client.new) (client_known client.new) None) }

@@ -1,7 +1,7 @@
 //! The accounts are opened, and money is moved between them, by many threads.
 ghost use Rattle.std.specs.Prelude.{◌≡◌, ◌<◌, All, None, OnOk, length};
 ghost use Rattle.jb_handle.specs.Handle.{changes_of};
-ghost use Rattle.jb_journal.specs.Client.{ClientGoesOn, MayWait, client_honest, client_known, client_stops};
+ghost use Rattle.jb_journal.specs.Client.{ClientGoesOn, when_committed, client_honest, client_known, client_stops};
 ghost use Rattle.jb_journal.specs.declared.options.Commits.TheVariants.{Meanwhile};
 ghost use Rattle.jb_journal.specs.Names.{IsFirstPart, StandsIn};
 ghost use Rattle.example_accounts.specs.Accounts.{IsMove, PutsTwo, moved_by, opening_balances};
@@ -39,7 +39,7 @@ pub struct Moved<L: Place> {
 
 impl<L: Place> Worker<Moved<L>> for Moving<L> {
     ghost use Rattle.std.specs.Prelude.{◌≡◌, [], All};
-    ghost use Rattle.jb_journal.specs.Client.{IsClient, client_honest, client_stops, when_committed};
+    ghost use Rattle.jb_journal.specs.Client.{client_honest, client_stops, when_committed};
     ghost use Rattle.jb_journal.specs.declared.options.Commits.TheVariants.{Meanwhile};
     ghost use Rattle.example_accounts.specs.Postings.{IsPosted};
 
@@ -54,7 +54,6 @@ impl<L: Place> Worker<Moved<L>> for Moving<L> {
         _workers: usize,
         at: usize,
     ) -> Moved<L>
-        requires client { IsClient H.begun client.old }
         requires fresh { client_stops client.old ≡ [] }
         requires commits { when_committed client.old ≡ Meanwhile }
         ensures answers { All (IsPosted H.begun (client_honest client.new) result.seen) (client_stops client.new) }
@@ -73,7 +72,7 @@ impl<L: Place> Moving<L> {
         seen: &mut Prefix<Posting, L>,
         at: u64,
     ) -> Result<(), JournalFault>
-        requires client { MayWait H.begun client.old }
+        requires commits { when_committed client.old ≡ Meanwhile }
         requires posted { All (IsPosted H.begun (client_honest client.old) seen.old) (client_stops client.old) }
         ensures { All (IsPosted H.begun (client_honest client.new) seen.new) (client_stops client.new) }
     {
@@ -99,9 +98,8 @@ impl<L: Place> Moving<L> {
         client: &mut Client<'a, D, C, R, H>,
         seen: &mut Prefix<Posting, L>,
     ) -> Result<Option<u64>, JournalFault>
-        requires client { MayWait H.begun client.old }
+        requires commits { when_committed client.old ≡ Meanwhile }
         requires posted { All (IsPosted H.begun (client_honest client.old) seen.old) (client_stops client.old) }
-        ensures client { MayWait H.begun client.new }
         ensures posted { All (IsPosted H.begun (client_honest client.new) seen.new) (client_stops client.new) }
     {
         let mut book = self.book.lock(client.runtime());
@@ -131,10 +129,9 @@ impl<L: Place> Moving<L> {
         seen: &mut Prefix<Posting, L>,
         wish: Wish,
     ) -> Result<Option<u64>, JournalFault>
-        requires client { MayWait H.begun client.old }
+        requires commits { when_committed client.old ≡ Meanwhile }
         requires wish { (wish.from < 100) × (wish.to < 100) × (0 < wish.amount) }
         requires posted { All (IsPosted H.begun (client_honest client.old) seen.old) (client_stops client.old) }
-        ensures client { MayWait H.begun client.new }
         ensures posted { All (IsPosted H.begun (client_honest client.new) seen.new) (client_stops client.new) }
     {
         // handles stop in the order in which the balances change
@@ -173,8 +170,7 @@ impl<L: Place> Moving<L> {
 fn stop_opening<'a, D: Disk, C: Clock, R: Wait + time::Clock, H: Origin>(
     client: &mut Client<'a, D, C, R, H>,
 ) -> Result<u64, JournalFault>
-    requires { MayWait H.begun client.old }
-    ensures client { MayWait H.begun client.new }
+    requires { when_committed client.old ≡ Meanwhile }
     ensures goes_on { ClientGoesOn client.old client.new }
     ensures stops { (before : _) → StopsOrNot (client_known client.old) before opening_balances
         (client_stops client.old) (client_stops client.new) result }
@@ -188,8 +184,7 @@ fn stop_move<'a, D: Disk, C: Clock, R: Wait + time::Clock, H: Origin>(
     client: &mut Client<'a, D, C, R, H>,
     granted: Move,
 ) -> Result<u64, JournalFault>
-    requires { MayWait H.begun client.old }
-    ensures client { MayWait H.begun client.new }
+    requires { when_committed client.old ≡ Meanwhile }
     ensures goes_on { ClientGoesOn client.old client.new }
     ensures stops { (before : _) → IsMove before granted → length before ≡ 100
         → StopsOrNot (client_known client.old) before (moved_by granted before)

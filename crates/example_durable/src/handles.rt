@@ -1,6 +1,6 @@
 //! Handles of two blocks, each of which is waited for.
 ghost use Rattle.std.specs.Prelude.{◌≡◌};
-ghost use Rattle.jb_journal.specs.Client.{MayWait};
+ghost use Rattle.jb_journal.specs.Client.{when_committed};
 ghost use Rattle.jb_journal.specs.declared.options.Commits.TheVariants.{Meanwhile};
 
 use crate::times::{Part, micros};
@@ -32,7 +32,7 @@ pub struct Durable {
 }
 
 impl Worker<Result<Part, JournalFault>> for Durable {
-    ghost use Rattle.jb_journal.specs.Client.{IsClient, when_committed};
+    ghost use Rattle.jb_journal.specs.Client.{when_committed};
 
     ghost needs = { λ _ commits. commits ≡ Meanwhile };
 
@@ -42,7 +42,6 @@ impl Worker<Result<Part, JournalFault>> for Durable {
         _workers: usize,
         at: usize,
     ) -> Result<Part, JournalFault>
-        requires client { IsClient H.begun client.old }
         requires commits { when_committed client.old ≡ Meanwhile }
     {
         let rt = client.runtime();
@@ -67,8 +66,8 @@ fn one_handle<'a, D: Disk, C: Clock, R: Wait + time::Clock, H: Origin>(
     draw: u64,
     word: &Word,
 ) -> Result<(), JournalFault>
-    requires { MayWait H.begun client.old }
-    ensures { MayWait H.begun client.new }
+    requires { when_committed client.old ≡ Meanwhile }
+    ensures { when_committed client.new ≡ Meanwhile }
 {
     let (first, second) = ((draw >> 8) % HOMES, (draw >> 24) % HOMES);
     let (_, ticket) = client.change(2, |handle: &mut Handle<()>| -> Result<(), TouchFault> {

@@ -1,6 +1,6 @@
 //! A queue of requests between the threads of a program and the workers of a journal.
 ghost use Rattle.std.specs.Prelude.{◌≡◌};
-ghost use Rattle.jb_journal.specs.Client.{MayWait};
+ghost use Rattle.jb_journal.specs.Client.{when_committed};
 
 use crate::failed::Failed;
 use crossbeam_channel::{Receiver, Sender, bounded, unbounded};
@@ -82,7 +82,7 @@ impl Service {
 }
 
 impl Worker<u64> for Service {
-    ghost use Rattle.jb_journal.specs.Client.{IsClient, when_committed};
+    ghost use Rattle.jb_journal.specs.Client.{when_committed};
     ghost use Rattle.jb_journal.specs.declared.options.Commits.TheVariants.{Meanwhile};
 
     ghost needs = { λ _ commits. commits ≡ Meanwhile };
@@ -95,7 +95,6 @@ impl Worker<u64> for Service {
         _workers: usize,
         _at: usize,
     ) -> u64
-        requires client { IsClient H.begun client.old }
         requires commits { when_committed client.old ≡ Meanwhile }
     {
         let rt = client.runtime();
@@ -121,8 +120,8 @@ fn put<'a, D: Disk, C: Clock, R: Wait + time::Clock, H: Origin>(
     home: u64,
     number: u64,
 ) -> Result<u32, JournalFault>
-    requires { MayWait H.begun client.old }
-    ensures { MayWait H.begun client.new }
+    requires { when_committed client.old ≡ Meanwhile }
+    ensures { when_committed client.new ≡ Meanwhile }
 {
     let mut block = [0; 1024];
     block[..8].copy_from_slice(&number.to_be_bytes());

@@ -23,7 +23,7 @@ pub struct Serving {
 
 impl Worker<Served> for Serving {
     ghost use Rattle.std.specs.Prelude.{◌≡◌, []};
-    ghost use Rattle.jb_journal.specs.Client.{IsClient, client_honest, client_known, client_stops, when_committed};
+    ghost use Rattle.jb_journal.specs.Client.{client_honest, client_known, client_stops, when_committed};
     ghost use Rattle.jb_journal.specs.declared.options.Commits.TheVariants.{Meanwhile};
     ghost use Rattle.example_store.specs.Serves.{Serves};
 
@@ -38,7 +38,6 @@ impl Worker<Served> for Serving {
         _workers: usize,
         _at: usize,
     ) -> Served
-        requires client { IsClient H.begun client.old }
         requires fresh { client_stops client.old ≡ [] }
         requires commits { when_committed client.old ≡ Meanwhile }
         /// The replies to the commands are those by the map that the homes said at the start, if the disk was honest
@@ -54,7 +53,7 @@ impl Worker<Served> for Serving {
 
 impl Serving {
     ghost use Rattle.std.specs.Prelude.{◌≡◌, []};
-    ghost use Rattle.jb_journal.specs.Client.{MayWait, client_honest, client_known, client_stops};
+    ghost use Rattle.jb_journal.specs.Client.{when_committed, client_honest, client_known, client_stops};
     ghost use Rattle.example_store.specs.Serves.{Serves};
 
     /// Obeys the commands, adds each reply to the others, and writes it.
@@ -66,7 +65,7 @@ impl Serving {
         client: &mut Client<'a, D, C, R, H>,
         replies: &mut Vec<Reply>,
     ) -> Result<(), Failed>
-        requires client { MayWait H.begun client.old }
+        requires commits { when_committed client.old ≡ Meanwhile }
         requires fresh { client_stops client.old ≡ [] }
         requires none { replies.old.items ≡ [] }
         ensures { Serves self.now.commands.items H.begun (client_honest client.new) (client_stops client.new)

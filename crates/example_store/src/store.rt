@@ -1,6 +1,6 @@
 //! The store: each key is in one home block, and each change of it is a handle.
 ghost use Rattle.std.specs.Prelude.{◌≡◌, ◌%◌, None, IfOk, Some};
-ghost use Rattle.jb_journal.specs.Client.{ClientGoesOn, MayWait, client_honest, client_known, client_stops};
+ghost use Rattle.jb_journal.specs.Client.{ClientGoesOn, when_committed, client_honest, client_known, client_stops};
 ghost use Rattle.jb_journal.specs.Notes.{AreInNotes};
 ghost use Rattle.example_store.specs.Handles.{AnswersKey, Obeys, PutsBlock, WasRead};
 ghost use Rattle.example_store.specs.Tables.{slots_in, value_at};
@@ -23,9 +23,8 @@ pub fn obey<'a, D: Disk, C: Clock, R: Wait + time::Clock, H: Origin>(
     client: &mut Client<'a, D, C, R, H>,
     command: Command,
 ) -> Result<Reply, Failed>
-    requires client { MayWait H.begun client.old }
+    requires commits { when_committed client.old ≡ Meanwhile }
     requires noted { AreInNotes (client_known client.old).notes (client_stops client.old) }
-    ensures client { MayWait H.begun client.new }
     ensures goes_on { ClientGoesOn client.old client.new }
     /// A command is replied to by the map that the client's handles have left, and its own handle makes of this map
     /// what the command does, if the disk was honest and no other handles stopped than this client's.
@@ -57,8 +56,7 @@ fn put<'a, D: Disk, C: Clock, R: Wait + time::Clock, H: Origin>(
     key: u64,
     value: u64,
 ) -> Result<(), Failed>
-    requires { MayWait H.begun client.old }
-    ensures client { MayWait H.begun client.new }
+    requires { when_committed client.old ≡ Meanwhile }
     ensures goes_on { ClientGoesOn client.old client.new }
     /// A put leaves bytes in the home of its key that say the value at it, and of all other keys what was read of them.
     ensures puts { AnswersKey H.begun (client_honest client.new) key (Some value) (client_known client.old)
@@ -78,8 +76,7 @@ fn get<'a, D: Disk, C: Clock, R: Wait + time::Clock, H: Origin>(
     client: &mut Client<'a, D, C, R, H>,
     key: u64,
 ) -> Result<Option<u64>, JournalFault>
-    requires { MayWait H.begun client.old }
-    ensures client { MayWait H.begun client.new }
+    requires { when_committed client.old ≡ Meanwhile }
     ensures goes_on { ClientGoesOn client.old client.new }
     ensures kept { client_stops client.new ≡ client_stops client.old }
     /// A get answers what the bytes say at its key that a read of the key's home gave.
@@ -98,8 +95,7 @@ fn delete<'a, D: Disk, C: Clock, R: Wait + time::Clock, H: Origin>(
     client: &mut Client<'a, D, C, R, H>,
     key: u64,
 ) -> Result<(), JournalFault>
-    requires { MayWait H.begun client.old }
-    ensures client { MayWait H.begun client.new }
+    requires { when_committed client.old ≡ Meanwhile }
     ensures goes_on { ClientGoesOn client.old client.new }
     /// A delete leaves bytes in the home of its key that say nothing at it, and of all other keys what was read of
     /// them.
@@ -117,8 +113,7 @@ fn table_of<'a, D: Disk, C: Clock, R: Wait + time::Clock, H: Origin>(
     client: &mut Client<'a, D, C, R, H>,
     key: u64,
 ) -> Result<Table, JournalFault>
-    requires { MayWait H.begun client.old }
-    ensures client { MayWait H.begun client.new }
+    requires { when_committed client.old ≡ Meanwhile }
     ensures goes_on { ClientGoesOn client.old client.new }
     ensures kept { client_stops client.new ≡ client_stops client.old }
     ensures reads { IfOk result (λ table. WasRead H.begun (client_honest client.new) (client_known client.old)
@@ -135,8 +130,7 @@ fn write<'a, D: Disk, C: Clock, R: Wait + time::Clock, H: Origin>(
     key: u64,
     block: &Block,
 ) -> Result<(), JournalFault>
-    requires { MayWait H.begun client.old }
-    ensures client { MayWait H.begun client.new }
+    requires { when_committed client.old ≡ Meanwhile }
     ensures goes_on { ClientGoesOn client.old client.new }
     ensures puts { PutsBlock (key % 32) block.now (client_known client.old) (client_known client.new)
         (client_stops client.old) (client_stops client.new) result }

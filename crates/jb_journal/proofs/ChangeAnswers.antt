@@ -16,7 +16,7 @@ use Rattle.jb_book.specs.declared.sights.Sights.{Sights}
 use Rattle.jb_desk.specs.Seats.{made_by}
 use Rattle.jb_desk.specs.declared.seat.Seat.{Seat}
 use Rattle.jb_journal.specs.Change.{AnswersChange, IsCalled, IsChanged, SeesChange, StopsWith}
-use Rattle.jb_journal.specs.Client.{made_from}
+use Rattle.jb_journal.specs.Seated.{made_from}
 use Rattle.jb_journal.specs.Notes.{Stop}
 use Rattle.jb_journal.specs.declared.fault.HandleFault.{HandleFault}
 use Rattle.jb_journal.specs.declared.fault.HandleFault.TheVariants.{Begin, Refused, Aborted, NotOpen, Memory}

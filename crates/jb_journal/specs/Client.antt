@@ -17,6 +17,7 @@ use Rattle.jb_book.specs.declared.origin.Origin.{Ghosts as OriginGhosts}
 use Rattle.jb_board.specs.declared.place.Place.{Ghosts as Places}
 use Rattle.jb_book.specs.declared.sights.Sights.{Sights}
 use Rattle.jb_board.specs.HistoryRule.{StandsIn}
+use Rattle.jb_journal.specs.Seated.{made_from}
 use Rattle.jb_journal.specs.Notes.{Known, KnowsMore, Stop, note_of}
 use Rattle.jb_journal.specs.declared.client.Client.{Client}
 use Rattle.jb_journal.specs.declared.options.Commits.{Commits}
@@ -26,21 +27,10 @@ use Rattle.jb_journal.specs.declared.options.Commits.TheVariants.{Meanwhile}
 abbrev pub one_block : ℕ → List ℕ → WordMap
 one_block home bytes = map.insert map.empty home (Copy bytes)
 
--- there is a seat, of that board
-abbrev pub SeatedAt : {H : Type 0} {O : OriginGhosts H} {P : Places H} → BoardId → Option (Seat H O P)
-    → Type 0
-SeatedAt board None = ⊥
-SeatedAt board (Some seat) = desk_of seat ≡ board
-
 -- the counts that a seat is sure of
 abbrev pub seen_from : {H : Type 0} {O : OriginGhosts H} {P : Places H} → Option (Seat H O P) → Front
 seen_from None = front 0 0 0
 seen_from (Some seat) = view_of seat
-
--- the handles that stopped with a seat, each with its ticket and its words
-abbrev pub made_from : {H : Type 0} {O : OriginGhosts H} {P : Places H} → Option (Seat H O P) → List Stop
-made_from None = []
-made_from (Some seat) = made_by seat
 
 -- each of these journals had a disk that was honest
 abbrev pub AreHonest : {D : Type 0} → Disks D → List (OpenDeck D) → Type 0
@@ -51,14 +41,6 @@ abbrev pub known_in : {D H : Type 0} → (D → ℕ) → Sights D H → Known
 known_in moment seen = record { log = seen.stops; notes = each (note_of moment) seen.marks }
 
 module _ {D C R H : Type 0} {Q : Disks D} {O : OriginGhosts H} {P : Places H} where
-  -- a client with a seat at its desk and the shape of its journal, where handles may stop with any words; it knows its
-  -- own
-  pub record IsClient (b : Begun) (client : Client D C R H Q O P) : Type 0 where
-    pub seated : SeatedAt (desk_id client.desk.now) client.seat
-    pub shaped : client.shape ≡ shape_in client.desk.now
-    pub any : (words : WordMap) → b.stops words
-    pub own : All (StandsIn client.seen.stops) (made_from client.seat)
-
   -- the counts that the client is sure of
   abbrev pub seen_by : Client D C R H Q O P → Front
   seen_by client = seen_from client.seat
@@ -86,11 +68,6 @@ module _ {D C R H : Type 0} {Q : Disks D} {O : OriginGhosts H} {P : Places H} wh
   -- when what the clients of its run stop is committed
   abbrev pub when_committed : Client D C R H Q O P → Commits
   when_committed client = client.commits
-
-  -- a client that may wait for commits: they are made meanwhile
-  pub record MayWait (b : Begun) (of : Client D C R H Q O P) : Type 0 where
-    pub client : IsClient b of
-    pub meanwhile : when_committed of ≡ Meanwhile
 
   -- how a client goes on: it knows all that it knew, the disk was honest at all that it had seen if it was so at all
   -- that it has seen now, and its handles have to fit the same shape, and are committed when they were before

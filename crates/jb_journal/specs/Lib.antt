@@ -8,5 +8,6 @@ pub mod OpenFile
 pub mod Run
 pub mod RunFaults
 pub mod RunImage
+pub mod Seated
 pub mod Start
 pub mod Stays

@@ -1,16 +1,20 @@
 //! What a worker has of the journal.
-ghost use Rattle.std.specs.Prelude.{◌≡◌, ◌<◌, ◌≤◌, ◌↔◌, [], None, Some, IfErr, IfOk, OnOk, length, IsTrue};
+ghost use Rattle.std.specs.Prelude.{◌≡◌, ◌<◌, ◌≤◌, ◌↔◌, [], All, None, Some, IfErr, IfOk, OnOk, length, IsTrue};
 ghost use Rattle.std.specs.FinMap as map;
 ghost use Rattle.jb_handle.specs.HeldChanges.{held};
 ghost use Rattle.jb_desk.specs.Desks.{desk_id, shape_in};
 ghost use Rattle.jb_desk.specs.Seats.{made_by, desk_of};
 ghost use Rattle.jb_desk.specs.declared.fault.WaitFault.TheVariants.{Taken};
 ghost use Rattle.jb_handle.specs.Word.{WordMap};
+ghost use Rattle.jb_board.specs.HistoryRule.{StandsIn};
 ghost use Rattle.jb_journal.specs.Change.{AnswersChange};
+ghost use Rattle.jb_journal.specs.Seated.{SeatedAt, made_from};
+ghost use Rattle.jb_journal.specs.declared.options.Commits.TheVariants.{Meanwhile};
 
 mod durable;
 mod figures;
 
+use crate::any_words::AnyWords;
 use crate::change::change_at;
 use crate::fault::HandleFault;
 use crate::options::Commits;
@@ -35,15 +39,19 @@ pub struct Client<'a, D: Disk, C: Clock, R, H: Origin> {
     seat: Option<Seat<H>>,
     /// what it has seen of the handles that stopped and of the journal
     seen: Sights<D, H>,
+    any: AnyWords<H>,
+    ghost seated: { SeatedAt (desk_id desk.now) seat },
+    ghost shaped: { shape ≡ shape_in desk.now },
+    ghost own: { All (StandsIn seen.stops) (made_from seat) },
 }
 
 impl<'a, D: Disk, C: Clock, R: Wait + time::Clock, H: Origin> Client<'a, D, C, R, H> {
     ghost use Rattle.jb_book.specs.Journal.{GivesTrail, ReadsHome};
     ghost use Rattle.jb_plan.specs.Costs.{geometry_of};
     ghost use Rattle.jb_cost.specs.Credits.{IsMost};
-    ghost use Rattle.jb_journal.specs.Client.{ClientGoesOn, IsClient, MayWait, client_honest, client_known};
+    ghost use Rattle.jb_journal.specs.Client.{ClientGoesOn, client_honest, client_known};
     ghost use Rattle.jb_journal.specs.Client.{client_stops};
-    ghost use Rattle.jb_journal.specs.Client.{when_committed, made_from, seen_by, shape_of, sights_of};
+    ghost use Rattle.jb_journal.specs.Client.{when_committed, seen_by, shape_of, sights_of};
     ghost use Rattle.jb_journal.specs.Notes.{IsInNotes, NotesTaken, ReadsAs};
 
     /// A client at a desk, where handles may stop with any words.
@@ -58,7 +66,6 @@ impl<'a, D: Disk, C: Clock, R: Wait + time::Clock, H: Origin> Client<'a, D, C, R
         requires shape { shape ≡ shape_in desk.now }
         requires any { (words : WordMap) → H.begun.stops words }
         requires fresh { made_by seat ≡ [] }
-        ensures client { IsClient H.begun result }
         ensures shape { shape_of result ≡ shape }
         ensures commits { when_committed result ≡ commits }
         ensures stopped { client_stops result ≡ [] }
@@ -70,6 +77,7 @@ impl<'a, D: Disk, C: Clock, R: Wait + time::Clock, H: Origin> Client<'a, D, C, R
             commits,
             seat: Some(seat),
             seen: desk.sights(rt),
+            any: AnyWords::new(),
         }
     }
 
@@ -80,7 +88,6 @@ impl<'a, D: Disk, C: Clock, R: Wait + time::Clock, H: Origin> Client<'a, D, C, R
 
     /// The size of a block.
     pub fn block_size(&self) -> BlockSize
-        requires client { IsClient H.begun self.now }
         ensures { result ≡ (shape_of self.now).bs }
     {
         self.shape.bs
@@ -88,7 +95,6 @@ impl<'a, D: Disk, C: Clock, R: Wait + time::Clock, H: Origin> Client<'a, D, C, R
 
     /// How many home blocks there are; they are numbered from 0.
     pub fn homes(&self) -> u64
-        requires client { IsClient H.begun self.now }
         ensures { result ≡ (shape_of self.now).homes }
     {
         self.shape.homes
@@ -96,7 +102,6 @@ impl<'a, D: Disk, C: Clock, R: Wait + time::Clock, H: Origin> Client<'a, D, C, R
 
     /// The most credits of a handle: with this many changes it fits in a transaction.
     pub fn most_credits(&self) -> u32
-        requires client { IsClient H.begun self.now }
         /// The most credits that a client names are the greatest number with which a handle always fits in a
         /// transaction.
         ensures { IsMost (geometry_of (shape_of self.now)) (shape_of self.now).limit result }
@@ -122,6 +127,7 @@ impl<'a, D: Disk, C: Clock, R: Wait + time::Clock, H: Origin> Client<'a, D, C, R
             commits: _commits,
             seat,
             seen,
+            any: _any,
         } = self;
         (seat, seen)
     }
@@ -140,9 +146,7 @@ impl<'a, D: Disk, C: Clock, R: Wait + time::Clock, H: Origin> Client<'a, D, C, R
         credits: u32,
         change: F,
     ) -> Result<(T, u64), HandleFault<E>>
-        requires client { IsClient H.begun self.old }
         requires callable { F.IsAlwaysCallable change }
-        ensures client { IsClient H.begun self.new }
         /// A change that answers anything but `Begin` has called its closure with a handle of N credits that had
         /// changed nothing; `Ok` has what it gave, and `Refused` why it refused. `Begin` with `TooManyCredits` names
         /// fewer credits than N. After `Ok` the client has stopped one handle more, with the ticket that is given and
@@ -155,11 +159,13 @@ impl<'a, D: Disk, C: Clock, R: Wait + time::Clock, H: Origin> Client<'a, D, C, R
         ensures goes_on { ClientGoesOn self.old self.new }
     {
         let (rt, desk) = (self.rt, self.desk);
-        let Some(seat) = self.seat.take() else {
+        self.any.known();
+        let Client { seat: place, seen, .. } = self;
+        let Some(seat) = place.take() else {
             unreachable!()
         };
-        let (seat, changed) = change_at(rt, desk, &mut self.seen, seat, credits, change);
-        self.sit(seat);
+        let (seat, changed) = change_at(rt, desk, seen, seat, credits, change);
+        sit(place, seat);
         changed
     }
 
@@ -171,8 +177,6 @@ impl<'a, D: Disk, C: Clock, R: Wait + time::Clock, H: Origin> Client<'a, D, C, R
     /// In this order: `Aborted` where the journal has failed, `OutOfRange` where there is no such home block, `Length`
     /// where `buf` has not the length of one block, and `DeviceFault` where the read fails; it can be tried again then.
     pub fn read(&mut self, home: u64, buf: &mut [u8]) -> Result<(), ReadHomeFault>
-        requires client { IsClient H.begun self.old }
-        ensures client { IsClient H.begun self.new }
         ensures answers { ReadsHome D.Disk H.begun (sights_of self.new).stops (sights_of self.old).marks
             (sights_of self.new).marks home (length buf.old) buf.new result }
         /// A read sees the first handles by ticket, with all that its client knew to be committed, whoever stopped
@@ -193,8 +197,6 @@ impl<'a, D: Disk, C: Clock, R: Wait + time::Clock, H: Origin> Client<'a, D, C, R
     /// Sees all handles that have stopped, and says whether one of them has this ticket, of which another worker has
     /// told. A later [`change`](Client::change) of this client gives a higher ticket then. It waits for no commit.
     pub fn see(&mut self, ticket: u64) -> bool
-        requires client { IsClient H.begun self.old }
-        ensures client { IsClient H.begun self.new }
         /// What says whether a handle has a ticket: the ticket is among those of the handles that the client knows
         /// then, so a later change has a higher one. [But see](docs/WRONG_BODIES.md#the-calls-of-a-desk).
         ensures given { IsTrue result ↔ ticket < length (client_known self.new).log }
@@ -216,24 +218,6 @@ impl<'a, D: Disk, C: Clock, R: Wait + time::Clock, H: Origin> Client<'a, D, C, R
         self.desk.take_trail(self.rt)
     }
 
-    /// The seat is put back.
-    fn sit(&mut self, seat: Seat<H>)
-        requires { self.old.seat ≡ None }
-        ensures seat { self.new.seat ≡ Some seat }
-        ensures desk { self.new.desk ≡ self.old.desk }
-        ensures shape { self.new.shape ≡ self.old.shape }
-        ensures commits { self.new.commits ≡ self.old.commits }
-        ensures seen { self.new.seen ≡ self.old.seen }
-    {
-        match mem::replace(&mut self.seat, Some(seat)) {
-            None => {}
-            Some(seat) => {
-                let _left = self.desk.leave(self.rt, seat);
-                unreachable!()
-            }
-        }
-    }
-
     /// Waits until the handle with this ticket is committed, and gives the number of its transaction
     /// (`jbd2_log_wait_commit`). It survives a crash then. Only where commits are made meanwhile: else a worker would
     /// wait for a commit that waits for it.
@@ -242,8 +226,7 @@ impl<'a, D: Disk, C: Clock, R: Wait + time::Clock, H: Origin> Client<'a, D, C, R
     /// `Aborted` where the journal has failed and the handle is not committed; `Taken` where it is committed and the
     /// entry of its transaction was taken from the trail; `Unknown` where no handle has the ticket.
     pub fn wait(&mut self, ticket: u64) -> Result<u32, WaitFault>
-        requires client { MayWait H.begun self.old }
-        ensures client { MayWait H.begun self.new }
+        requires commits { when_committed self.old ≡ Meanwhile }
         ensures settled { IfOk result (λ _. ticket < (seen_by self.new).settled) }
         ensures taken { IfErr result (λ fault. fault ≡ Taken → ticket < (seen_by self.new).settled) }
         /// After a successful wait some note of the library's client lists the ticket under the number that was
@@ -263,5 +246,16 @@ impl<'a, D: Disk, C: Clock, R: Wait + time::Clock, H: Origin> Client<'a, D, C, R
             Some(seat) => desk.wait(rt, seat, seen, ticket),
             None => unreachable!(),
         }
+    }
+}
+
+/// The seat is put back.
+fn sit<H: Origin>(place: &mut Option<Seat<H>>, seat: Seat<H>)
+    requires { place.old ≡ None }
+    ensures { place.new ≡ Some seat }
+{
+    match mem::replace(place, Some(seat)) {
+        None => {}
+        Some(_) => unreachable!(),
     }
 }

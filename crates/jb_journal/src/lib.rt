@@ -2,6 +2,7 @@
 //! and written home.
 #![tactic(auto)]
 
+mod any_words;
 mod change;
 mod client;
 mod clock;

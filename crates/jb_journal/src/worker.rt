@@ -10,7 +10,7 @@ use std::time;
 /// What each worker does with the journal. It is shared by all of them, and answers a `T` each.
 pub trait Worker<T> {
     ghost use Rattle.jb_book.specs.Origin.{Begun};
-    ghost use Rattle.jb_journal.specs.Client.{IsClient, client_honest, client_known, client_stops};
+    ghost use Rattle.jb_journal.specs.Client.{client_honest, client_known, client_stops};
     ghost use Rattle.jb_journal.specs.Client.{when_committed, shape_of};
     ghost use Rattle.jb_journal.specs.declared.options.Commits.{Commits};
     ghost use Rattle.jb_journal.specs.Notes.{Known, Stop};
@@ -33,7 +33,6 @@ pub trait Worker<T> {
         workers: usize,
         at: usize,
     ) -> T
-        requires client { IsClient H.begun client.old }
         requires fresh { client_stops client.old ≡ [] }
         requires commits { needs self.now (when_committed client.old) }
         requires workers { (1 ≤ workers) × (workers ≤ 64) }

@@ -43,7 +43,7 @@ pub struct TellingWorkers {
 
 impl Worker<Found> for TellingWorkers {
     ghost use Rattle.std.specs.Prelude.{◌≡◌, []};
-    ghost use Rattle.jb_journal.specs.Client.{IsClient, client_honest, client_known, client_stops, when_committed};
+    ghost use Rattle.jb_journal.specs.Client.{client_honest, client_known, client_stops, when_committed};
     ghost use Rattle.jb_journal.specs.declared.options.Commits.TheVariants.{Meanwhile};
 
     ghost answers = { λ telling begun shape sure workers at stops known found.
@@ -57,7 +57,6 @@ impl Worker<Found> for TellingWorkers {
         _workers: usize,
         at: usize,
     ) -> Found
-        requires client { IsClient H.begun client.old }
         requires fresh { client_stops client.old ≡ [] }
         requires commits { when_committed client.old ≡ Meanwhile }
         ensures answers { HasFound self.now.bytes H.begun (client_honest client.new) (client_stops client.new)
@@ -78,7 +77,7 @@ impl Worker<Found> for TellingWorkers {
 
 impl TellingWorkers {
     ghost use Rattle.std.specs.Prelude.{◌≡◌, []};
-    ghost use Rattle.jb_journal.specs.Client.{MayWait, client_honest, client_known, client_stops};
+    ghost use Rattle.jb_journal.specs.Client.{when_committed, client_honest, client_known, client_stops};
 
     /// Two workers that have told nothing yet.
     pub fn new(bytes: [u8; 1024]) -> TellingWorkers
@@ -96,7 +95,7 @@ impl TellingWorkers {
         &self,
         client: &mut Client<'a, D, C, R, H>,
     ) -> Option<u64>
-        requires client { MayWait H.begun client.old }
+        requires commits { when_committed client.old ≡ Meanwhile }
         requires fresh { client_stops client.old ≡ [] }
         ensures { IfSome result (HasWritten self.now.bytes (client_stops client.new) (client_known client.new)) }
     {
@@ -117,7 +116,7 @@ impl TellingWorkers {
         &self,
         client: &mut Client<'a, D, C, R, H>,
     ) -> Found
-        requires client { MayWait H.begun client.old }
+        requires commits { when_committed client.old ≡ Meanwhile }
         requires fresh { client_stops client.old ≡ [] }
         ensures { HasFound self.now.bytes H.begun (client_honest client.new) (client_stops client.new)
             (client_known client.new) result }

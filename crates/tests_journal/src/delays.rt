@@ -1,6 +1,6 @@
 //! Rounds that are put off, or made after the workers: how many handles they commit, and what they take.
 ghost use Rattle.std.specs.Prelude.{◌≡◌, ◌≤◌, true};
-ghost use Rattle.jb_journal.specs.Client.{IsClient, when_committed};
+ghost use Rattle.jb_journal.specs.Client.{when_committed};
 ghost use Rattle.jb_journal.specs.declared.options.Commits.TheVariants.{Meanwhile};
 
 use crate::checks::{By, Host};
@@ -39,7 +39,6 @@ impl Worker<Result<(), JournalFault>> for Stopping {
         _workers: usize,
         at: usize,
     ) -> Result<(), JournalFault>
-        requires client { IsClient H.begun client.old }
         requires commits { self.now.is_awaited ≡ true → when_committed client.old ≡ Meanwhile }
     {
         let rt = client.runtime();

@@ -97,7 +97,6 @@ type Sizes = (BlockSize, u64, u32);
 struct Asking;
 
 impl Worker<Sizes> for Asking {
-    ghost use Rattle.jb_journal.specs.Client.{IsClient};
 
     fn work<'a, D: Disk, C: Clock, R: Wait + time::Clock, H: Origin>(
         &self,
@@ -105,7 +104,6 @@ impl Worker<Sizes> for Asking {
         _workers: usize,
         _at: usize,
     ) -> Sizes
-        requires client { IsClient H.begun client.old }
     {
         (client.block_size(), client.homes(), client.most_credits())
     }

@@ -1,6 +1,5 @@
 //! A worker looks, without waiting for a commit, whether its handle is durable, and at the figures of the journal.
 ghost use Rattle.std.specs.Prelude.{◌≤◌};
-ghost use Rattle.jb_journal.specs.Client.{IsClient};
 
 use crate::checks::{By, Host};
 use crate::journals::{CLOCK, by, formatted};
@@ -38,7 +37,6 @@ impl Worker<Option<Found>> for Looking {
         _workers: usize,
         _at: usize,
     ) -> Option<Found>
-        requires client { IsClient H.begun client.old }
     {
         let rt = client.runtime();
         let before = client.is_durable(0);

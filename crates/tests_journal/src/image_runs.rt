@@ -1,6 +1,6 @@
 //! Images that are opened or made, and run, by one call.
 ghost use Rattle.std.specs.Prelude.{◌≡◌};
-ghost use Rattle.jb_journal.specs.Client.{IsClient, when_committed};
+ghost use Rattle.jb_journal.specs.Client.{when_committed};
 ghost use Rattle.jb_journal.specs.declared.options.Commits.TheVariants.{Meanwhile};
 
 use crate::checks::{By, ImageHost};
@@ -28,7 +28,6 @@ impl Worker<Option<u8>> for Counting {
         _workers: usize,
         _at: usize,
     ) -> Option<u8>
-        requires client { IsClient H.begun client.old }
         requires commits { when_committed client.old ≡ Meanwhile }
     {
         let mut block = [9; 1024];

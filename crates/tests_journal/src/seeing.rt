@@ -1,5 +1,4 @@
 //! A worker sees a handle that another one has told of, and its own next one comes later.
-ghost use Rattle.jb_journal.specs.Client.{IsClient};
 
 use crate::checks::{By, Host};
 use crate::journals::{CLOCK, by, formatted};
@@ -40,8 +39,6 @@ struct Found {
 fn stop<'a, D: Disk, C: Clock, R: Wait + time::Clock, H: Origin>(
     client: &mut Client<'a, D, C, R, H>,
 ) -> u64
-    requires client { IsClient H.begun client.old }
-    ensures client { IsClient H.begun client.new }
 {
     let changed = client.change(1, |handle: &mut Handle<()>| -> Result<(), TouchFault> {
         handle.write(0, &[1; 1024])
@@ -71,7 +68,6 @@ impl Worker<Option<Found>> for Seeing {
         _workers: usize,
         at: usize,
     ) -> Option<Found>
-        requires client { IsClient H.begun client.old }
     {
         if at == 0 {
             // the first ticket is 0, so the one that is told is a later one

@@ -1,6 +1,6 @@
 //! A worker takes the entries of the trail, which stays short.
 ghost use Rattle.std.specs.Prelude.{◌≡◌};
-ghost use Rattle.jb_journal.specs.Client.{IsClient, when_committed};
+ghost use Rattle.jb_journal.specs.Client.{when_committed};
 ghost use Rattle.jb_journal.specs.declared.options.Commits.TheVariants.{Meanwhile};
 
 use crate::checks::{By, Host};
@@ -36,7 +36,6 @@ impl Worker<Taken> for Long {
         _workers: usize,
         _at: usize,
     ) -> Taken
-        requires client { IsClient H.begun client.old }
         requires commits { when_committed client.old ≡ Meanwhile }
     {
         let (mut entries, mut past) = (0_usize, 0);

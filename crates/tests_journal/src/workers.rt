@@ -1,6 +1,6 @@
 //! Workers change home blocks; the homes are compared after a crash and a recovery.
 ghost use Rattle.std.specs.Prelude.{◌≡◌, ◌≤◌};
-ghost use Rattle.jb_journal.specs.Client.{IsClient, when_committed};
+ghost use Rattle.jb_journal.specs.Client.{when_committed};
 ghost use Rattle.jb_journal.specs.declared.options.Commits.TheVariants.{Meanwhile};
 
 use crate::checks::{By, Host};
@@ -37,7 +37,6 @@ impl Worker<Found> for Pairs {
         _workers: usize,
         at: usize,
     ) -> Found
-        requires client { IsClient H.begun client.old }
         requires commits { when_committed client.old ≡ Meanwhile }
     {
         let (home, apart) = (at as u64 % 8, self.apart % 100);

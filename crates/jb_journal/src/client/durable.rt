@@ -9,14 +9,12 @@ use std::sync::Wait;
 use std::time;
 
 impl<'a, D: Disk, C: Clock, R: Wait + time::Clock, H: Origin> Client<'a, D, C, R, H> {
-    ghost use Rattle.jb_journal.specs.Client.{ClientGoesOn, IsClient, client_stops, seen_by};
+    ghost use Rattle.jb_journal.specs.Client.{ClientGoesOn, client_stops, seen_by};
 
     /// Whether the handle with this ticket is committed, as far as its run has told by now. It waits for nobody, takes
     /// no lock, and calls no disk: a commit that has just ended may not be told yet. To have the number of the
     /// transaction, call [`wait`](Client::wait), which then waits for no commit.
     pub fn is_durable(&mut self, ticket: u64) -> bool
-        requires client { IsClient H.begun self.old }
-        ensures client { IsClient H.begun self.new }
         /// What says whether a handle is committed: its ticket is below those that the client is sure to be settled, as
         /// after a wait for it. They never fall.
         ensures settled { IsTrue result ↔ ticket < (seen_by self.new).settled }

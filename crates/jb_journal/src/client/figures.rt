@@ -21,12 +21,10 @@ pub struct Figures {
 }
 
 impl<'a, D: Disk, C: Clock, R: Wait + time::Clock, H: Origin> Client<'a, D, C, R, H> {
-    ghost use Rattle.jb_journal.specs.Client.{ClientGoesOn, IsClient, client_stops, seen_by};
+    ghost use Rattle.jb_journal.specs.Client.{ClientGoesOn, client_stops, seen_by};
 
     /// How far the journal has come. Waits while the disk is at work for another thread, and for no commit.
     pub fn figures(&mut self) -> Figures
-        requires client { IsClient H.begun self.old }
-        ensures client { IsClient H.begun self.new }
         /// With `ordered`, `rises`: The figures count the handles that the client is sure to have stopped and to be
         /// settled. They never fall.
         ensures counts { (result.stopped ≡ (seen_by self.new).stopped) × (result.settled ≡ (seen_by self.new).settled) }

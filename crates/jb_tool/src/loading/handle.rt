@@ -1,6 +1,6 @@
 //! One handle of the queue is run.
 ghost use Rattle.std.specs.Prelude.{◌≡◌, ◌++◌, ◌∷◌, [], IfOk, IfErr, OnErr};
-ghost use Rattle.jb_journal.specs.Client.{IsClient, client_stops, shape_of};
+ghost use Rattle.jb_journal.specs.Client.{client_stops, shape_of};
 ghost use Rattle.jb_tool.specs.RefusedHandle.{IsRefusedFor};
 
 use crate::loading::fault::QueueHandleFault;
@@ -15,8 +15,6 @@ pub(crate) fn run_handle<'a, D: Disk, C: Clock, R: Wait + time::Clock, H: Origin
     client: &mut Client<'a, D, C, R, H>,
     words: &Words,
 ) -> Result<u64, QueueHandleFault>
-    requires client { IsClient H.begun client.old }
-    ensures client { IsClient H.begun client.new }
     ensures shape { shape_of client.new ≡ shape_of client.old }
     ensures stopped { IfOk result (λ ticket. client_stops client.new ≡ client_stops client.old
         ++ (ticket, words.now) ∷ []) }

@@ -1,7 +1,7 @@
 //! The workers of a load run the handles of a queue.
 ghost use Rattle.std.specs.Prelude.{◌≡◌, ◌+◌, ◌<◌, ◌≤◌, ℕ, List, [], length};
 ghost use Rattle.jb_handle.specs.declared.stopped.Stopped.{Stopped as StoppedValue};
-ghost use Rattle.jb_journal.specs.Client.{IsClient, client_stops, shape_of};
+ghost use Rattle.jb_journal.specs.Client.{client_stops, shape_of};
 ghost use Rattle.jb_queue.specs.QueueLines.{StandsAfter, handles_of};
 ghost use Rattle.jb_tool.specs.Runs.{IsRun, RunsAt};
 
@@ -34,7 +34,6 @@ impl Worker<Option<Refused>> for Loader<'_> {
         workers: usize,
         at: usize,
     ) -> Option<Refused>
-        requires client { IsClient H.begun client.old }
         requires fresh { client_stops client.old ≡ [] }
         requires workers { (1 ≤ workers) × (workers ≤ 64) }
         ensures answers { IsRun (shape_of client.old) (handles_of self.now.queue.now) workers at
@@ -64,8 +63,6 @@ fn run_next<'a, D: Disk, C: Clock, R: Wait + time::Clock, H: Origin>(
     reader: &mut HandleReader<'_>,
     passed: usize,
 ) -> Result<u64, QueueHandleFault>
-    requires client { IsClient H.begun client.old }
-    ensures client { IsClient H.begun client.new }
     ensures shape { shape_of client.new ≡ shape_of client.old }
     ensures ran { (queue : List StoppedValue) (at : ℕ) → StandsAfter reader.old queue at → at + passed < length queue
         → RunsAt (shape_of client.old) queue (at + passed) (client_stops client.old) (client_stops client.new) result }

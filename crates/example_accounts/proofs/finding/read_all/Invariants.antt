@@ -6,7 +6,7 @@ use Rattle.example_accounts.proofs.finding.read_all.Given as goal
 -- the accounts so far are read: where no handle is known, they hold what they held at the start
 abbrev pub invariant-loop-account : goal.invariant-loop-account
 invariant-loop-account g l = record {
-  client : MayWait g.H.Origin.begun l.client;
+  client : when_committed l.client ≡ Meanwhile;
   goes_on : ClientGoesOn l.initial.client l.client;
   kept : client_stops l.client ≡ client_stops l.initial.client;
   long : length l.balances ≡ 100;

@@ -3,4 +3,4 @@ use Rattle.example_durable.proofs.handles.DurableWorkerResultPartJournalFault.wo
 
 -- the client can change and wait
 abbrev pub invariant-loop-number : goal.invariant-loop-number
-invariant-loop-number g l = MayWait g.H.Origin.begun l.client
+invariant-loop-number g l = when_committed l.client ≡ Meanwhile

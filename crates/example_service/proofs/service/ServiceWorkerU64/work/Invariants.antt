@@ -6,4 +6,4 @@ abbrev pub invariant-loop-request : goal.invariant-loop-request
 invariant-loop-request g l =
     (goal.iterator-loop-request g).can_next l.request-iterator
     × (goal.iterator-loop-request g).is_finite l.request-iterator
-    × MayWait g.H.Origin.begun l.client
+    × when_committed l.client ≡ Meanwhile

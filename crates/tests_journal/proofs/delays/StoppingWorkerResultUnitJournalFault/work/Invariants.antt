@@ -6,6 +6,5 @@ use Rattle.tests_journal.proofs.delays.StoppingWorkerResultUnitJournalFault.work
 -- the client can change and wait
 abbrev pub invariant-loop : goal.invariant-loop
 invariant-loop g l = record {
-  client : IsClient g.H.Origin.begun l.client;
   commits : l.fn.self.is_awaited ≡ true → when_committed l.client ≡ Meanwhile;
 }

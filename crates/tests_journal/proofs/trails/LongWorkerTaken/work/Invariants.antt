@@ -3,4 +3,4 @@ use Rattle.tests_journal.proofs.trails.LongWorkerTaken.work.Given as goal
 
 -- the client can change and wait
 abbrev pub invariant-loop : goal.invariant-loop
-invariant-loop g l = MayWait g.H.Origin.begun l.client
+invariant-loop g l = when_committed l.client ≡ Meanwhile

@@ -7,7 +7,6 @@ use Rattle.jb_tool.proofs.loading.worker.LoaderWorkerOptionRefused.work.Given as
 -- the first handles have stopped, up to the next one, which is so many after the place of the reader
 abbrev pub invariant-loop-next : goal.invariant-loop-next
 invariant-loop-next g l = record {
-  client : IsClient g.H.Origin.begun l.client;
   shape : shape_of l.client ≡ shape_of l.initial.client;
   stepped : Stepped (handles_of l.self.queue.now) l.workers l.at l.next (client_stops l.client);
   placed : (from : ℕ) × (from + l.passed ≡ l.next) × StandsAfter l.reader (handles_of l.self.queue.now) from;
