@@ -7,9 +7,9 @@ tests/processes/fail.c is loaded before the C library. It fails one call of a ru
 turn, by errors of the system or by half of its bytes. Each call fails for two of these causes; with `all`, for each. Then no file may be longer than 0.9 to
 3 MB; and, as root, disks have 0.9 to 3 MB (tmpfs) and hold images that are sparse. A run that says that all is well has to have done it. Any other names the
 call's reason, on the line of the fault or on the next one, and says what to do about it (`jb` with --hints); leaves nothing of an image that it was to
-make; and keeps what was replied to, or counted as settled. Then, with room, the same program goes on. Only a read of `jb dump`, and one of an
-example's worker, need not name its reason (`nameless`). Prints a line for each part and for each run that is not as it must be; ends with 1 where there is
-one. It needs Linux and a C compiler."""
+make; and keeps what was replied to, or counted as settled. Then, with room, the same program goes on. Only a read of `jb dump` need not name its
+reason (`nameless`). Prints a line for each part and for each run that is not as it must be; ends with 1 where there is one. It needs Linux and a C
+compiler."""
 import concurrent.futures
 import os
 import resource

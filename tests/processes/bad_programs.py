@@ -154,7 +154,6 @@ def without_groups(out):
 class Store(Program):
     """example_store over an image, which is there already or is made."""
 
-    nameless = (b"image: the read failed; try again",)
     FIRST = {key: 1000 + key for key in range(1, 6)}
     COMMANDS = [("put", 2, 21), ("delete", 3), ("put", 4, 41), ("get", 4), ("put", 39, 71), ("put", 2, 22), ("get", 3)]
     KEYS = [1, 2, 3, 4, 5, 39]
@@ -205,7 +204,6 @@ def text_of(commands):
 class Accounts(Program):
     """example_accounts over an image, which is there already or is made."""
 
-    nameless = (b"image: the read failed; try again",)
     LINE, JOURNAL, ACCOUNTS = b"the accounts hold 100000\n", 1024, 100
 
     def __init__(self, accounts, room, is_new):

@@ -19,8 +19,7 @@ mod running;
 use crate::accounts::{ACCOUNTS, Balances, Block, SIZE, balance, total};
 use crate::running::{Outcome, move_in_image, move_on_disk};
 use jb_journal::{
-    Disk, Failure, HomeFault, ImageGeometry, JournalFault, MemoryDisk, PeekFault, Ran, Unknown,
-    Width, format, read_home,
+    Disk, ImageGeometry, JournalFault, MemoryDisk, Ran, Unknown, Width, format, read_home,
 };
 use std::alloc::Global;
 use std::env;
@@ -38,18 +37,13 @@ const JOURNAL: u32 = 1024;
 /// What the accounts hold, once all that was moved is committed.
 fn held_after<D: Disk + Drop>(ran: Ran<Outcome, D>) -> Result<Balances, JournalFault> {
     let (mut disk, answers) = ran.durable()?;
+    let failure = disk.failure();
     for answer in answers {
-        answer?;
+        if let Err(fault) = answer {
+            return Err(fault.with_reason(failure));
+        }
     }
     read_all(&mut disk)
-}
-
-/// Why an account was not read, where its disk tells this of the last call that failed.
-fn unread(fault: HomeFault, told: Option<Failure>) -> JournalFault {
-    match (fault, told) {
-        (HomeFault::Peek(PeekFault::DeviceFault), Some(failure)) => JournalFault::Device(failure),
-        (fault, _) => JournalFault::ReadHome(fault),
-    }
 }
 
 /// What the accounts hold, as it is committed, while no journal runs.
@@ -59,7 +53,9 @@ fn read_all<D: Disk>(disk: &mut D) -> Result<Balances, JournalFault> {
     for account in 0..ACCOUNTS {
         match read_home(disk, account as u64, &mut block) {
             Ok(()) => balances[account] = balance(&block),
-            Err(fault) => return Err(unread(fault, disk.failure())),
+            Err(fault) => {
+                return Err(JournalFault::ReadHome(fault).with_reason(disk.failure()));
+            }
         }
     }
     Ok(balances)

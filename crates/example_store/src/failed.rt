@@ -1,5 +1,5 @@
 //! What may go wrong here.
-use jb_journal::JournalFault;
+use jb_journal::{Failure, JournalFault};
 use std::alloc::AllocError;
 use std::io;
 use thiserror::Error;
@@ -22,4 +22,14 @@ pub enum Failed {
     /// There was no memory.
     #[error("out of memory")]
     Memory(#[from(alloc)] AllocError),
+}
+
+impl Failed {
+    /// The same; with the system's reason, where a home was not read and the disk tells this of the call that failed.
+    pub fn with_reason(self, told: Option<Failure>) -> Failed {
+        match self {
+            Failed::Journal(fault) => Failed::Journal(fault.with_reason(told)),
+            failed => failed,
+        }
+    }
 }

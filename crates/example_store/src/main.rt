@@ -79,13 +79,17 @@ fn durable_answers<D: Disk + Drop>(ran: Ran<Served, D>) -> Result<Vec<Served>, J
     Ok(answers)
 }
 
-/// How the worker ended.
+/// How the worker ended; where it ended with a read that failed, with the system's reason.
 fn answered<D: Disk + Drop>(ran: Ran<Served, D>) -> Result<(), Failed>
     ensures { OnOk result (EndedWell ran) }
 {
+    let failure = ran.disk.failure();
     let mut answers = durable_answers(ran)?;
     match answers.pop() {
-        Some(Served { ended, .. }) => ended,
+        Some(Served { ended, .. }) => match ended {
+            Ok(()) => Ok(()),
+            Err(failed) => Err(failed.with_reason(failure)),
+        },
         None => Ok(()),
     }
 }

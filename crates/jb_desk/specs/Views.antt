@@ -1,7 +1,7 @@
 -- What a call makes of the counts that its seat is sure of.
 use Rattle.std.specs.Prelude.{◌≡◌, ◌⊎◌, ℕ, ◌+◌, ◌<◌, ◌≤◌, max, length, Option, Some, None, Result, Ok, Err}
 use Rattle.jb_plan.specs.Batch.{Gathered}
-use Rattle.jb_board.specs.Front.{front}
+use Rattle.jb_board.specs.Front.{front, IsWithin}
 use Rattle.jb_board.specs.Steps.{raised_settled}
 use Rattle.jb_board.specs.declared.front.Front.{Front}
 use Rattle.jb_book.specs.Rounds.{end_of}
@@ -32,6 +32,25 @@ abbrev pub RefusesWait : {H N : Type 0} {O : Ghosts H} {P : Places H} → ℕ �
 RefusesWait ticket old new wait.Aborted = new ≡ old
 RefusesWait ticket old new wait.Taken = view_of new ≡ with_settled (ticket + 1) (view_of old)
 RefusesWait ticket old new wait.Unknown = new ≡ old
+
+-- what a wait for this ticket that has lasted as long as it may leaves a seat sure of: that a handle has the ticket,
+-- and not that it is settled; no count has fallen
+pub record IsLate (ticket : ℕ) (old new : Front) : Type 0 where
+  pub within : IsWithin old new
+  pub given : ticket < new.stopped
+  pub unsettled : new.settled ≤ ticket
+
+-- what a wait with a time limit makes of what its seat is sure of: where it names a group, what one without a limit
+-- does
+abbrev pub WaitsFor : ℕ → Front → Front → Option ℕ → Type 0
+WaitsFor ticket old new None = IsLate ticket old new
+WaitsFor ticket old new (Some number) = new ≡ with_settled (ticket + 1) old
+
+-- why a wait with a time limit names no group, and what it makes of what its seat is sure of: as one without a limit
+abbrev pub RefusesFor : ℕ → Front → Front → WaitFault → Type 0
+RefusesFor ticket old new wait.Aborted = new ≡ old
+RefusesFor ticket old new wait.Taken = new ≡ with_settled (ticket + 1) old
+RefusesFor ticket old new wait.Unknown = new ≡ old
 
 -- what the commit of a taken batch makes of them: the batch is settled whole, or after a fault of the disk a prefix of
 -- it and not all, or nothing is

@@ -14,6 +14,7 @@ mod reading;
 mod rounds;
 mod seeing;
 mod taking;
+mod timed;
 mod waiting;
 
 use crate::fair_queue::FairQueue;

@@ -42,6 +42,12 @@ impl FairQueue {
         line.gone == line.came
     }
 
+    /// How many wait in the line, with the one whose turn it is.
+    pub(crate) fn waiting<R: Wait>(&self, rt: &R) -> u64 {
+        let line = self.line.lock(rt);
+        line.came.wrapping_sub(line.gone)
+    }
+
     /// Waits until all that came before have gone on; says how many handles were settled when one last waited for room
     /// in vain.
     pub(crate) fn wait<R: Wait>(&self, rt: &R) -> Option<u64> {

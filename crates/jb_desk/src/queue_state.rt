@@ -12,6 +12,7 @@ mod nothing_to_take;
 mod progress;
 mod rounds;
 mod taking;
+mod unsettled;
 mod waiting;
 
 use crate::fault::WaitFault;

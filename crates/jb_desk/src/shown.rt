@@ -31,6 +31,16 @@ impl<H: Origin> SharedBoard<H> {
         self.board.enter()
     }
 
+    /// One more seat, which is sure of what `seat` is sure of.
+    pub fn split(&self, seat: &mut BoardSeat) -> BoardSeat
+        requires { seat_board seat.old ≡ board_id self.now.board }
+        ensures board { seat_board result ≡ board_id self.now.board }
+        ensures view { seat_view result ≡ seat_view seat.old }
+        ensures kept { (seat_board seat.new ≡ seat_board seat.old) × (seat_view seat.new ≡ seat_view seat.old) }
+    {
+        self.board.split(seat)
+    }
+
     /// The counts.
     pub fn look(&self, seat: &mut BoardSeat) -> Front
         requires { seat_board seat.old ≡ board_id self.now.board }

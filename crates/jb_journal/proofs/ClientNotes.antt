@@ -1,5 +1,5 @@
 -- What a client knows of its journal, from what the desk shows it.
-use Rattle.std.proofs.Common.{suc, ◌≡◌, ℕ, ◌≤◌, List, ◌++◌, All, map, option_map, Result, Ok, Err, OnOk, sym, ap, subst, ◌∙◌, arith, append_assoc}
+use Rattle.std.proofs.Common.{suc, ◌≡◌, ℕ, ◌≤◌, List, ◌++◌, All, map, option_map, Option, Some, None, IfSome, Result, Ok, Err, OnOk, sym, ap, subst, ◌∙◌, arith, append_assoc}
 use Rattle.std.proofs.lemmas.List.{map-append}
 use Rattle.std.proofs.lemmas.List.Elements.{All-map, All-weaker}
 use Rattle.std.proofs.lemmas.Option.{slice_get-map}
@@ -26,7 +26,7 @@ use Rattle.jb_book.specs.History.{IsStop}
 use Rattle.jb_book.specs.Journal.{ReadsHome}
 use Rattle.jb_book.specs.SinceMark.{HasSettledOf, Lasts, HaveTickets}
 use Rattle.jb_desk.specs.Desks.{shape_in}
-use Rattle.jb_desk.specs.Marks.{ShowsTaken}
+use Rattle.jb_desk.specs.Marks.{ShowsFor, ShowsTaken}
 use Rattle.jb_desk.specs.declared.fault.WaitFault.{WaitFault}
 use Rattle.jb_desk.specs.declared.fault.WaitFault.TheVariants as wait
 use Rattle.jb_journal.specs.Client.{AreHonest, ClientGoesOn}
@@ -75,6 +75,11 @@ module _ {D : Type 0} (moment : D → ℕ) where
     to = is.to;
     is_number = is.is_number;
   }
+
+  -- what a wait with a time limit shows is noted, where it names a transaction
+  pub noted-for : {S : Type 0} (old new : Sights D S) (ticket : ℕ) (told : Option ℕ) → ShowsFor ticket old new told → IfSome told (IsInNotes (map (note_of moment) new.marks) ticket)
+  noted-for old new ticket None is = tt
+  noted-for old new ticket (Some number) is = noted-by new.marks ticket number is
 
   noted-after : (ms : List (OpenDeck D)) (ticket : ℕ) → ShowsAfter ms ticket → IsPastInNotes (map (note_of moment) ms) ticket
   noted-after ms ticket is = record {

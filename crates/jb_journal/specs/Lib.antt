@@ -5,6 +5,7 @@ pub mod Homes
 pub mod Names
 pub mod Notes
 pub mod OpenFile
+pub mod Reasons
 pub mod Run
 pub mod RunFaults
 pub mod RunImage

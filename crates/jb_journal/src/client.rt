@@ -10,6 +10,7 @@ ghost use Rattle.jb_journal.specs.Change.{AnswersChange};
 
 mod durable;
 mod figures;
+mod timed;
 
 use crate::change::change_at;
 use crate::counted::CountedSeat;

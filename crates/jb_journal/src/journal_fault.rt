@@ -1,4 +1,7 @@
 //! What may go wrong in any call of the journal.
+ghost use Rattle.std.specs.Prelude.{◌≡◌};
+ghost use Rattle.jb_journal.specs.Reasons.{reason_with};
+
 use crate::fault::{HandleFault, HomeFault, NotDurable, RunFault};
 use crate::remedy::{Remedy, ToWorker};
 use jb_block::Memory;
@@ -8,7 +11,7 @@ use jb_disk::Failure;
 use jb_format::{ChangeFault, FormatFault};
 use jb_handle::TouchFault;
 use jb_image::{ImageFault, MakeFault};
-use jb_recover::RecoverFault;
+use jb_recover::{PeekFault, RecoverFault};
 use thiserror::Error;
 
 /// Why a call of the journal did not do what it was called for. Each fault of this library becomes one by `?`, so that
@@ -60,4 +63,24 @@ pub enum JournalFault {
     /// There was no memory.
     #[error(transparent)]
     Memory(#[from] Memory),
+}
+
+impl JournalFault {
+    /// Of a home that was not read as a call of its disk failed, that call with the system's reason, where the disk
+    /// tells it ([`failure`](jb_disk::Disk::failure), of the last call that failed); any other fault as it is.
+    pub fn with_reason(self, told: Option<Failure>) -> JournalFault
+        /// A fault of a read is told as the failed call that the disk tells, and any other one as itself.
+        ensures { result ≡ reason_with self told }
+    {
+        let Some(failure) = told else {
+            return self;
+        };
+        match self {
+            JournalFault::Read(ReadHomeFault::DeviceFault) => JournalFault::Device(failure),
+            JournalFault::ReadHome(HomeFault::Peek(PeekFault::DeviceFault)) => {
+                JournalFault::Device(failure)
+            }
+            fault => fault,
+        }
+    }
 }

@@ -28,7 +28,7 @@ use std::thread::Threads;
 use std::time::{Clock, Duration};
 
 /// How often a thread asks for what another is to do, once in a millisecond.
-const TURNS: u32 = 10000;
+pub const TURNS: u32 = 10000;
 
 /// What two threads tell one another.
 #[derive(Drop)]

@@ -1,19 +1,24 @@
-//! Handles that wait for room are begun in the order in which they came.
+//! Handles that wait for room are counted, and begun in the order in which they came.
 
 use crate::checks::{Never, check_at};
+use crate::gate::TURNS;
 use crate::journal::{Small, seated};
 use crate::trials::{Look, Trial, run};
 use jb_desk::{BeginFault, Origin};
 use std::alloc::Global;
 use std::process::Abort;
+use std::sync::atomic::{AtomicBool, Ordering};
 use std::sync::ledger::Ledger;
 use std::sync::{Mutex, Wait};
 use std::thread;
 use std::thread::Threads;
 use std::time::{Clock, Duration};
 
-/// How many threads there are. Five handles of six credits fit the log of 32 blocks at a time.
+/// How many threads there are.
 const THREADS: usize = 12;
+
+/// How many of them wait for room: five handles of six credits fit the log of 32 blocks at a time.
+const WAITING: u64 = 7;
 
 /// How long after one thread the next one comes, in milliseconds.
 const APART: u64 = 50;
@@ -23,21 +28,45 @@ fn not_begun(rt: &impl Abort, k: usize, fault: BeginFault) -> Never {
     panic!(rt; "the handle of thread {k} is not begun: {fault}")
 }
 
+/// What the threads tell one another.
+#[derive(Drop)]
+struct Told {
+    /// the threads whose handles are begun, in their order
+    begun: Mutex<Vec<usize>>,
+    /// all others were seen to wait
+    have_come: AtomicBool,
+}
+
+/// Waits until all that there is no room for wait, or another thread has seen that.
+fn await_line<R: Abort + Wait + Clock, H: Origin, N: Ledger>(
+    rt: &R,
+    desk: &Small<H, N>,
+    told: &Told,
+) {
+    for _ in 0..TURNS {
+        if told.have_come.load(Ordering::SeqCst) {
+            return;
+        }
+        if desk.waiting(rt) == WAITING {
+            told.have_come.store(true, Ordering::SeqCst);
+        }
+        thread::sleep(rt, Duration::from_millis(1));
+    }
+    check_at(rt, false, "handles that wait for room:", desk.waiting(rt))
+}
+
 /// Begins a handle of six credits, notes that it is begun, and drops it once all threads have come.
 fn come<R: Abort + Wait + Clock, H: Origin, N: Ledger>(
     rt: &R,
     desk: &Small<H, N>,
     k: usize,
-    begun: &Mutex<Vec<usize>>,
+    told: &Told,
 ) {
     thread::sleep(rt, Duration::from_millis(APART.saturating_mul(k as u64)));
     match desk.begin_waiting(rt, seated(rt, desk), 6) {
         Ok(handle) => {
-            begun.lock(rt).push(k).expect(rt, "memory");
-            thread::sleep(
-                rt,
-                Duration::from_millis(APART.saturating_mul(THREADS as u64)),
-            );
+            told.begun.lock(rt).push(k).expect(rt, "memory");
+            await_line(rt, desk, told);
             let seat = desk.abandon(rt, handle);
             let _left = desk.leave(rt, seat);
         }
@@ -51,9 +80,12 @@ fn order<
     H: Origin + Send + Sync,
     N: Ledger + Send + Sync,
 >(rt: &R, alloc: Global, desk: &Small<H, N>) -> Vec<usize> {
-    let begun = Mutex::new(Vec::new(alloc));
-    thread::map_indices(rt, alloc, THREADS, &|k| come(rt, desk, k, &begun)).expect(rt, "memory");
-    begun.into_inner()
+    let told = Told {
+        begun: Mutex::new(Vec::new(alloc)),
+        have_come: AtomicBool::new(false),
+    };
+    thread::map_indices(rt, alloc, THREADS, &|k| come(rt, desk, k, &told)).expect(rt, "memory");
+    told.begun.into_inner()
 }
 
 /// The order in which the threads come.
@@ -79,7 +111,9 @@ pub fn check_turns<
     H: Origin + Send + Sync,
     N: Ledger + Send + Sync,
 >(rt: &R, alloc: Global, desk: &Small<H, N>) {
-    check_order(rt, &order(rt, alloc, desk))
+    check_order(rt, &order(rt, alloc, desk));
+    let waiting = desk.waiting(rt);
+    check_at(rt, waiting == 0, "handles that wait at the end:", waiting)
 }
 
 #[test]

@@ -86,7 +86,9 @@ static ROWS: [Row; 3] = [
         figures: Figures {
             stopped: 1,
             settled: 1,
+            last: Some(2),
             in_log: Some(3),
+            waiting: 0,
         },
     },
     Row {
@@ -98,7 +100,9 @@ static ROWS: [Row; 3] = [
         figures: Figures {
             stopped: 1,
             settled: 0,
+            last: None,
             in_log: Some(0),
+            waiting: 0,
         },
     },
     // the journal is opened by 34 calls
@@ -111,7 +115,9 @@ static ROWS: [Row; 3] = [
         figures: Figures {
             stopped: 1,
             settled: 0,
+            last: None,
             in_log: None,
+            waiting: 0,
         },
     },
 ];
@@ -134,11 +140,16 @@ fn check_figures(test: &impl Test, row: &Row, found: Figures) {
     let Figures {
         stopped,
         settled,
+        last,
         in_log,
+        waiting,
     } = found;
     let want = row.figures;
     check_in(test, stopped == want.stopped, row.name, "stopped:", stopped);
     check_in(test, settled == want.settled, row.name, "settled:", settled);
+    let number = u64::from(last.unwrap_or(0));
+    check_in(test, last == want.last, row.name, "last:", number);
+    check_in(test, waiting == want.waiting, row.name, "waiting:", waiting);
     let blocks = u64::from(in_log.unwrap_or(u32::MAX));
     check_in(
         test,

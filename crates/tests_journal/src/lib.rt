@@ -4,6 +4,8 @@
 #[cfg(test)]
 mod checks;
 #[cfg(test)]
+mod crowd;
+#[cfg(test)]
 mod cuts;
 #[cfg(test)]
 mod delays;
@@ -31,6 +33,8 @@ mod recoveries;
 mod seeing;
 #[cfg(test)]
 mod telling;
+#[cfg(test)]
+mod timed;
 #[cfg(test)]
 mod trails;
 #[cfg(test)]

@@ -57,6 +57,11 @@ impl<D: Disk, C: Clock, H: Origin, N: Ledger> Desk<D, C, H, N> {
         begun
     }
 
+    /// How many handles wait in line for room, with the one whose turn it is.
+    pub fn waiting<R: Wait>(&self, rt: &R) -> u64 {
+        self.fair_queue.waiting(rt)
+    }
+
     /// Begins a handle at once where nobody waits in the line and the book is not full. Otherwise it gives the seat
     /// back, with the fault where there is another one.
     fn begin_at_once<R: Wait>(
