@@ -2,8 +2,8 @@
 //!
 //! # Claims
 //! Each call of a desk has a row but `run_checkpointer` and `run_committer`, which have the clauses of
-//! `run_checkpointer_at` and `run_committer_after`, and `Desk::shut` and `Desk::waiting`, which have no clause: what they
-//! do is tested ([but see](docs/WRONG_BODIES.md#the-calls-of-a-desk)).
+//! `run_checkpointer_at` and `run_committer_after`, and `Desk::shut` and `Desk::waiting`, which have no clause: what
+//! they do is tested ([but see](docs/WRONG_BODIES.md#the-calls-of-a-desk)).
 //! The calls under a desk's lock are calls of its book: [what is proved of
 //! them](docs/MACHINE.md#from-threads-to-the-theorem). What a row says of the disk it says where the start is known, as
 //! in [jb_book](docs/made/CLAIMS.md#jb_book). The laws on a ticket that was waited for are there too.

@@ -5,7 +5,7 @@ use crate::journals::{by, formatted};
 use crate::workers::{PAIRS, run_on};
 use jb_journal::{
     BeginFault, BlockSize, Disk, FailedCall, Failure, FailureReason, FileDisk, HandleFault,
-    JournalFault, NotDurable, ReadHomeFault, SystemFault, WaitFault,
+    HomeFault, JournalFault, NotDurable, PeekFault, ReadHomeFault, SystemFault, WaitFault,
 };
 use std::fs::OpenOptions;
 use tests_support::{Bench, Must, check, check_at, write_blocks};
@@ -104,6 +104,23 @@ static WORKERS: [(JournalFault, &str); 5] = [
     ),
 ];
 
+/// A call that failed.
+const FAILURE: Failure = Failure {
+    call: FailedCall::Read(3),
+    reason: UNOPENED,
+};
+
+/// Faults of which such a call is told in their place, and others.
+static READS: [(JournalFault, bool); 4] = [
+    (JournalFault::Read(ReadHomeFault::DeviceFault), true),
+    (
+        JournalFault::ReadHome(HomeFault::Peek(PeekFault::DeviceFault)),
+        true,
+    ),
+    (JournalFault::Read(ReadHomeFault::Aborted), false),
+    (JournalFault::Wait(WaitFault::Aborted), false),
+];
+
 /// Checks what is told of a fault.
 fn check_text(test: &impl Bench, fault: JournalFault, text: &str, at: u64) {
     let told = format!(in test.alloc(); "{fault}").must(test, "memory");
@@ -134,9 +151,28 @@ fn check_workers(test: &impl Bench) {
     }
 }
 
+/// Checks of which faults a failed call is told in their place; the rows are numbered from 200 on.
+fn check_reads(test: &impl Bench) {
+    for (at, (fault, is_read)) in READS.iter().enumerate() {
+        let want = if *is_read {
+            JournalFault::Device(FAILURE)
+        } else {
+            *fault
+        };
+        let is_told = fault.with_reason(Some(FAILURE)) == want && fault.with_reason(None) == *fault;
+        check_at(
+            test,
+            is_told,
+            "the reason of row",
+            (at as u64).saturating_add(200),
+        );
+    }
+}
+
 fn check_texts(test: &impl Bench) {
     check_causes(test);
-    check_workers(test)
+    check_workers(test);
+    check_reads(test)
 }
 
 /// A new journal in a file, which is opened so.
