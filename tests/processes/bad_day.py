@@ -8,7 +8,7 @@ turn, by errors of the system or by half of its bytes. Each call fails for two o
 3 MB; and, as root, disks have 0.9 to 3 MB (tmpfs) and hold images that are sparse. A run that says that all is well has to have done it. Any other names the
 call's reason, on the line of the fault or on the next one, and says what to do about it (`jb` with --hints); leaves nothing of an image that it was to
 make; and keeps what was replied to, or counted as settled. Then, with room, the same program goes on. Only a read of `jb dump` need not name its
-reason (`nameless`). Prints a line for each part and for each run that is not as it must be; ends with 1 where there is one. It needs Linux and a C
+reason (`nameless`), where it gives fewer bytes. Prints a line for each part and for each run that is not as it must be; ends with 1 where there is one. It needs Linux and a C
 compiler."""
 import concurrent.futures
 import os
@@ -82,7 +82,10 @@ def judged(program, room, answer, causes, is_advised, in_making=False, make_room
         return program.whole(room, answer)
     if answer[0] not in (1, 2):
         return "it ends with %d: %r" % (answer[0], answer[2])
-    why = None if answer[2].split(b"\n")[0] in program.nameless else unnamed(answer[2], causes, is_advised)
+    first = answer[2].split(b"\n")[0]
+    # of a read that gives fewer bytes the system has no number
+    is_nameless = first in program.nameless or causes == ["short read"] and first == b"jb: ReadFault"
+    why = None if is_nameless else unnamed(answer[2], causes, is_advised)
     return why or program.kept(room, answer, in_making) or program.goes_on(room)
 
 
