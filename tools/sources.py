@@ -60,7 +60,12 @@ def block_around(text, at):
 def head_of(text, at, indent):
     """The lines of the function that begins at a place, up to its body. The doc comments over its clauses are among them."""
     rest = text[at:]
-    end = re.search(r"^%s\{|(?<=\S);$" % indent, re.sub(r"^ *//.*$", lambda line: " " * len(line.group(0)), rest, flags=re.M), re.M)
+    bare_rest = re.sub(r"^ *//.*$", lambda line: " " * len(line.group(0)), rest, flags=re.M)
+    # without clauses the body begins at the end of the signature's last line
+    plain = re.match(r"(?:(?!^ *(?:requires|ensures|decreases|ghost)\b|^%s\{).*\n)*?.*(?= \{(?:.*\})?$)" % indent, bare_rest, re.M)
+    if plain and not re.search(r"^ *(?:requires|ensures|decreases|ghost)\b|^%s\{|\S;$" % indent, plain.group(0), re.M):
+        return rest[:plain.end()]
+    end = re.search(r"^%s\{|(?<=\S);$" % indent, bare_rest, re.M)
     return rest[:end.start()] if end else rest
 
 

@@ -4,7 +4,7 @@ use thiserror::Error;
 #[derive(Clone, Copy, Debug, PartialEq, Eq, Error)]
 pub enum BeginFault {
     /// The book has failed.
-    #[error("the journal has failed; start the program anew and recover it")]
+    #[error("the journal has failed; see to its disk, then start the program anew and recover it")]
     Aborted,
     /// The book is shut.
     #[error("the desk is shut")]
@@ -28,7 +28,7 @@ pub enum BeginFault {
 #[derive(Clone, Copy, Debug, PartialEq, Eq, Error)]
 pub enum EnqueueFault {
     /// The book has failed.
-    #[error("the journal has failed; start the program anew and recover it")]
+    #[error("the journal has failed; see to its disk, then start the program anew and recover it")]
     Aborted,
     /// The book lists no open handle of the seat, or the words are not within its credits or do not
     /// fit the shape.

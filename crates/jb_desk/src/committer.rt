@@ -85,14 +85,14 @@ impl Round {
 #[derive(Clone, Copy, Debug, PartialEq, Eq, Error)]
 pub enum RoundFault {
     /// The journal has failed before. The batch is lost.
-    #[error("the journal has failed; start the program anew and recover it")]
+    #[error("the journal has failed; see to its disk, then start the program anew and recover it")]
     Aborted(HasAborted),
     /// There was no memory. The committer holds the batch for its next round.
     #[error("out of memory; the next round commits the batch")]
     Memory,
     /// A call of the disk failed, and the journal with it. The groups that were committed are settled, and the rest of
     /// the batch is lost.
-    #[error("the disk failed; start the program anew and recover the journal")]
+    #[error("the disk failed; see to the cause, then start the program anew and recover the journal")]
     DeviceFault(HasAborted),
     /// The journal does not take the batch: it has no numbers left for its groups, for example. The committer holds it.
     #[error("the journal does not take the batch")]

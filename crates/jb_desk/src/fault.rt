@@ -29,7 +29,7 @@ impl<H: Origin> fmt::Display for StopFault<H> {
         match self {
             StopFault::Aborted(_) => write!(
                 f,
-                "the journal has failed; start the program anew and recover it"
+                "the journal has failed; see to its disk, then start the program anew and recover it"
             ),
             StopFault::NotOpen(_) => write!(
                 f,
@@ -44,7 +44,7 @@ impl<H: Origin> fmt::Display for StopFault<H> {
 #[derive(Clone, Copy, Debug, PartialEq, Eq, Error)]
 pub enum WaitFault {
     /// The journal has failed, and the ticket is not settled.
-    #[error("the journal has failed before the handle was settled; start the program anew and recover it")]
+    #[error("the journal has failed before the handle was settled; see to its disk, then start the program anew and recover it")]
     Aborted,
     /// The ticket is settled, and the entry of its group was taken from the trail.
     #[error("the handle is settled; its transaction is among the entries that were taken from the trail")]

@@ -60,8 +60,8 @@ impl<H: Origin> HeldBatch<H> {
     /// The batch again, that its tickets were given, what has its handles, and that it is out.
     pub(crate) fn end(self) -> (Batch, Tickets<H>, Prefix<Words, H>, OutstandingBatch)
         ensures batch { result.0 ≡ self }
-        /// A batch that is held for a round has handles of the history of stops, with their words; it has the tickets
-        /// and the shape with which it is out.
+        // A batch that is held for a round has handles of the history of stops, with their words; it has the tickets
+        // and the shape with which it is out.
         ensures out { IsOut H.begun result.0 (given_by result.1) result.2 result.3 }
     {
         let HeldBatch {

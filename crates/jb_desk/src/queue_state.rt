@@ -178,8 +178,8 @@ impl<D: Disk, H: Origin> QueueState<D, H> {
 
     /// That the book's tickets were given: those that wait, and all before them.
     pub fn tickets(&self) -> Tickets<H>
-        /// What raises the count of stopped tickets comes from the ledger that the book's next ticket is counted in,
-        /// under the lock.
+        // What raises the count of stopped tickets comes from the ledger that the book's next ticket is counted in,
+        // under the lock.
         ensures given { given_by result ≡ self.now.register.book.shadow.next }
         ensures taken { self.now.register.book.shadow.taken ≤ given_by result }
     {

@@ -5,5 +5,5 @@ use thiserror::Error;
 /// is opened anew: after a sync that failed nothing is known of one that stays open. Where there was no room, that is
 /// made first.
 #[derive(Clone, Copy, Debug, PartialEq, Eq, Error)]
-#[error("the disk failed; start the program anew and recover the journal")]
+#[error("the disk failed; see to the cause, then start the program anew and recover the journal")]
 pub struct Fault;

@@ -33,7 +33,8 @@ fn is_ticket(alloc: Global, said: &str, ticket: u64) -> bool {
 /// The words of a refusal that names no number.
 fn words_of(why: Refusal) -> &'static str {
     match why {
-        Refusal::Aborted => "the journal has failed; start the program anew and recover it",
+        Refusal::Aborted =>
+            "the journal has failed; see to its disk, then start the program anew and recover it",
         Refusal::WrongTicket(_) => "the batch does not begin at a ticket",
         Refusal::OtherShape => {
             "the batch is for a journal of another shape; prepare it for this one"
@@ -43,6 +44,6 @@ fn words_of(why: Refusal) -> &'static str {
         }
         Refusal::Memory => "out of memory; commit the batch again",
         Refusal::DeviceFault(_) =>
-            "the disk failed; start the program anew and recover the journal",
+            "the disk failed; see to the cause, then start the program anew and recover the journal",
     }
 }

@@ -23,7 +23,7 @@ pub(crate) fn show_on<'a, D: Disk, O: Write>(
     homes: Option<u64>,
     out: &mut O,
 ) -> Result<u8, CommandFault<'a>>
-    /// `cat` of no block: the first one is peeked at, and nothing written; it ends well where the peek is not refused.
+    // `cat` of no block: the first one is peeked at, and nothing written; it ends well where the peek is not refused.
     ensures shows { ShowsOn shown.sums D.Disk homes shown.home shown.count shown.hex disk.old disk.new
         (O.contents out.old) (O.contents out.new) result }
 {

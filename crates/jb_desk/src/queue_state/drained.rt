@@ -27,8 +27,8 @@ impl<D: Disk, H: Origin> QueueState<D, H> {
 
     /// That the desk is over, where it is.
     pub fn drained(&self) -> Option<Drained>
-        /// What says that a desk is over comes from a look at a book that is shut, with no handle open, queued or
-        /// taken, and that has not failed.
+        // What says that a desk is over comes from a look at a book that is shut, with no handle open, queued or
+        // taken, and that has not failed.
         ensures some { IfSome result (λ over. IsOver self.now.register.book × (self.now.register.book.aborted ≡ false)
             × (over.settled ≡ self.now.register.book.shadow.settled)) }
         ensures none { IfNone result (IsOver self.now.register.book → self.now.register.book.aborted ≡ false → ⊥) }

@@ -32,8 +32,8 @@ impl<D: Disk, H: Origin> QueueState<D, H> {
     pub fn nothing_to_take(&self) -> NothingToTake
         requires running { self.now.register.book.aborted ≡ false }
         requires none { CanTake self.now.register.book → ⊥ }
-        /// What says that a round found nothing to take comes from a look at a book that has not failed and has nothing
-        /// to take, and shows its counts.
+        // What says that a round found nothing to take comes from a look at a book that has not failed and has nothing
+        // to take, and shows its counts.
         ensures { result.seen ≡ front self.now.register.book.shadow.settled self.now.register.book.shadow.taken
             self.now.register.book.shadow.next }
     {

@@ -30,8 +30,8 @@ impl<D: Disk, H: Origin> QueueState<D, H> {
         seen: &mut Sights<D, H>,
         held: Option<HeldBatch<H>>,
     ) -> Result<Option<HeldBatch<H>>, RoundFault>
-        /// Under the lock a round gets the batch that it held, or else all that is queued, or a `HasAborted` where the
-        /// book has failed, which is the only way to lose a batch that is out.
+        // Under the lock a round gets the batch that it held, or else all that is queued, or a `HasAborted` where the
+        // book has failed, which is the only way to lose a batch that is out.
         ensures batch { GivesBatch result held self.old.register.book self.new.register.book }
         ensures none { IfOk result (λ given. IfNone given
             ((self.new.register.book.aborted ≡ false) × (CanTake self.new.register.book → ⊥))) }
@@ -80,7 +80,7 @@ impl<D: Disk, H: Origin> QueueState<D, H> {
         requires settling { IsSettling seen.old.stops out.counts.taken out.shape done.now }
         requires first { first_ticket done.now ≡ out.counts.settled }
         requires marked { All (IsMarked seen.old.marks) (entries_of done.now) }
-        /// A batch is settled with the tickets and the shape with which it is out.
+        // A batch is settled with the tickets and the shape with which it is out.
         ensures settles { SettlesOrFails out.counts.taken out.shape done.now self.old.register.book result
             self.new.register.book }
         ensures kept { SeesSame seen.old seen.new }
@@ -148,8 +148,8 @@ impl<D: Disk, H: Origin> QueueState<D, H> {
         history: &History<Words, H>,
         held: Option<HeldBatch<H>>,
     ) -> Option<HasAborted>
-        /// Where it held a batch, this is lost and the book has failed, with all that is queued; otherwise the book is
-        /// as it was.
+        // Where it held a batch, this is lost and the book has failed, with all that is queued; otherwise the book is
+        // as it was.
         ensures book { GivesUp held self.old.register.book self.new.register.book }
         ensures told { is_some result ≡ is_some held }
     {
