@@ -44,7 +44,7 @@ impl<H: Origin> fmt::Display for StopFault<H> {
 #[derive(Clone, Copy, Debug, PartialEq, Eq, Error)]
 pub enum WaitFault {
     /// The journal has failed, and the ticket is not settled.
-    #[error("the journal has failed before the handle was settled; see to its disk, then start the program anew and recover it")]
+    #[error("the journal failed with the handle not settled; see to its disk, then start anew and recover it")]
     Aborted,
     /// The ticket is settled, and the entry of its group was taken from the trail.
     #[error("the handle is settled; its transaction is among the entries that were taken from the trail")]
