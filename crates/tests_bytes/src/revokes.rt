@@ -78,13 +78,18 @@ fn check_read(test: &impl Test, alloc: Global) {
     }
 }
 
-/// Checks which homes are named.
+/// Checks the homes of each row by their indices; a count that is too high gives none.
 fn check_named(test: &impl Test) {
-    for (home, named) in [(333, true), (341, true), (334, false), (0, false)] {
-        let is_narrow = names_home(&NARROW_OF_E2FSPROGS, Width::Narrow, home) == named;
-        check_at(test, is_narrow, "whether 32 bits name home", home);
-        let is_wide = names_home(&WIDE_REVOKE, Width::Wide, home) == named;
-        check_at(test, is_wide, "whether 64 bits name home", home)
+    for (row, of) in READ.iter().enumerate() {
+        let block = block_of(of.0);
+        let homes = of.2.unwrap_or(&[]);
+        let mut same = home_count(&block, of.1) == homes.len();
+        if same {
+            for (i, home) in homes.iter().enumerate() {
+                same = same && home_at(&block, of.1, i) == *home;
+            }
+        }
+        check_at(test, same, "the homes by index of row", row as u64)
     }
 }
 
