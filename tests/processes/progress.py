@@ -22,7 +22,12 @@ sys.dont_write_bytecode = True
 from images import BS, SAME_UUID, LAST_TAG, commit, descriptor, superblock  # noqa: E402
 
 JB = os.path.abspath(sys.argv[1])
+<<<<<<< ours
 TAGS, GROUPS, HOMES, SHOWN = 124, 2420, 124, 8
+=======
+TAGS, GROUPS, HOMES = 124, 2420, 124
+HANDLES = 60000
+>>>>>>> theirs
 count = wrong = 0
 
 
@@ -48,8 +53,18 @@ def lay_log():
                 file.write(block)
 
 
-def has_open(process, name):
-    """Whether a process has this file open, or has ended."""
+def lay_load():
+    """A short journal, and many handles, which wait for room in its log."""
+    if os.path.exists("image"):
+        os.remove("image")
+    subprocess.run([JB, "format", "image", "--bs", str(BS), "--journal", "256", "--homes", "64"], stdout=subprocess.DEVNULL, check=True)
+    with open("queue", "w") as file:
+        file.write("bs %d\nlimit 60\n" % BS)
+        file.writelines("h w%d=%02x w%d\n" % (k % 60, k % 256, k % 60 + 1) for k in range(HANDLES))
+
+
+def opened(process, name):
+    """A process has this file open, or has ended."""
     try:
         folder = "/proc/%d/fd" % process.pid
         return any(os.readlink(os.path.join(folder, fd)).endswith(name) for fd in os.listdir(folder) if int(fd) > 2)
@@ -57,25 +72,49 @@ def has_open(process, name):
         return process.poll() is not None
 
 
+def is_open(process):
+    return opened(process, "/image")
+
+
+class Written:
+    """The image was written since, so the handles are running."""
+
+    def __init__(self):
+        self.since = os.stat("image").st_mtime_ns
+
+    def __call__(self, process):
+        return os.stat("image").st_mtime_ns != self.since
+
+
 def line(text):
     """One or more lines of this form, and then none."""
     return re.compile(rb"(\rjb " + text + rb", \d+ s left\x1b\[K)+\r\x1b\[K")
 
 
-# a name; the words; its answer; its line
+# a name; the words; what lays the files; what says that the command has begun; its answer; its line
 COPIED = b"transactions %d copies %d revoked 0 next %d\n" % (GROUPS, GROUPS * TAGS, GROUPS + 2)
 COMMANDS = [
+<<<<<<< ours
     ("recover", ["image"], COPIED.__eq__, rb"recover: pass [12] of 2, block \d+ of \d+, \d+%"),
     ("recover", ["image", "--checksums"], COPIED.__eq__, rb"recover: pass [12] of at most 4, block \d+ of \d+, \d+%"),
     ("recover", ["image", "--dry-run"], COPIED.__eq__, rb"recover: pass [12] of 2, block \d+ of \d+, \d+%"),
     ("cat", ["image", "0", "-n", str(SHOWN)], bytes(SHOWN * BS).__eq__, rb"cat: block [1-9]\d* of %d, \d+%%" % SHOWN),
     ("dump", ["image"], lambda text: len(text) > GROUPS * TAGS * 9, rb"dump: \d+ of \d+ KiB, \d+%"),
+=======
+    ("recover", ["image"], lay_log, lambda: is_open, COPIED.__eq__, rb"recover: pass [12] of 2, block \d+ of \d+, \d+%"),
+    ("recover", ["image", "--checksums"], lay_log, lambda: is_open, COPIED.__eq__, rb"recover: pass [12] of at most 4, block \d+ of \d+, \d+%"),
+    ("recover", ["image", "--dry-run"], lay_log, lambda: is_open, COPIED.__eq__, rb"recover: pass [12] of 2, block \d+ of \d+, \d+%"),
+    ("cat", ["image", "0", "-n", str(HOMES)], lay_log, lambda: is_open, bytes(HOMES * BS).__eq__, rb"cat: block [1-9]\d* of %d, \d+%%" % HOMES),
+    ("load", ["image", "queue", "--checkpoint"], lay_load, Written, re.compile(rb"handles %d changes %d settled %d groups \d+ blocks \d+\n" % (HANDLES, 2 * HANDLES, HANDLES)).fullmatch,
+     rb"load: handle [1-9]\d* of %d, \d+%%" % HANDLES),
+    ("dump", ["image"], lay_log, lambda: is_open, lambda text: len(text) > GROUPS * TAGS * 9, rb"dump: \d+ of \d+ KiB, \d+%"),
+>>>>>>> theirs
 ]
 
 
-def stopped_a_while(process, name):
-    """Stops a process for more than a second once it has a file open; the program's own handle of the terminal comes a moment later."""
-    while process.poll() is None and not has_open(process, name):
+def stopped_a_while(process, ready):
+    """Stops a process for more than a second once it has begun; its own handle of the terminal comes a moment after it has a file open."""
+    while process.poll() is None and not ready(process):
         time.sleep(0.0005)
     time.sleep(0.01)
     process.send_signal(signal.SIGSTOP)
@@ -94,8 +133,9 @@ def read_all(ours, into):
 
 def ran(command, words, on_terminal, both=False):
     """What is on standard output after a command, and what was on standard error; with `both` the one is the other."""
-    name, own, *_ = command
-    lay_log()
+    name, own, lay, ready, *_ = command
+    lay()
+    ready = ready()
     ours, theirs = pty.openpty() if on_terminal else os.pipe()
     if on_terminal:
         tty.setraw(theirs)
@@ -107,7 +147,7 @@ def ran(command, words, on_terminal, both=False):
         readers.append(threading.Thread(target=read_all, args=(os.dup(process.stdout.fileno()), out)))
     for reader in readers:
         reader.start()
-    stopped_a_while(process, "/image")
+    stopped_a_while(process, ready)
     process.wait(120)
     for reader in readers:
         reader.join()
@@ -115,7 +155,7 @@ def ran(command, words, on_terminal, both=False):
 
 
 def check(command):
-    name, own, is_answer, form = command
+    name, own, _, _, is_answer, form = command
     what = "%s %s" % (name, " ".join(own))
     out, shown = ran(command, [], True)
     expect("the answer on a terminal of " + what, is_answer(out), out[:200])
@@ -128,7 +168,7 @@ def check(command):
 
 def check_own_text(command):
     """A text that goes to the terminal has no progress among it."""
-    name, _, is_answer, _ = command
+    name, own, _, _, is_answer, _ = command
     _, shown = ran(command, [], True, both=True)
     expect("the text on a terminal of %s" % name, is_answer(shown), shown[:200])
 

@@ -35,6 +35,7 @@ fn main(rt: HostRuntime) -> ExitCode {
     let (gone, on_terminal) = (Cell::new(false), rt.stderr().is_terminal());
     let (mut input, mut out) = (rt.stdin(), Heard::new(rt.stdout(), &gone));
     let mut err = Heeding::new(rt.stderr(), &gone, on_terminal);
+    let mut notes = Heeding::new(rt.stderr(), &gone, on_terminal);
     let Ok(_files) = fill_closed(&rt) else {
         return ExitCode::from(refuse_streams(&mut err));
     };
@@ -49,7 +50,7 @@ fn main(rt: HostRuntime) -> ExitCode {
     };
     let settings = Settings::new(is_set(&rt, "JB_HINTS"), is_set(&rt, "JB_STATUS"));
     let status = run_program(
-        &rt, given, settings, terminals, &mut input, &mut out, &mut err,
+        &rt, given, settings, terminals, &mut input, &mut out, &mut err, &mut notes,
     );
     ExitCode::from(status)
 }

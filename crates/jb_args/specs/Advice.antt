@@ -1,7 +1,8 @@
 -- What is advised on a line of standard error: what the table says in the row of its hint.
 use denote.Enum.Declared.{tag_of}
-use Rattle.std.specs.Prelude.{ℕ, ℤ, List, [], ◌∷◌, ◌++◌, codes, decimal, map, slice_index, slice_index_or}
+use Rattle.std.specs.Prelude.{ℕ, ℤ, ◌==◌, if◌then◌else◌, List, [], ◌∷◌, ◌++◌, codes, decimal, length, map, slice_index, slice_index_or, take}
 use Rattle.std.specs.Prelude.{Option, None, Some, option_map}
+use Rattle.std.specs.Str.Lossy.{utf8_valid_len}
 use Rattle.jb_disk.specs.declared.failure.FailedCall.{FailedCall}
 use Rattle.jb_disk.specs.declared.failure.FailedCall.TheVariants.{Read, Sync, Write}
 use Rattle.jb_disk.specs.declared.failure.Failure.{Failure}
@@ -33,7 +34,19 @@ option_text option = slice_index_or (map (λ row. row.0.now) OPTIONS.now) (tag_o
 unfoldable pub option_range : OptionName → List ℕ
 option_range option = slice_index_or (map (λ row. row.1.now) OPTIONS.now) (tag_of options.the_type option) []
 
--- what the system says of a call that it refused, or of who has a file, and what is advised on a refused call
+-- the words of a holder of a file
+abbrev pub words_in : Holder → List ℕ
+words_in holder = take holder.len holder.text
+
+-- bytes that are a text; else none
+abbrev pub text_or_none : List ℕ → List ℕ
+text_or_none bytes = if utf8_valid_len bytes == length bytes then bytes else []
+
+-- what is said of who has a file: its words, where they are a text
+abbrev pub holder_text : Holder → List ℕ
+holder_text holder = text_or_none (words_in holder)
+
+-- what the system says of a call that it refused, and what is advised on that
 pub record SystemSaid : Type 0 where
   pub text : List ℕ
   pub remedy : List ℕ
@@ -90,7 +103,7 @@ call_place Sync = []
 -- of a file that is in use who has it
 abbrev pub reason_in : SystemSaid → HintArg → Option (List (List ℕ))
 reason_in said (System code) = Some (said.text ∷ [])
-reason_in said (Held holder) = Some (said.text ∷ [])
+reason_in said (Held holder) = Some (holder_text holder ∷ [])
 reason_in said (Failed failure) =
     Some (call_name failure.call ∷ call_place failure.call ∷ codes ": " ∷ said.text ∷ [])
 reason_in said Nothing = None
@@ -104,7 +117,7 @@ said_with said words Nothing = words ∷ []
 said_with said words (BadOption option) =
     words ∷ codes ": " ∷ option_text option ∷ codes " is " ∷ option_range option ∷ []
 said_with said words (System code) = words ∷ codes ": " ∷ said.text ∷ []
-said_with said words (Held holder) = words ∷ codes ": " ∷ said.text ∷ []
+said_with said words (Held holder) = words ∷ codes ": " ∷ holder_text holder ∷ []
 said_with said words (Failed failure) =
     said.remedy ∷ codes "; then " ∷ words ∷ codes ": " ∷ call_name failure.call ∷ call_place failure.call ∷ codes ": "
     ∷ said.text ∷ []

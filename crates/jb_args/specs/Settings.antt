@@ -14,6 +14,7 @@ use Rattle.jb_args.specs.declared.settings.SecondLine.TheVariants as seconds
 use Rattle.jb_args.specs.declared.settings.SecondPart.{SecondPart}
 use Rattle.jb_args.specs.declared.settings.SecondPart.TheVariants as parts
 use Rattle.jb_args.specs.declared.settings.ProgressLine.TheVariants as progresses
+use Rattle.jb_args.specs.declared.settings.Details.TheVariants as says
 use Rattle.jb_args.specs.declared.settings.Statuses.TheVariants as counts
 
 -- what a word sets, where it is a setting
@@ -22,6 +23,7 @@ setting_of word =
     if bytes_eq word (codes "--json") then Some sets.Json
     else if bytes_eq word (codes "--hints") then Some sets.Hints
     else if bytes_eq word (codes "-q") || bytes_eq word (codes "--quiet") then Some sets.Quiet
+    else if bytes_eq word (codes "-v") || bytes_eq word (codes "--verbose") then Some sets.Verbose
     else if bytes_eq word (codes "--status") then Some sets.Status
     else if bytes_eq word (codes "--no-progress") then Some sets.NoProgress
     else None
@@ -31,7 +33,8 @@ abbrev pub with_setting : Settings → Setting → Settings
 with_setting settings sets.Json = record settings { form = forms.Json }
 with_setting settings sets.Hints = record settings { second = seconds.Always }
 with_setting settings sets.Quiet =
-    record settings { second = seconds.Never; progress = progresses.Never }
+    record settings { second = seconds.Never; progress = progresses.Never; details = says.Hidden }
+with_setting settings sets.Verbose = record settings { details = says.Shown }
 with_setting settings sets.Status = record settings { statuses = counts.Finer }
 with_setting settings sets.NoProgress = record settings { progress = progresses.Never }
 
@@ -47,6 +50,7 @@ first_settings hints finer = record {
   form = forms.Text;
   second = if hints then seconds.Always else seconds.OnTerminal;
   progress = progresses.OnTerminal;
+  details = says.Hidden;
   statuses = if finer then counts.Finer else counts.Few;
 }
 

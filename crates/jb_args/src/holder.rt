@@ -11,20 +11,32 @@ pub struct Holder {
 }
 
 impl Holder {
+    ghost use Rattle.std.specs.Prelude.{◌≡◌, ◌≤◌, ◌↔◌, IsSome, IfSome, length};
+    ghost use Rattle.jb_args.specs.Advice.{words_in};
+
     /// A holder of these words; `None` where they are more than [`HOLDER_TEXT`] bytes.
-    pub fn new(words: &[u8]) -> Option<Holder> {
-        let len = u8::try_from(words.len()).ok()?;
+    pub fn new(words: &[u8]) -> Option<Holder>
+        ensures fits { IsSome result ↔ (length words.now ≤ 255) }
+        ensures words { IfSome result (λ holder. words_in holder ≡ words.now) }
+    {
+        if words.len() > HOLDER_TEXT {
+            return None;
+        }
         let mut text = no_text();
-        text.get_mut(..words.len())?.copy_from_slice(words);
-        Some(Holder { text, len })
+        text[..words.len()].copy_from_slice(words);
+        Some(Holder {
+            text,
+            len: words.len() as u8,
+        })
     }
 
     /// Its words.
-    pub(crate) fn words(&self) -> &[u8] {
-        match self.text.get(..usize::from(self.len)) {
-            Some(words) => words,
-            None => &[],
-        }
+    pub(crate) fn words(&self) -> &[u8]
+        ensures words { result.now ≡ words_in self.now }
+        ensures few { length result.now ≤ 255 }
+    {
+        let len = usize::from(self.len);
+        &self.text[..len]
     }
 }
 

@@ -4,6 +4,7 @@ ghost use Rattle.jb_text.specs.Puts.{Puts};
 ghost use Rattle.jb_text.specs.TextParts.{spelled};
 ghost use Rattle.jb_args.specs.Advice.{SystemSaid, hint_line, hint_text, line_saying, reason_line, reason_text};
 ghost use Rattle.jb_args.specs.Advice.{call_name as called, call_place as placed, reason_in, reason_spelled, said_with};
+ghost use Rattle.jb_args.specs.Advice.{holder_text, text_or_none};
 ghost use Rattle.jb_args.specs.declared.hint.HintArg.TheVariants.{BadOption, Failed};
 
 use crate::hint::{Hint, HintArg};
@@ -273,13 +274,18 @@ fn system_text(code: i32, room: &mut ArrayVec<u8, SYSTEM_TEXT>) -> &str {
 }
 
 /// Who has a file that is in use, in words.
-fn holder_text(holder: Holder, room: &mut ArrayVec<u8, SYSTEM_TEXT>) -> &str {
+fn holder_text(holder: Holder, room: &mut ArrayVec<u8, SYSTEM_TEXT>) -> &str
+    ensures { result.now ≡ holder_text holder }
+{
+    room.clear();
     let _fits = room.try_extend_from_slice(holder.words());
     shown_text(room)
 }
 
 /// The text in a room, which is empty where it was cut within a character.
-fn shown_text(room: &ArrayVec<u8, SYSTEM_TEXT>) -> &str {
+fn shown_text(room: &ArrayVec<u8, SYSTEM_TEXT>) -> &str
+    ensures { result.now ≡ text_or_none room.now.items }
+{
     match str::from_utf8(room.as_slice()) {
         Ok(text) => text,
         Err(_) => "",

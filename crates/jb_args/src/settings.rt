@@ -47,6 +47,15 @@ pub enum ProgressLine {
     Never,
 }
 
+/// Whether a run says what it has found of its files.
+#[derive(Clone, Copy)]
+pub enum Details {
+    /// It does not.
+    Hidden,
+    /// It does, before its work.
+    Shown,
+}
+
 /// Which statuses a run ends with.
 #[derive(Clone, Copy)]
 pub enum Statuses {
@@ -65,6 +74,8 @@ pub struct Settings {
     pub second: SecondLine,
     /// Whether it shows how far it has come.
     pub progress: ProgressLine,
+    /// Whether it says what it has found.
+    pub details: Details,
     /// Which statuses it ends with.
     pub statuses: Statuses,
 }
@@ -78,6 +89,8 @@ pub(crate) enum Setting {
     Hints,
     /// Nothing but the answer, or the line of a fault.
     Quiet,
+    /// What is found of the files is said.
+    Verbose,
     /// Finer statuses.
     Status,
     /// No progress is shown.
@@ -94,6 +107,7 @@ macro_rules! setting_rows {
             Json, "--json" => "Answers, and says what went wrong, in JSON";
             Hints, "--hints" => "Says on a second line what to do; without it on a terminal alone";
             Quiet, "-q", "--quiet" => "Says neither what to do nor the system's reason, and shows no progress";
+            Verbose, "-v", "--verbose" => "Says first which journal was found and how, and its features";
             Status, "--status" => "Ends with a finer status: 3, 4 or 5 in place of some 1";
             NoProgress, "--no-progress" => "Does not show how far it has come";
         }
@@ -134,6 +148,7 @@ impl Settings {
                 SecondLine::OnTerminal
             },
             progress: ProgressLine::OnTerminal,
+            details: Details::Hidden,
             statuses: if finer {
                 Statuses::Finer
             } else {
@@ -186,6 +201,11 @@ impl Settings {
             Setting::Quiet => Settings {
                 second: SecondLine::Never,
                 progress: ProgressLine::Never,
+                details: Details::Hidden,
+                ..self
+            },
+            Setting::Verbose => Settings {
+                details: Details::Shown,
                 ..self
             },
             Setting::Status => Settings {

@@ -22,6 +22,7 @@ pub mod Judge
 pub mod Limits
 pub mod Lines
 pub mod ListText
+pub mod Notes
 pub mod OpenRefusals
 pub mod Options
 pub mod Outputs

@@ -14,20 +14,23 @@ use jb_args::{AnswerForm, Hint};
 use jb_block::Memory;
 use jb_cost::Geometry;
 use jb_json::Field;
-use jb_price::{Cert, CertFault, Reason, Verdict, check, read_cert};
+use jb_price::{Cert, CertFault, Reason, Verdict, check_watched, read_cert};
 use jb_queue::QueueText;
+use jb_watch::Watch;
 use std::alloc::Global;
 
 /// What `jb check` says of a queue and of the bytes of a certificate's text: that it is accepted, status 0, or its
-/// first fault, status 1; or why the text is no certificate of the queue, status 2.
+/// first fault, status 1; or why the text is no certificate of the queue, status 2. The watch is told how many handles
+/// are gone over, once for the prices and once for the cut.
 ///
 /// # Errors
 /// `Memory` where memory ran out.
-pub fn check_answer(
+pub fn check_answer<W: Watch>(
     alloc: Global,
     form: AnswerForm,
     queue: &QueueText,
     claim: &[u8],
+    watch: &mut W,
 ) -> Result<CommandOutput, Memory>
     requires { IsWithinSize queue.now.handles.items }
     /// What `check` prints is the checker's verdict, or the first fault of the certificate's text, in JSON the same;
@@ -36,7 +39,7 @@ pub fn check_answer(
 {
     match read_cert(alloc, claim, queue.handles.as_slice().len()) {
         Ok(cert) => {
-            let verdict = verdict_on(alloc, queue, &cert)?;
+            let verdict = verdict_on(alloc, queue, &cert, watch)?;
             verdict_told(alloc, form, verdict)
         }
         Err(fault) => cert_fault_told(alloc, form, fault),
@@ -44,13 +47,25 @@ pub fn check_answer(
 }
 
 /// The verdict on a certificate of a queue.
-fn verdict_on(alloc: Global, queue: &QueueText, cert: &Cert) -> Result<Verdict, Memory>
+fn verdict_on<W: Watch>(
+    alloc: Global,
+    queue: &QueueText,
+    cert: &Cert,
+    watch: &mut W,
+) -> Result<Verdict, Memory>
     requires size { IsWithinSize queue.now.handles.items }
     requires number { length cert.now.prices.items ≡ length queue.now.handles.items + 1 }
     ensures { IfOk result (IsVerdictOn (value_of queue.now) cert.now) }
 {
     let geometry = Geometry::of(queue.bs, queue.width);
-    check(alloc, queue.handles.as_slice(), geometry, queue.limit, cert)
+    check_watched(
+        alloc,
+        queue.handles.as_slice(),
+        geometry,
+        queue.limit,
+        cert,
+        watch,
+    )
 }
 
 /// What is said of a verdict.

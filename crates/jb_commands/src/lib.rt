@@ -12,6 +12,7 @@ mod files;
 pub mod laws;
 mod names;
 mod nested_faults;
+mod noting;
 mod options;
 mod plan;
 mod program_end;
@@ -27,13 +28,15 @@ pub use command_output::CommandOutput;
 pub use cost::cost_answer;
 pub use fault::CommandFault;
 pub use files::{
-    OpenedImage, Opening, cat_file, format_file, open_counted, open_placed, read_file,
+    OpenedImage, Opening, cat_file, format_file, note_opened, open_counted, open_placed, read_file,
     recover_file, renumber_file, widen_file,
 };
 pub use jb_args::{AnswerForm, Plain};
 pub use names::TwoFiles;
+pub use noting::{JournalNote, JournalPlace, QueueNote, note_journal, note_queue};
 pub use plan::plan_answer;
 pub use program_end::ProgramEnd;
+pub use progress::{ShownProgress, error_terminal};
 pub use queue_fault::fault_answer;
 pub use report::Report;
 pub use running::{close, perform, run_plain};

@@ -2,15 +2,18 @@
 //! stream of its own: standard error is given what the clauses of a command say, and nothing else.
 
 mod advance;
+mod handle_pass;
 mod line;
 mod pass;
 mod peeked_homes;
 
 use crate::progress::advance::Advance;
+use crate::progress::handle_pass::HandlePass;
 use crate::progress::line::TerminalLine;
 use crate::progress::pass::Pass;
 use crate::progress::peeked_homes::PeekedHomes;
 use jb_args::ProgressLine;
+use jb_watch::Watch;
 pub(crate) use pass::PassCounts;
 use std::fs::{File, OpenOptions};
 use std::io::IsTerminal;
@@ -31,84 +34,90 @@ pub(crate) enum Course {
     Peeks(PeekedHomes),
     /// A text of bytes, once.
     Bytes(Advance),
+    /// The handles of a queue, once.
+    Handles(Advance),
+    /// The handles of a queue, once or twice.
+    Checks(HandlePass),
 }
 
 /// How far a command has come, where that is shown.
 #[derive(Drop)]
-pub(crate) struct ShownProgress<'a, K: Clock> {
+pub struct ShownProgress<'a, K: Clock> {
     clock: &'a K,
-    line: Option<TerminalLine>,
+    line: Option<TerminalLine<'a>>,
 }
 
 impl<'a, K: Clock> ShownProgress<'a, K> {
     /// Of a command over the log of a journal of this many blocks, as often as this, which has done nothing yet.
-    /// Nothing is shown where standard error is no terminal.
-    pub(crate) fn over_log<R: Files<File = File>>(
-        rt: &R,
+    /// Nothing is shown where there is no terminal.
+    pub(crate) fn over_log(
+        terminal: Option<&'a File>,
         clock: &'a K,
-        shown: ProgressLine,
         what: &'static str,
         journal: u64,
         passes: PassCounts,
     ) -> ShownProgress<'a, K> {
-        ShownProgress::new(
-            rt,
-            clock,
-            shown,
-            what,
-            Course::Log(Pass::new(journal, passes)),
-        )
+        let course = Course::Log(Pass::new(journal, passes));
+        ShownProgress::new(terminal, clock, what, course)
     }
 
-    /// Of a command that peeks at this many home blocks, one after the other, and writes them. Nothing is shown where
-    /// standard error is no terminal, or standard output is one.
-    pub(crate) fn over_homes<R: Files<File = File>>(
-        rt: &R,
+    /// Of a command that peeks at this many home blocks, one after the other. Nothing is shown where there is no
+    /// terminal.
+    pub(crate) fn over_homes(
+        terminal: Option<&'a File>,
         clock: &'a K,
-        shown: ProgressLine,
         what: &'static str,
         homes: u64,
     ) -> ShownProgress<'a, K> {
-        let shown = beside_text(rt, shown);
-        ShownProgress::new(
-            rt,
-            clock,
-            shown,
-            what,
-            Course::Peeks(PeekedHomes::new(homes)),
-        )
+        let course = Course::Peeks(PeekedHomes::new(homes));
+        ShownProgress::new(terminal, clock, what, course)
     }
 
-    /// Of a command that reads this many bytes and writes text. Nothing is shown where standard error is no terminal,
-    /// or standard output is one: the text would be written over the line.
-    pub(crate) fn over_bytes<R: Files<File = File>>(
-        rt: &R,
+    /// Of a command that runs this many handles. Nothing is shown where there is no terminal.
+    pub fn over_handles(
+        terminal: Option<&'a File>,
         clock: &'a K,
-        shown: ProgressLine,
+        what: &'static str,
+        handles: u64,
+    ) -> ShownProgress<'a, K> {
+        let course = Course::Handles(Advance::new(handles));
+        ShownProgress::new(terminal, clock, what, course)
+    }
+
+    /// Of a command that goes over this many handles twice, or once. Nothing is shown where there is no terminal.
+    pub(crate) fn over_checks(
+        terminal: Option<&'a File>,
+        clock: &'a K,
+        what: &'static str,
+        handles: u64,
+    ) -> ShownProgress<'a, K> {
+        let course = Course::Checks(HandlePass::new(handles));
+        ShownProgress::new(terminal, clock, what, course)
+    }
+
+    /// Of a command that reads or writes this many bytes. Nothing is shown where there is no terminal, or no byte.
+    pub(crate) fn over_bytes(
+        terminal: Option<&'a File>,
+        clock: &'a K,
         what: &'static str,
         bytes: u64,
     ) -> ShownProgress<'a, K> {
-        let shown = if bytes == 0 {
-            ProgressLine::Never
-        } else {
-            beside_text(rt, shown)
-        };
-        ShownProgress::new(rt, clock, shown, what, Course::Bytes(Advance::new(bytes)))
+        let terminal = if bytes == 0 { None } else { terminal };
+        let course = Course::Bytes(Advance::new(bytes));
+        ShownProgress::new(terminal, clock, what, course)
     }
 
     /// Of a command with this course.
-    fn new<R: Files<File = File>>(
-        rt: &R,
+    fn new(
+        terminal: Option<&'a File>,
         clock: &'a K,
-        shown: ProgressLine,
         what: &'static str,
         course: Course,
     ) -> ShownProgress<'a, K> {
-        let line = match shown {
-            ProgressLine::OnTerminal => TerminalLine::new(opened(rt, ERROR), clock, what, course),
-            ProgressLine::Never => None,
-        };
-        ShownProgress { clock, line }
+        ShownProgress {
+            clock,
+            line: TerminalLine::new(terminal, clock, what, course),
+        }
     }
 
     /// The block at a place is read or written.
@@ -120,27 +129,50 @@ impl<'a, K: Clock> ShownProgress<'a, K> {
 
     /// So many bytes more are read.
     pub(crate) fn read(&mut self, bytes: usize) {
+        self.pass(bytes as u64)
+    }
+
+    /// So many handles are done.
+    pub fn reach(&mut self, handles: u64) {
         if let Some(line) = &mut self.line {
-            line.read(self.clock, bytes as u64)
+            line.reach(self.clock, handles)
         }
     }
 
     /// Erases the line.
-    pub(crate) fn end(self) {
+    pub fn end(self) {
         if let Some(line) = self.line {
             line.erase()
         }
     }
 }
 
-/// Whether progress is shown beside the text on standard output.
-fn beside_text<R: Files<File = File>>(rt: &R, shown: ProgressLine) -> ProgressLine {
+impl<'a, K: Clock> Watch for ShownProgress<'a, K> {
+    fn pass(&mut self, more: u64) {
+        if let Some(line) = &mut self.line {
+            line.pass(self.clock, more)
+        }
+    }
+}
+
+/// The terminal on which progress is shown, where it is to be shown and standard error is one.
+pub fn error_terminal<R: Files<File = File>>(rt: &R, shown: ProgressLine) -> Option<File> {
     match shown {
-        ProgressLine::OnTerminal => match opened(rt, OUTPUT) {
-            Some(_) => ProgressLine::Never,
-            None => ProgressLine::OnTerminal,
-        },
-        ProgressLine::Never => ProgressLine::Never,
+        ProgressLine::OnTerminal => opened(rt, ERROR),
+        ProgressLine::Never => None,
+    }
+}
+
+/// The same beside a text on standard output: none where that is a terminal, since the text would be written over the
+/// line.
+pub(crate) fn terminal_beside_text<R: Files<File = File>>(
+    rt: &R,
+    shown: ProgressLine,
+) -> Option<File> {
+    let terminal = error_terminal(rt, shown)?;
+    match opened(rt, OUTPUT) {
+        Some(_) => None,
+        None => Some(terminal),
     }
 }
 

@@ -1,10 +1,12 @@
 ghost use Rattle.std.specs.Prelude.{◌≡◌, ◌<◌, ◌^◌, ℕ, List, Option, Some, codes, false, length};
 ghost use Rattle.std.specs.Str.{bytes_eq};
 ghost use Rattle.jb_args.specs.PlainCommand.{asks};
+ghost use Rattle.jb_args.specs.declared.settings.Details.TheVariants.{Hidden};
 ghost use Rattle.jb_handle.specs.Size.{IsWithinSize};
 ghost use Rattle.jb_queue.specs.QueueText.{value_of};
 ghost use Rattle.jb_commands.specs.Check.{CheckSays, SaysCheck};
 ghost use Rattle.jb_commands.specs.Cost.{cost_said};
+ghost use Rattle.jb_commands.specs.Notes.{noted};
 ghost use Rattle.jb_commands.specs.Plan.{PlanSays};
 ghost use Rattle.jb_commands.specs.Lines.{names_said};
 ghost use Rattle.jb_commands.specs.Runs.{Closes, EndsAsSaid, EndsAsked, EndsOfClaim, EndsOfTwo, Runs, TellsFault};
@@ -17,7 +19,9 @@ use crate::files::{
     renumber_file, widen_file,
 };
 use crate::names::{TwoFiles, files_of};
+use crate::noting::{QueueNote, note_queue};
 use crate::program_end::ProgramEnd;
+use crate::progress::{ShownProgress, error_terminal};
 use crate::streams::{CERT_LIMIT, told};
 use crate::{check_answer, cost_answer, fault_answer, plan_answer};
 use jb_args::{AnswerForm, Plain, Settings};
@@ -41,6 +45,7 @@ pub fn perform<
     I: Read,
     O: Write,
     E: Write,
+    N: Write,
 >(
     rt: &R,
     plain: Plain<'a>,
@@ -48,6 +53,7 @@ pub fn perform<
     input: &mut I,
     out: &mut O,
     err: &mut E,
+    notes: &mut N,
 ) -> CommandEnd<'a, S, T>
     /// The command that the words ask for: what it has written, the image as it has left it, and what it has to say.
     ensures ends { EndsAsked settings.form (asks plain.entry) (I.remaining input.old)
@@ -55,27 +61,30 @@ pub fn perform<
         (record { out = O.contents out.new; err = E.contents err.new }) result.image result.end }
     /// Standard input stays as it is where it is not the text of the command.
     ensures unread { reads_input (asks plain.entry) ≡ false → input.new ≡ input.old }
+    /// Where no details are asked for, nothing is said of what was found.
+    ensures silent { settings.details ≡ Hidden → N.contents notes.new ≡ N.contents notes.old }
 {
     let form = settings.form;
     match plain {
         Plain::Cost { file } => CommandEnd::said(perform_cost(rt, file, form, input, out, err)),
         Plain::Plan { file } => CommandEnd::said(perform_plan(rt, file, form, input, out, err)),
         Plain::Check { file, cert } => CommandEnd::said(perform_check(
-            rt, file, cert, form, out, err,
+            rt, file, cert, settings, out, err, notes,
         )),
-        Plain::Dump { file, options } => {
-            let shown = settings.progress;
-            CommandEnd::status(dump_in::<S, T, R, I, O>(rt, file, options, form, shown, input, out))
-        }
-        Plain::Format { image, options } => format_file(rt, image, options),
+        Plain::Dump { file, options } => CommandEnd::status(dump_in::<S, T, R, I, O, N>(
+            rt, file, options, settings, input, out, notes,
+        )),
+        Plain::Format { image, options } => format_file(rt, image, options, settings.progress),
         Plain::Cat { image, options } => {
-            cat_file(rt, image, options, settings.progress, input, out)
+            cat_file(rt, image, options, settings, input, out, notes)
         }
         Plain::Recover { image, options } => {
-            recover_file(rt, image, options, settings.progress, input)
+            recover_file(rt, image, options, settings, input, notes)
         }
-        Plain::Renumber { image, extents } => renumber_file(rt, image, extents, input),
-        Plain::Widen { image, extents } => widen_file(rt, image, extents, input),
+        Plain::Renumber { image, extents } => {
+            renumber_file(rt, image, extents, settings, input, notes)
+        }
+        Plain::Widen { image, extents } => widen_file(rt, image, extents, settings, input, notes),
     }
 }
 
@@ -120,77 +129,119 @@ fn perform_plan<'a, R: Files + AllocGlobal, I: Read, O: Write, E: Write>(
 }
 
 /// Runs `jb check`: the second file is opened where the first is the text of a queue.
-fn perform_check<'a, R: Files + AllocGlobal, O: Write, E: Write>(
+fn perform_check<
+    'a,
+    R: Files<File = File> + AllocGlobal + Clock,
+    O: Write,
+    E: Write,
+    N: Write,
+>(
     rt: &R,
     file: &'a str,
     cert: &'a str,
-    form: AnswerForm,
+    settings: Settings,
     out: &mut O,
     err: &mut E,
+    notes: &mut N,
 ) -> Result<ProgramEnd, CommandFault<'a>>
-    ensures ends { EndsOfTwo (CheckSays form) file.entry.now cert.entry.now
+    ensures ends { EndsOfTwo (CheckSays settings.form) file.entry.now cert.entry.now
         (record { out = O.contents out.old; err = E.contents err.old })
         (record { out = O.contents out.new; err = E.contents err.new }) result }
+    ensures silent { settings.details ≡ Hidden → N.contents notes.new ≡ N.contents notes.old }
 {
     match read_file(rt, file) {
-        Ok(text) => check_texts(rt, text.as_slice(), cert, form, out, err),
+        Ok(text) => check_texts(rt, text.as_slice(), cert, settings, out, err, notes),
         Err(fault) => Err(fault),
     }
 }
 
 /// The same of a queue text that has been read.
-fn check_texts<'a, R: Files + AllocGlobal, O: Write, E: Write>(
+fn check_texts<
+    'a,
+    R: Files<File = File> + AllocGlobal + Clock,
+    O: Write,
+    E: Write,
+    N: Write,
+>(
     rt: &R,
     text: &[u8],
     cert: &'a str,
-    form: AnswerForm,
+    settings: Settings,
     out: &mut O,
     err: &mut E,
+    notes: &mut N,
 ) -> Result<ProgramEnd, CommandFault<'a>>
     requires { length text.now < 2 ^ 63 }
-    ensures ends { EndsOfClaim (CheckSays form text.now) cert.entry.now
+    ensures ends { EndsOfClaim (CheckSays settings.form text.now) cert.entry.now
         (record { out = O.contents out.old; err = E.contents err.old })
         (record { out = O.contents out.new; err = E.contents err.new }) result }
+    ensures silent { settings.details ≡ Hidden → N.contents notes.new ≡ N.contents notes.old }
 {
     match read_queue(rt.alloc(), text) {
-        Ok(queue) => check_file(rt, &queue, cert, form, out, err),
-        Err(fault) => told(fault_answer(rt.alloc(), form, fault), out, err),
+        Ok(queue) => {
+            note_queue(settings, note_of(&queue), notes);
+            check_file(rt, &queue, cert, settings, out, err)
+        }
+        Err(fault) => told(fault_answer(rt.alloc(), settings.form, fault), out, err),
     }
 }
 
-/// Checks the certificate in the file of this name, of a queue.
-fn check_file<'a, R: Files + AllocGlobal, O: Write, E: Write>(
+/// What is said of a queue text.
+fn note_of(queue: &QueueText) -> QueueNote
+    ensures { result ≡ noted (value_of queue.now) }
+{
+    QueueNote {
+        handles: queue.handles.as_slice().len() as u64,
+        size: queue.bs,
+        width: queue.width,
+        limit: queue.limit,
+    }
+}
+
+/// Checks the certificate in the file of this name, of a queue, and shows how far it has come.
+fn check_file<'a, R: Files<File = File> + AllocGlobal + Clock, O: Write, E: Write>(
     rt: &R,
     queue: &QueueText,
     cert: &'a str,
-    form: AnswerForm,
+    settings: Settings,
     out: &mut O,
     err: &mut E,
 ) -> Result<ProgramEnd, CommandFault<'a>>
     requires { IsWithinSize queue.now.handles.items }
-    ensures ends { EndsOfClaim (SaysCheck form (value_of queue.now)) cert.entry.now
+    ensures ends { EndsOfClaim (SaysCheck settings.form (value_of queue.now)) cert.entry.now
         (record { out = O.contents out.old; err = E.contents err.old })
         (record { out = O.contents out.new; err = E.contents err.new }) result }
 {
+    let terminal = error_terminal(rt, settings.progress);
+    let handles = queue.handles.as_slice().len() as u64;
+    let mut progress = ShownProgress::over_checks(terminal.as_ref(), rt, "jb check", handles);
     match read_file_within(rt, cert, CERT_LIMIT) {
-        Ok(claim) => told(
-            check_answer(rt.alloc(), form, queue, claim.as_slice()),
-            out,
-            err,
-        ),
+        Ok(claim) => {
+            let text = claim.as_slice();
+            let answer = check_answer(rt.alloc(), settings.form, queue, text, &mut progress);
+            progress.end();
+            told(answer, out, err)
+        }
         Err(fault) => Err(fault),
     }
 }
 
 /// Runs a command and gives the end of the program; a command that ends without an answer has its line on `err`, or in
 /// JSON the same.
-pub fn run_plain<R: Files<File = File> + AllocGlobal + Clock, I: Read, O: Write, E: Write>(
+pub fn run_plain<
+    R: Files<File = File> + AllocGlobal + Clock,
+    I: Read,
+    O: Write,
+    E: Write,
+    N: Write,
+>(
     rt: &R,
     plain: Plain<'_>,
     settings: Settings,
     input: &mut I,
     out: &mut O,
     err: &mut E,
+    notes: &mut N,
 ) -> ProgramEnd
     /// Which bytes the outputs hold after a run, its status, and what a second line is about. [But
     /// see](docs/WRONG_BODIES.md#readers-writers-and-files).
@@ -198,8 +249,12 @@ pub fn run_plain<R: Files<File = File> + AllocGlobal + Clock, I: Read, O: Write,
         (record { out = O.contents out.old; err = E.contents err.old })
         (record { out = O.contents out.new; err = E.contents err.new }) result }
     ensures unread { reads_input (asks plain.entry) ≡ false → input.new ≡ input.old }
+    /// Where no details are asked for, nothing is said of what was found.
+    ensures silent { settings.details ≡ Hidden → N.contents notes.new ≡ N.contents notes.old }
 {
-    let done = perform::<Unknown, Unknown, R, I, O, E>(rt, plain, settings, input, out, err);
+    let done = perform::<Unknown, Unknown, R, I, O, E, N>(
+        rt, plain, settings, input, out, err, notes,
+    );
     close(
         settings.form,
         done.tell(settings.form, out),

@@ -33,7 +33,7 @@ pub(crate) use foreseeing::tell_foreseen;
 pub(crate) use formatting::tell_formatted;
 pub use judging::judge_on;
 pub(crate) use own_line::{words_of_field, words_of_inode, words_of_map};
-pub(crate) use putting::put_shown;
+pub(crate) use putting::shown_between;
 pub(crate) use reading::read_as;
 pub use reading::{CERT_LIMIT, TEXT_LIMIT};
 pub use recovering::recover_on;

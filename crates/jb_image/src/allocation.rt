@@ -2,6 +2,7 @@
 ghost use Rattle.std.specs.Prelude.{replicate, OnOk};
 ghost use Rattle.std.specs.Io.KnownBytes.{Appends};
 
+use jb_watch::Watch;
 use std::io;
 use std::io::Write;
 
@@ -18,12 +19,16 @@ pub enum Allocation {
     Sparse,
 }
 
-/// Writes this many zeros.
+/// Writes this many zeros; the watch is told how many were written.
 ///
 /// # Errors
 /// That of the first write that is refused, or that took nothing; some of the zeros are written then. One that a signal
 /// interrupts is tried again.
-pub(crate) fn write_zeros<W: Write>(writer: &mut W, len: u64) -> io::Result<()>
+pub(crate) fn write_zeros<W: Write, V: Watch>(
+    writer: &mut W,
+    len: u64,
+    watch: &mut V,
+) -> io::Result<()>
     ensures { OnOk result (Appends (W.contents writer.old) (W.contents writer.new) (replicate len 0)) }
 {
     let zeros = [0; RUN];
@@ -32,6 +37,7 @@ pub(crate) fn write_zeros<W: Write>(writer: &mut W, len: u64) -> io::Result<()>
         let part = (len - done).min(RUN as u64) as usize;
         writer.write_all(&zeros[..part])?;
         done += part as u64;
+        watch.pass(part as u64);
     }
     Ok(())
 }

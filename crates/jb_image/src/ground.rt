@@ -5,6 +5,7 @@
 ghost use Rattle.std.specs.Prelude.{IsTrue};
 ghost use Rattle.jb_image.specs.Grounds.{Share};
 
+use crate::device::device_numbers;
 use crate::fault::ImageFault;
 use crate::mount_line::numbers;
 use crate::refusals::{is_missing, is_unseen, mounts_fault};
@@ -40,7 +41,7 @@ impl Base {
     /// The file or block device of which the system says this.
     pub fn of(metadata: &Metadata) -> Base {
         if metadata.file_type().is_block_device() {
-            let (major, minor) = numbers_of(metadata.rdev());
+            let (major, minor) = device_numbers(metadata.rdev());
             return Base::Device(major, minor);
         }
         Base::File(metadata.dev(), metadata.ino())
@@ -203,11 +204,4 @@ fn found<R: Files>(rt: &R, name: &str) -> Result<Option<Base>, ImageFault> {
         Err(error) if is_unseen(error.kind()) => Ok(None),
         Err(error) => Err(mounts_fault(error.kind())),
     }
-}
-
-/// The two numbers of a device, of the one number that `stat` gives.
-fn numbers_of(device: u64) -> (u64, u64) {
-    let major = (device >> 8) & 0xFFF | (device >> 32) & 0xFFFF_F000;
-    let minor = device & 0xFF | (device >> 12) & 0xFFFF_FF00;
-    (major, minor)
 }

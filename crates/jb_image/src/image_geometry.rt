@@ -70,7 +70,7 @@ impl ImageGeometry {
 
     /// How many bytes the image has; `None` where a journal may not have this many blocks, a file this many bytes, or
     /// the last home blocks would have no number.
-    pub(crate) fn len(&self) -> Option<u64>
+    pub fn len(&self) -> Option<u64>
         ensures good { IsSome result ↔ MakesImage self.now }
         ensures value { IfSome result (λ len. len ≡
             (self.now.journal + self.now.homes) * bytes_of self.now.block_size) }

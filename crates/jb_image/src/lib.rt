@@ -4,6 +4,7 @@
 #![tactic(auto)]
 
 mod allocation;
+mod device;
 mod draft;
 mod extents;
 mod extents_disk;
@@ -28,6 +29,7 @@ mod stretch;
 mod unfinished;
 
 pub use allocation::Allocation;
+pub use device::device_numbers;
 pub use extents::Extents;
 pub use extents_disk::ExtentsDisk;
 pub use extents_fault::{ExtentsFault, ListFault};
@@ -38,6 +40,6 @@ pub use jb_disk::SystemFault;
 pub use jb_ext::{FRONT, FileSystem};
 pub use jb_map::Extent;
 pub use judging::{FileSystemFault, JournalUse, judge};
-pub use making::{create_holding, create_image};
+pub use making::{create_holding, create_image, create_watched};
 pub use opening::{Opening, open_file, open_holding, open_image};
 pub use pair::PairDisk;

@@ -14,6 +14,7 @@ use crate::image_geometry::ImageGeometry;
 use jb_block::BlockSize;
 use jb_disk::{Disk, Failure, FileDisk, Start, SystemFault};
 use jb_format::{FormatFault, format};
+use jb_watch::{Unwatched, Watch};
 use std::fs::File;
 use std::rt::Files;
 
@@ -66,18 +67,38 @@ pub fn create_holding<S: Start, R: Files<File = File> + AllocGlobal>(
     ensures failed { result ≡ Err DeviceFault → MakingFailed S.Start geometry }
     ensures told { (failure : Failure) → result ≡ Err (Device failure) → MakingTold S.Start geometry failure }
 {
+    create_watched(rt, name, geometry, &mut Unwatched)
+}
+
+/// The same, whose watch is told how many bytes were written, where the image is to have its room; they are as many as it
+/// has.
+///
+/// # Errors
+/// As those of [`create_image`].
+pub fn create_watched<S: Start, R: Files<File = File> + AllocGlobal, V: Watch>(
+    rt: &R,
+    name: &str,
+    geometry: ImageGeometry,
+    watch: &mut V,
+) -> Result<FileDisk<S>, MakeFault>
+    ensures geometry { (result ≡ Err NoGeometry) ↔ (MakesImage geometry → ⊥) }
+    ensures made { IfOk result (WasMade geometry) }
+    ensures failed { result ≡ Err DeviceFault → MakingFailed S.Start geometry }
+    ensures told { (failure : Failure) → result ≡ Err (Device failure) → MakingTold S.Start geometry failure }
+{
     let Some(len) = geometry.len() else {
         return Err(MakeFault::Geometry);
     };
-    make(rt, name, len, geometry)
+    make(rt, name, len, geometry, watch)
 }
 
 /// The same, of numbers that make an image of this length.
-fn make<S: Start, R: Files<File = File> + AllocGlobal>(
+fn make<S: Start, R: Files<File = File> + AllocGlobal, V: Watch>(
     rt: &R,
     name: &str,
     len: u64,
     geometry: ImageGeometry,
+    watch: &mut V,
 ) -> Result<FileDisk<S>, MakeFault>
     requires geometry { MakesImage geometry }
     requires len { len ≡ (geometry.journal + geometry.homes) * bytes_of geometry.block_size }
@@ -90,7 +111,7 @@ fn make<S: Start, R: Files<File = File> + AllocGlobal>(
         Ok(draft) => draft,
         Err(fault) => return Err(fault),
     };
-    let disk = match fill(&draft, len, geometry) {
+    let disk = match fill(&draft, len, geometry, watch) {
         Ok(disk) => disk,
         Err(fault) => {
             draft.discard(rt);
@@ -110,10 +131,11 @@ fn make<S: Start, R: Files<File = File> + AllocGlobal>(
 ///
 /// # Errors
 /// `Image` with `System` where the system refuses a call; `Device` where the journal was not written.
-fn fill<S: Start>(
+fn fill<S: Start, V: Watch>(
     draft: &Draft<'_>,
     len: u64,
     geometry: ImageGeometry,
+    watch: &mut V,
 ) -> Result<FileDisk<S>, MakeFault>
     requires geometry { MakesImage geometry }
     requires len { len ≡ (geometry.journal + geometry.homes) * bytes_of geometry.block_size }
@@ -122,7 +144,7 @@ fn fill<S: Start>(
     ensures failed { result ≡ Err DeviceFault → MakingFailed S.Start geometry }
     ensures told { (failure : Failure) → result ≡ Err (Device failure) → MakingTold S.Start geometry failure }
 {
-    let mut disk = disk_of(draft.handle()?, len, geometry)?;
+    let mut disk = disk_of(draft.handle()?, len, geometry, watch)?;
     let ImageGeometry {
         journal,
         max_transaction,
@@ -152,10 +174,11 @@ fn device_fault(told: Option<Failure>) -> MakeFault
 ///
 /// # Errors
 /// `System` where the system refuses a call, or another length is found.
-fn disk_of<S: Start>(
+fn disk_of<S: Start, V: Watch>(
     mut file: File,
     len: u64,
     geometry: ImageGeometry,
+    watch: &mut V,
 ) -> Result<FileDisk<S>, ImageFault>
     requires { len ≡ (geometry.journal + geometry.homes) * bytes_of geometry.block_size }
     ensures size { IfOk result (λ disk. size_of_blocks disk ≡ geometry.block_size) }
@@ -165,7 +188,7 @@ fn disk_of<S: Start>(
     // a length that the file system or a limit does not take is refused before anything is written
     file.set_len(len)?;
     match geometry.allocation {
-        Allocation::Whole => write_zeros(&mut file, len)?,
+        Allocation::Whole => write_zeros(&mut file, len, watch)?,
         Allocation::Sparse => {}
     }
     file.sync_all()?;

@@ -6,6 +6,7 @@ ghost use Rattle.jb_price.specs.Sum.{SumSays};
 use jb_block::Memory;
 use jb_cost::{Geometry, group_cost};
 use jb_handle::Stopped;
+use jb_watch::Watch;
 use std::alloc::Global;
 
 /// Whether the bounds begin with 0, rise, and end with `end`.
@@ -37,13 +38,15 @@ pub(crate) enum Sum {
     Over(usize, usize),
 }
 
-/// Adds up what the groups of a cut take, up to the first that is over the limit.
-pub(crate) fn sum_of(
+/// Adds up what the groups of a cut take, up to the first that is over the limit. Each handle of them is a step for the
+/// watch.
+pub(crate) fn sum_of<W: Watch>(
     alloc: Global,
     handles: &[Stopped],
     geometry: Geometry,
     limit: u32,
     bounds: &[usize],
+    watch: &mut W,
 ) -> Result<Sum, Memory>
     requires size { IsWithinSize handles.now }
     requires cut { IsCut (length handles.now) bounds.now }
@@ -58,6 +61,7 @@ pub(crate) fn sum_of(
             return Ok(Sum::Over(from, *to));
         }
         sum += u128::from(cost);
+        watch.pass((*to - from) as u64);
         from = *to;
     }
     Ok(Sum::Within(sum))

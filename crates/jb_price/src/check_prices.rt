@@ -8,16 +8,19 @@ ghost use Rattle.jb_price.specs.FirstUndercut.{LeastTo, FirstAmong, earlier_of};
 use jb_block::Memory;
 use jb_cost::{Footprint, Geometry, GroupStart, LastTouches};
 use jb_handle::Stopped;
+use jb_watch::Watch;
 use std::alloc::Global;
 
 /// The first undercut of the prices: the least first bound, and of its second bounds the least. The
-/// last touches say for each end whether it has one, and only then the starts are looked at.
-pub(crate) fn first_undercut(
+/// last touches say for each end whether it has one, and only then the starts are looked at. Each handle is a step for
+/// the watch.
+pub(crate) fn first_undercut<W: Watch>(
     alloc: Global,
     handles: &[Stopped],
     geometry: Geometry,
     limit: u32,
     prices: &[Option<u64>],
+    watch: &mut W,
 ) -> Result<Option<(usize, usize)>, Memory>
     requires size { IsWithinSize handles.now }
     requires number { length prices.now ≡ length handles.now + 1 }
@@ -33,6 +36,7 @@ pub(crate) fn first_undercut(
             let found = least_undercut(alloc, handles, last + 1, geometry, limit, prices)?;
             first = earlier(first, found, last + 1);
         }
+        watch.pass(1);
     }
     Ok(first)
 }

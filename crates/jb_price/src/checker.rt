@@ -10,6 +10,7 @@ use crate::verdict::{Reason, Verdict};
 use jb_block::Memory;
 use jb_cost::Geometry;
 use jb_handle::Stopped;
+use jb_watch::{Unwatched, Watch};
 use std::alloc::Global;
 
 /// Checks a certificate of a queue of stopped handles against a limit in log blocks, and names the
@@ -44,22 +45,51 @@ pub fn check(
     ensures opening { OnErr result (price cert.now.prices.items 0 ≡ Some 0) }
     ensures grows { OnErr result (0 < length handles.now) }
 {
-    let Some(0) = cert.prices[0] else {
-        return Ok(Verdict::Refused(Reason::OpeningPrice));
-    };
-    match first_undercut(alloc, handles, geometry, limit, &cert.prices)? {
-        Some((from, to)) => Ok(Verdict::Refused(Reason::Undercut(from, to))),
-        None => check_answer(alloc, handles, geometry, limit, cert),
-    }
+    check_watched(alloc, handles, geometry, limit, cert, &mut Unwatched)
 }
 
-/// Checks the answer of a certificate whose prices no group undercuts.
-fn check_answer(
+/// The same, whose watch is told how far it has come: each handle is a step where the prices are checked, and once more
+/// where a cut is.
+///
+/// # Errors
+///
+/// As that of [`check`].
+pub fn check_watched<W: Watch>(
     alloc: Global,
     handles: &[Stopped],
     geometry: Geometry,
     limit: u32,
     cert: &Cert,
+    watch: &mut W,
+) -> Result<Verdict, Memory>
+    requires size { IsWithinSize handles.now }
+    requires number { length cert.now.prices.items ≡ length handles.now + 1 }
+    ensures verdict { IfOk result (λ verdict. Says (piece_cost geometry handles.now) limit (length handles.now)
+        cert.now.prices.items cert.now.answer verdict) }
+    ensures accepted { IfOk result (λ verdict. verdict ≡ Verdict.Accepted
+        → IsRight (piece_cost geometry handles.now) limit (length handles.now) cert.now.answer) }
+    ensures hold { IfOk result (λ verdict. verdict ≡ Verdict.Accepted
+        → Hold (piece_cost geometry handles.now) limit (length handles.now) cert.now.prices.items) }
+    ensures opening { OnErr result (price cert.now.prices.items 0 ≡ Some 0) }
+    ensures grows { OnErr result (0 < length handles.now) }
+{
+    let Some(0) = cert.prices[0] else {
+        return Ok(Verdict::Refused(Reason::OpeningPrice));
+    };
+    match first_undercut(alloc, handles, geometry, limit, &cert.prices, watch)? {
+        Some((from, to)) => Ok(Verdict::Refused(Reason::Undercut(from, to))),
+        None => check_answer(alloc, handles, geometry, limit, cert, watch),
+    }
+}
+
+/// Checks the answer of a certificate whose prices no group undercuts.
+fn check_answer<W: Watch>(
+    alloc: Global,
+    handles: &[Stopped],
+    geometry: Geometry,
+    limit: u32,
+    cert: &Cert,
+    watch: &mut W,
 ) -> Result<Verdict, Memory>
     requires size { IsWithinSize handles.now }
     requires number { length cert.now.prices.items ≡ length handles.now + 1 }
@@ -70,7 +100,7 @@ fn check_answer(
     let end_price = cert.prices[handles.len()];
     match (&cert.answer, end_price) {
         (CertAnswer::Cut { bounds, total }, _) => check_cut(
-            alloc, handles, geometry, limit, end_price, bounds, *total,
+            alloc, handles, geometry, limit, end_price, bounds, *total, watch,
         ),
         (CertAnswer::NoCut, None) => Ok(Verdict::Accepted),
         (CertAnswer::NoCut, Some(_)) => Ok(Verdict::Refused(Reason::EndPrice)),
@@ -78,7 +108,7 @@ fn check_answer(
 }
 
 /// Checks a claimed cut and its total against the last price.
-fn check_cut(
+fn check_cut<W: Watch>(
     alloc: Global,
     handles: &[Stopped],
     geometry: Geometry,
@@ -86,6 +116,7 @@ fn check_cut(
     end_price: Option<u64>,
     bounds: &[usize],
     total: u64,
+    watch: &mut W,
 ) -> Result<Verdict, Memory>
     requires size { IsWithinSize handles.now }
     ensures grows { OnErr result (0 < length handles.now) }
@@ -95,7 +126,7 @@ fn check_cut(
     if !is_cut(bounds, handles.len()) {
         return Ok(Verdict::Refused(Reason::NotACut));
     }
-    match sum_of(alloc, handles, geometry, limit, bounds)? {
+    match sum_of(alloc, handles, geometry, limit, bounds, watch)? {
         Sum::Over(from, to) => Ok(Verdict::Refused(Reason::OverLimit(from, to))),
         Sum::Within(sum) if sum != u128::from(total) => Ok(Verdict::Refused(Reason::TotalDiffers)),
         Sum::Within(_) if end_price != Some(total) => Ok(Verdict::Refused(Reason::EndPrice)),

@@ -12,7 +12,7 @@ mod read;
 mod verdict;
 
 pub use certificate::{Cert, CertAnswer};
-pub use checker::check;
+pub use checker::{check, check_watched};
 pub use fault::CertFault;
 pub use print::print_cert;
 pub use read::read_cert;

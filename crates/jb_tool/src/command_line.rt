@@ -3,6 +3,7 @@ ghost use Rattle.jb_args.specs.Faults.{fault_kinds, kind_of};
 ghost use Rattle.jb_args.specs.PlainCommand.Asked.{AsksCost};
 ghost use Rattle.jb_args.specs.Command.{wanted_in};
 ghost use Rattle.jb_args.specs.declared.settings.AnswerForm.TheVariants.{Text};
+ghost use Rattle.jb_args.specs.declared.settings.Details.TheVariants.{Hidden};
 ghost use Rattle.jb_text.specs.Puts.{PutsPart};
 ghost use Rattle.jb_commands.specs.Ends.{of_fault, with_status};
 ghost use Rattle.jb_commands.specs.Runs.{Closes, Runs};
@@ -25,7 +26,8 @@ use std::time::Clock;
 
 /// Runs `jb` with these words, the program's name left out, and gives its end. With no words it acts as
 /// `jb cost -`. Words that are no command are answered by clap's text: status 2 and `err`, or status 0 and `out` for
-/// help and the version. The words have no settings among them any more. `input` is read by a command whose text it
+/// help and the version. The words have no settings among them any more. What is found of the files is said on `notes`,
+/// where the settings ask for it. `input` is read by a command whose text it
 /// is, and else left as it is.
 pub fn run<
     R: Files<File = File> + AllocGlobal + Threads + Wait + Clock + Sync,
@@ -33,7 +35,16 @@ pub fn run<
     I: Read,
     O: Write,
     E: Write,
->(rt: &R, words: &[S], settings: Settings, input: &mut I, out: &mut O, err: &mut E) -> ProgramEnd
+    N: Write,
+>(
+    rt: &R,
+    words: &[S],
+    settings: Settings,
+    input: &mut I,
+    out: &mut O,
+    err: &mut E,
+    notes: &mut N,
+) -> ProgramEnd
     /// Without words, the same of `cost -`.
     ensures bare { words.now ≡ [] → Runs settings.form (AsksCost (codes "-")) (I.remaining input.old)
         (record { out = O.contents out.old; err = E.contents err.old })
@@ -55,13 +66,23 @@ pub fn run<
         (record { out = O.contents out.new; err = E.contents err.new }) result }
     ensures unread { words.now ≢ [] → IfSome (wanted_in (map S.text words.now)) (λ wanted. wants_input wanted ≡ false)
         → input.new ≡ input.old }
+    /// Where no details are asked for, nothing is said of what was found.
+    ensures silent { settings.details ≡ Hidden → N.contents notes.new ≡ N.contents notes.old }
 {
     if words.is_empty() {
-        return run_plain(rt, Plain::Cost { file: "-" }, settings, input, out, err);
+        return run_plain(
+            rt,
+            Plain::Cost { file: "-" },
+            settings,
+            input,
+            out,
+            err,
+            notes,
+        );
     }
     match parse(rt.alloc(), words) {
-        Ok(CommandLine::Plain(plain)) => run_plain(rt, plain, settings, input, out, err),
-        Ok(CommandLine::Load(load)) => run_load(rt, load, settings, input, out, err),
+        Ok(CommandLine::Plain(plain)) => run_plain(rt, plain, settings, input, out, err, notes),
+        Ok(CommandLine::Load(load)) => run_load(rt, load, settings, input, out, err, notes),
         Ok(CommandLine::Completions { shell }) => run_completions(
             rt.alloc(),
             shell,

@@ -6,6 +6,7 @@ mod command_line;
 mod completing;
 mod hints;
 mod load_command;
+mod load_options;
 mod load_report;
 mod loading;
 mod own_homes;

@@ -1,19 +1,21 @@
 //! `jb load`: the handles of a queue text, run by threads and committed to an image.
-ghost use Rattle.std.specs.Prelude.{◌≡◌, ◌≤◌, ◌↔◌, IsSome, IfSome, false, option_map};
+ghost use Rattle.std.specs.Prelude.{◌≡◌, ◌≤◌, false, option_map};
 ghost use Rattle.jb_commands.specs.ListText.{reads_list};
 ghost use Rattle.jb_queue.specs.QueueLines.{queue_in};
 ghost use Rattle.jb_args.specs.Command.{load_said};
-ghost use Rattle.jb_tool.specs.Load.{EndsOfLoad, HasThreads, AreOptionsOf, LoadsApart, LoadsQueue, LoadsText};
-ghost use Rattle.jb_tool.specs.Load.{JudgesLoad, LoadsOpened, RunsLoad};
+ghost use Rattle.jb_args.specs.declared.settings.Details.TheVariants.{Hidden};
+ghost use Rattle.jb_commands.specs.Notes.{noted};
+ghost use Rattle.jb_tool.specs.Load.{EndsOfLoad, JudgesLoad, LoadsApart, LoadsOpened, LoadsQueue, LoadsText, RunsLoad};
 
+use crate::load_options::load_options;
 use crate::load_report::{LoadDone, LoadReport, fault_of};
 use crate::own_homes::own_touched;
 use crate::{LoadOptions, load_on};
-use jb_args::{AnswerForm, LoadWords, OptionName, Settings};
+use jb_args::{LoadWords, OptionName, Settings};
 use jb_block::Stamp;
 use jb_commands::{
-    CommandFault, Opening, ProgramEnd, TwoFiles, close, fault_answer, judge_on, open_placed,
-    read_file,
+    CommandFault, Opening, ProgramEnd, QueueNote, TwoFiles, close, error_terminal, fault_answer,
+    judge_on, note_opened, note_queue, open_placed, read_file,
 };
 use jb_disk::{Disk, FileDisk, FixedClock, Start, Unknown};
 use jb_image::{ExtentsFault, ImageDisk, JournalUse};
@@ -27,9 +29,6 @@ use std::sync::Wait;
 use std::thread::Threads;
 use std::time::Clock;
 
-/// The most threads that may run the handles.
-const MOST_THREADS: u64 = 64;
-
 /// Runs `jb load` and gives the program's end; a load that ends without an answer has its line on `err`,
 /// or in JSON the same.
 pub(crate) fn run_load<
@@ -37,6 +36,7 @@ pub(crate) fn run_load<
     I: Read,
     O: Write,
     E: Write,
+    N: Write,
 >(
     rt: &R,
     load: LoadWords<'_>,
@@ -44,13 +44,15 @@ pub(crate) fn run_load<
     input: &mut I,
     out: &mut O,
     err: &mut E,
+    notes: &mut N,
 ) -> ProgramEnd
     ensures runs { RunsLoad settings.form (load_said load.entry) (I.remaining input.old)
         (record { out = O.contents out.old; err = E.contents err.old })
         (record { out = O.contents out.new; err = E.contents err.new }) result }
     ensures unread { reads_list (load_said load.entry).extents ≡ false → input.new ≡ input.old }
+    ensures silent { settings.details ≡ Hidden → N.contents notes.new ≡ N.contents notes.old }
 {
-    let done = load_files::<Unknown, Unknown, R, I>(rt, load, settings.form, input);
+    let done = load_files::<Unknown, Unknown, R, I, N>(rt, load, settings, input, notes);
     let told = done.tell(settings.form, out, err);
     let files = TwoFiles::of(load.image, load.journal);
     close(settings.form, told, files, err)
@@ -69,16 +71,25 @@ pub fn load_files<
     T: Start + Send,
     R: Files<File = File> + AllocGlobal + Threads + Wait + Clock + Sync,
     I: Read,
->(rt: &R, load: LoadWords<'a>, form: AnswerForm, input: &mut I) -> LoadDone<'a, S, T>
+    N: Write,
+>(
+    rt: &R,
+    load: LoadWords<'a>,
+    settings: Settings,
+    input: &mut I,
+    notes: &mut N,
+) -> LoadDone<'a, S, T>
     /// `load` over files, wherever the image has its journal: it was not opened; or nothing may be loaded to that file
     /// system's journal, the text is not there or is refused, or a handle touches a block of a journal within the
     /// image, and the image is as it was judged; or the queue was loaded and, if the files are honest, the groups that
     /// are counted are in its journal with the handles that stopped; or `load_on` has no answer, and nothing is said of
     /// what the image holds once its journal was opened. [But see](docs/WRONG_BODIES.md#loads).
-    ensures ends { EndsOfLoad form (load_said load.entry) (I.remaining input.old) result.image result.end }
+    ensures ends { EndsOfLoad settings.form (load_said load.entry) (I.remaining input.old) result.image result.end }
     ensures unread { reads_list (load_said load.entry).extents ≡ false → input.new ≡ input.old }
+    ensures silent { settings.details ≡ Hidden → N.contents notes.new ≡ N.contents notes.old }
 {
-    let Some(options) = load_options(load) else {
+    let terminal = error_terminal(rt, settings.progress);
+    let Some(options) = load_options(load, terminal.as_ref()) else {
         return LoadDone {
             image: None,
             end: Err(CommandFault::BadOption(OptionName::Threads)),
@@ -93,7 +104,18 @@ pub fn load_files<
         Checksums::Refused,
         input,
     ) {
-        Ok(opened) => load_opened(rt, load, form, opened.disk, opened.homes, options),
+        Ok(opened) => {
+            note_opened(settings, load.journal, load.extents, &opened, notes);
+            load_opened(
+                rt,
+                load,
+                settings,
+                opened.disk,
+                opened.homes,
+                options,
+                notes,
+            )
+        }
         Err(fault) => LoadDone {
             image: None,
             end: Err(fault),
@@ -110,20 +132,23 @@ fn load_opened<
     S: Start + Send,
     T: Start + Send,
     R: Files<File = File> + AllocGlobal + Threads + Wait + Clock + Sync,
+    N: Write,
 >(
     rt: &R,
     load: LoadWords<'a>,
-    form: AnswerForm,
+    settings: Settings,
     mut disk: ImageDisk<FileDisk<S>, FileDisk<T>>,
     homes: u64,
-    options: LoadOptions,
+    options: LoadOptions<'_>,
+    notes: &mut N,
 ) -> LoadDone<'a, S, T>
     requires threads { (1 ≤ options.threads) × (options.threads ≤ 64) }
-    ensures loads { LoadsOpened form (load_said load.entry) options homes disk result.image result.end }
+    ensures loads { LoadsOpened settings.form (load_said load.entry) options homes disk result.image result.end }
+    ensures silent { settings.details ≡ Hidden → N.contents notes.new ≡ N.contents notes.old }
 {
     let within = disk.is_within();
     match judge_load(&mut disk, load.journal, within) {
-        Ok(()) => load_text(rt, load, form, disk, homes, options),
+        Ok(()) => load_text(rt, load, settings, disk, homes, options, notes),
         Err(fault) => LoadDone {
             image: Some(disk),
             end: Err(fault),
@@ -160,16 +185,19 @@ fn load_text<
     S: Start + Send,
     T: Start + Send,
     R: Files<File = File> + AllocGlobal + Threads + Wait + Clock + Sync,
+    N: Write,
 >(
     rt: &R,
     load: LoadWords<'a>,
-    form: AnswerForm,
+    settings: Settings,
     disk: ImageDisk<FileDisk<S>, FileDisk<T>>,
     homes: u64,
-    options: LoadOptions,
+    options: LoadOptions<'_>,
+    notes: &mut N,
 ) -> LoadDone<'a, S, T>
     requires threads { (1 ≤ options.threads) × (options.threads ≤ 64) }
-    ensures loads { LoadsText form (load_said load.entry).file options homes disk result.image result.end }
+    ensures loads { LoadsText settings.form (load_said load.entry).file options homes disk result.image result.end }
+    ensures silent { settings.details ≡ Hidden → N.contents notes.new ≡ N.contents notes.old }
 {
     let text = match read_file(rt, load.file) {
         Ok(text) => text,
@@ -181,8 +209,11 @@ fn load_text<
         }
     };
     match read_lines(rt.alloc(), text) {
-        Ok(queue) => load_apart(rt, disk, homes, load.stamp, &queue, options),
-        Err(fault) => match fault_answer(rt.alloc(), form, fault) {
+        Ok(queue) => {
+            note_queue(settings, note_of(&queue), notes);
+            load_apart(rt, disk, homes, load.stamp, &queue, options)
+        }
+        Err(fault) => match fault_answer(rt.alloc(), settings.form, fault) {
             Ok(answer) => LoadDone {
                 image: Some(disk),
                 end: Ok(LoadReport::Text(answer)),
@@ -192,6 +223,18 @@ fn load_text<
                 end: Err(CommandFault::Memory),
             },
         },
+    }
+}
+
+/// What is said of a queue text.
+fn note_of(queue: &QueueLines) -> QueueNote
+    ensures { result ≡ noted (queue_in queue.now) }
+{
+    QueueNote {
+        handles: queue.len() as u64,
+        size: queue.bs,
+        width: queue.width,
+        limit: queue.limit,
     }
 }
 
@@ -205,7 +248,7 @@ fn load_apart<'a, S: Start + Send, T: Start + Send, R: AllocGlobal + Threads + W
     homes: u64,
     stamp: u64,
     queue: &QueueLines,
-    options: LoadOptions,
+    options: LoadOptions<'_>,
 ) -> LoadDone<'a, S, T>
     requires threads { (1 ≤ options.threads) × (options.threads ≤ 64) }
     ensures loads { LoadsApart options homes disk (queue_in queue.now) result.image result.end }
@@ -233,7 +276,7 @@ fn load_queue<'a, S: Start + Send, T: Start + Send, R: AllocGlobal + Threads + W
     homes: u64,
     stamp: u64,
     queue: &QueueLines,
-    options: LoadOptions,
+    options: LoadOptions<'_>,
 ) -> LoadDone<'a, S, T>
     requires threads { (1 ≤ options.threads) × (options.threads ≤ 64) }
     ensures loads { LoadsQueue options homes disk (queue_in queue.now) result.image result.end }
@@ -262,19 +305,4 @@ fn load_queue<'a, S: Start + Send, T: Start + Send, R: AllocGlobal + Threads + W
             end: Err(fault_of(fault)),
         },
     }
-}
-
-/// How the queue is to be loaded, or `None` where the number of threads is not from 1 to 64.
-fn load_options(load: LoadWords<'_>) -> Option<LoadOptions>
-    ensures good { IsSome result ↔ HasThreads (load_said load.entry) }
-    ensures asked { IfSome result (AreOptionsOf (load_said load.entry)) }
-{
-    if load.threads == 0 || load.threads > MOST_THREADS {
-        return None;
-    }
-    Some(LoadOptions {
-        threads: load.threads as usize,
-        hold: load.hold,
-        checkpoint: load.checkpoint,
-    })
 }

@@ -1,6 +1,7 @@
 //! The whole program over its words and its three streams, whatever they are.
 ghost use Rattle.std.specs.Prelude.{◌≡◌, MatchResult, None, map, true};
 ghost use Rattle.jb_args.specs.Settings.{second_part};
+ghost use Rattle.jb_args.specs.declared.settings.Details.TheVariants.{Hidden};
 ghost use Rattle.jb_text.specs.Puts.{PutsPart};
 ghost use Rattle.jb_commands.specs.Ends.{exit_status, of_fault};
 ghost use Rattle.jb_commands.specs.Faults.{line_of};
@@ -32,13 +33,14 @@ pub struct Terminals {
 /// Runs the program with these words, its name left out, or with the reason for which the system has not handed them
 /// over, and gives its exit status: what was answered, and as much of the second line after it as the settings and a
 /// terminal ask for. The settings are those that were given, as the words change them; a command has the words that are
-/// left.
+/// left. What is found of the files is said on `notes`, where the settings ask for it.
 pub fn run_program<
     R: Files<File = File> + AllocGlobal + Threads + Wait + Clock + Sync,
     S: AsStr,
     I: Read,
     O: Write,
     E: Write,
+    N: Write,
 >(
     rt: &R,
     words: Result<&[S], ErrorKind>,
@@ -47,6 +49,7 @@ pub fn run_program<
     input: &mut I,
     out: &mut O,
     err: &mut E,
+    notes: &mut N,
 ) -> u8
     /// The whole program, over any words and streams: its status is that of the answer, or a finer one where the
     /// settings ask for it, both outputs are as the answer has left them, and the second line of its hint follows, as
@@ -59,9 +62,22 @@ pub fn run_program<
         (λ kind. RefusesKind kind old new ended))
         (record { out = O.contents out.old; err = E.contents err.old })
         (record { out = O.contents out.new; err = E.contents err.new }) result }
+    /// Where neither the words nor what is given ask for details, nothing is said of what was found; so it is after
+    /// `-q`, unless `-v` comes after that.
+    ensures silent { (settings_given (λ w. map S.text w.now) given words.entry).details ≡ Hidden
+        → N.contents notes.new ≡ N.contents notes.old }
 {
     let settings = settings_of(given, words);
-    let ended = answered(rt, words, settings, terminals.input, input, out, err);
+    let ended = answered(
+        rt,
+        words,
+        settings,
+        terminals.input,
+        input,
+        out,
+        err,
+        notes,
+    );
     finish(ended, settings, terminals.err, err)
 }
 
@@ -109,6 +125,7 @@ fn answered<
     I: Read,
     O: Write,
     E: Write,
+    N: Write,
 >(
     rt: &R,
     words: Result<&[S], ErrorKind>,
@@ -117,6 +134,7 @@ fn answered<
     input: &mut I,
     out: &mut O,
     err: &mut E,
+    notes: &mut N,
 ) -> ProgramEnd
     ensures answers { MatchResult words.entry
         (λ words. AnswersGiven settings.form (map S.text words.now) at_terminal (I.remaining input.old)
@@ -125,9 +143,19 @@ fn answered<
         (λ kind. RefusesKind kind
         (record { out = O.contents out.old; err = E.contents err.old })
         (record { out = O.contents out.new; err = E.contents err.new }) result) }
+    ensures silent { settings.details ≡ Hidden → N.contents notes.new ≡ N.contents notes.old }
 {
     match words {
-        Ok(words) => answered_given(rt, words, settings, at_terminal, input, out, err),
+        Ok(words) => answered_given(
+            rt,
+            words,
+            settings,
+            at_terminal,
+            input,
+            out,
+            err,
+            notes,
+        ),
         Err(kind) => refuse_words(kind, err),
     }
 }
@@ -139,6 +167,7 @@ fn answered_given<
     I: Read,
     O: Write,
     E: Write,
+    N: Write,
 >(
     rt: &R,
     words: &[S],
@@ -147,13 +176,24 @@ fn answered_given<
     input: &mut I,
     out: &mut O,
     err: &mut E,
+    notes: &mut N,
 ) -> ProgramEnd
     ensures answers { AnswersGiven settings.form (map S.text words.now) at_terminal (I.remaining input.old)
         (record { out = O.contents out.old; err = E.contents err.old })
         (record { out = O.contents out.new; err = E.contents err.new }) result }
+    ensures silent { settings.details ≡ Hidden → N.contents notes.new ≡ N.contents notes.old }
 {
     match words_left(rt.alloc(), words) {
-        Ok(left) => answered_words(rt, left.as_slice(), settings, at_terminal, input, out, err),
+        Ok(left) => answered_words(
+            rt,
+            left.as_slice(),
+            settings,
+            at_terminal,
+            input,
+            out,
+            err,
+            notes,
+        ),
         Err(_) => out_of_memory(err),
     }
 }
@@ -164,6 +204,7 @@ fn answered_words<
     I: Read,
     O: Write,
     E: Write,
+    N: Write,
 >(
     rt: &R,
     words: &[&str],
@@ -172,15 +213,17 @@ fn answered_words<
     input: &mut I,
     out: &mut O,
     err: &mut E,
+    notes: &mut N,
 ) -> ProgramEnd
     ensures answers { AnswersWords settings.form (map (λ word. word.now) words.now) at_terminal (I.remaining input.old)
         (record { out = O.contents out.old; err = E.contents err.old })
         (record { out = O.contents out.new; err = E.contents err.new }) result }
+    ensures silent { settings.details ≡ Hidden → N.contents notes.new ≡ N.contents notes.old }
 {
     if at_terminal && words.is_empty() {
         return help(rt.alloc(), err);
     }
-    run(rt, words, settings, input, out, err)
+    run(rt, words, settings, input, out, err, notes)
 }
 
 /// Writes the short help, as clap does where words are missing, and gives the end of the program.

@@ -64,6 +64,7 @@ fn found_after<R: Loads>(
         threads: 1,
         hold: case.hold,
         checkpoint: case.checkpoint,
+        terminal: None,
     };
     let fails = if case.is_once {
         Fails::Once(call)

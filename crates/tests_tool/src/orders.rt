@@ -55,6 +55,7 @@ fn check_order(rt: &impl Loads, alloc: Global, threads: usize, hold: bool, check
         threads,
         hold,
         checkpoint,
+        terminal: None,
     };
     let disk = formatted(rt, alloc, 6, 1);
     let (mut disk, answer) = load_lent(
@@ -167,6 +168,7 @@ fn check_waits(rt: &impl Loads, alloc: Global, row: &Waits, at: usize) {
         threads: row.threads,
         hold: row.hold,
         checkpoint: true,
+        terminal: None,
     };
     let text = writers(rt, alloc, row.handles, row.more);
     let disk = formatted(rt, alloc, 0, 1);

@@ -52,7 +52,7 @@ fn load<D: Disk + Drop + Send, R: Loads>(
     alloc: Global,
     disk: D,
     text: &str,
-    options: LoadOptions,
+    options: LoadOptions<'_>,
 ) -> Result<Loaded, LoadFault> {
     let bytes = text.as_bytes().to_vec(alloc).expect(rt, "memory");
     let queue = read_lines(alloc, bytes).expect(rt, "the queue");
@@ -72,7 +72,7 @@ pub fn load_lent<R: Loads>(
     fails: Fails,
     slow: Duration,
     text: &str,
-    options: LoadOptions,
+    options: LoadOptions<'_>,
 ) -> (MemoryDisk, Result<Loaded, LoadFault>) {
     let disk = Mutex::new(disk);
     let answer = load(

@@ -9,22 +9,25 @@ use std::alloc::Global;
 use std::time::Duration;
 
 /// One worker, which ends before anything is committed.
-const HELD: LoadOptions = LoadOptions {
+const HELD: LoadOptions<'static> = LoadOptions {
     threads: 1,
     hold: true,
     checkpoint: false,
+    terminal: None,
 };
 
-const CHECKPOINTED: LoadOptions = LoadOptions {
+const CHECKPOINTED: LoadOptions<'static> = LoadOptions {
     threads: 1,
     hold: true,
     checkpoint: true,
+    terminal: None,
 };
 
-const BY_TWO: LoadOptions = LoadOptions {
+const BY_TWO: LoadOptions<'static> = LoadOptions {
     threads: 2,
     hold: true,
     checkpoint: false,
+    terminal: None,
 };
 
 const FOUR_HOMES: [u8; HOMES] = [
@@ -42,7 +45,7 @@ const THREE_HOMES: [u8; HOMES] = [
 /// transactions and copies recovery finds then; and the homes.
 type Row = (
     (u32, u32),
-    (&'static str, LoadOptions),
+    (&'static str, LoadOptions<'static>),
     (&'static str, &'static str),
     (u32, u32),
     [u8; HOMES],

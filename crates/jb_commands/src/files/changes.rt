@@ -6,6 +6,7 @@ ghost use Rattle.jb_image.specs.Files.{as_disks};
 ghost use Rattle.jb_image.specs.Images.{is_within};
 ghost use Rattle.jb_image.specs.declared.judging.JournalUse.TheVariants.{RecoverInPlace};
 ghost use Rattle.jb_super.specs.declared.checked.Checksums.TheVariants.{Refused};
+ghost use Rattle.jb_args.specs.declared.settings.Details.TheVariants.{Hidden};
 ghost use Rattle.jb_commands.specs.ChangePlace.{ChangesOpened, EndsOfChange};
 ghost use Rattle.jb_commands.specs.JournalPlace.{JudgesBeside};
 ghost use Rattle.jb_commands.specs.ListText.{reads_list};
@@ -14,16 +15,18 @@ ghost use Rattle.jb_commands.specs.declared.report.Report.TheVariants.{Widened a
 
 use crate::command_end::CommandEnd;
 use crate::fault::CommandFault;
+use crate::files::noted::note_opened;
 use crate::files::opening::Opening;
 use crate::files::placed::open_placed;
 use crate::files::recovered::judge_beside;
 use crate::report::Report;
 use crate::streams::{renumber_on, widen_on};
+use jb_args::Settings;
 use jb_disk::{Disk, Start};
 use jb_image::{ImageDisk, JournalUse};
 use jb_super::Checksums;
 use std::fs::File;
-use std::io::Read;
+use std::io::{Read, Write};
 use std::rt::Files;
 
 /// Gives the clean journal of the image of this name its first number again. Where the journal is not at its front, the
@@ -31,11 +34,13 @@ use std::rt::Files;
 ///
 /// # Errors
 /// Those of `open_placed`, of `judge_on` and of `renumber_on`.
-pub fn renumber_file<'a, S: Start, T: Start, R: Files<File = File> + AllocGlobal, I: Read>(
+pub fn renumber_file<'a, S: Start, T: Start, R: Files<File = File> + AllocGlobal, I: Read, N: Write>(
     rt: &R,
     image: &'a str,
     extents: Option<&'a str>,
+    settings: Settings,
     input: &mut I,
+    notes: &mut N,
 ) -> CommandEnd<'a, S, T>
     /// `renumber` over a file: the image was not opened (by its first bytes or with the given extents, as `recover`
     /// opens it); or, if it is honest, its journal has its first number again, also after a crash meanwhile, and where
@@ -44,6 +49,7 @@ pub fn renumber_file<'a, S: Start, T: Start, R: Files<File = File> + AllocGlobal
     ensures ends { EndsOfChange Renumbers IsRenumbering RenumbersAs ReportsRenumbered image.entry.now
         (option_map (λ word. word.now) extents.entry) (I.remaining input.old) result.image result.end }
     ensures unread { reads_list (option_map (λ word. word.now) extents.entry) ≡ false → input.new ≡ input.old }
+    ensures silent { settings.details ≡ Hidden → N.contents notes.new ≡ N.contents notes.old }
 {
     match open_placed(
         rt,
@@ -55,6 +61,7 @@ pub fn renumber_file<'a, S: Start, T: Start, R: Files<File = File> + AllocGlobal
         input,
     ) {
         Ok(mut opened) => {
+            note_opened(settings, None, extents, &opened, notes);
             let end = renumber_opened(&mut opened.disk);
             CommandEnd {
                 image: Some(opened.disk),
@@ -72,17 +79,20 @@ pub fn renumber_file<'a, S: Start, T: Start, R: Files<File = File> + AllocGlobal
 ///
 /// # Errors
 /// Those of `open_placed`, of `judge_on` and of `widen_on`.
-pub fn widen_file<'a, S: Start, T: Start, R: Files<File = File> + AllocGlobal, I: Read>(
+pub fn widen_file<'a, S: Start, T: Start, R: Files<File = File> + AllocGlobal, I: Read, N: Write>(
     rt: &R,
     image: &'a str,
     extents: Option<&'a str>,
+    settings: Settings,
     input: &mut I,
+    notes: &mut N,
 ) -> CommandEnd<'a, S, T>
     /// `widen` over a file does with the journal's revoke width what `renumber` does with its number. [But
     /// see](docs/WRONG_BODIES.md#readers-writers-and-files).
     ensures ends { EndsOfChange Widens IsWidened WidensAs ReportsWidened image.entry.now
         (option_map (λ word. word.now) extents.entry) (I.remaining input.old) result.image result.end }
     ensures unread { reads_list (option_map (λ word. word.now) extents.entry) ≡ false → input.new ≡ input.old }
+    ensures silent { settings.details ≡ Hidden → N.contents notes.new ≡ N.contents notes.old }
 {
     match open_placed(
         rt,
@@ -94,6 +104,7 @@ pub fn widen_file<'a, S: Start, T: Start, R: Files<File = File> + AllocGlobal, I
         input,
     ) {
         Ok(mut opened) => {
+            note_opened(settings, None, extents, &opened, notes);
             let end = widen_opened(&mut opened.disk);
             CommandEnd {
                 image: Some(opened.disk),

@@ -1,12 +1,13 @@
 //! `jb dump` in either form.
 ghost use Rattle.std.specs.Prelude.{◌≡◌, false};
 ghost use Rattle.jb_args.specs.PlainCommand.{dump_said};
+ghost use Rattle.jb_args.specs.declared.settings.Details.TheVariants.{Hidden};
 ghost use Rattle.jb_commands.specs.Dump.{reads_dump};
 ghost use Rattle.jb_commands.specs.DumpForm.{EndsOfDumpIn, TellsEntries, in_memory as ends_in_memory};
 
 use crate::fault::CommandFault;
 use crate::files::journals::dump_named;
-use jb_args::{AnswerForm, DumpOptions, ProgressLine};
+use jb_args::{AnswerForm, DumpOptions, Settings};
 use jb_disk::Start;
 use jb_json::put_entries;
 use std::fs::File;
@@ -26,28 +27,32 @@ pub(crate) fn dump_in<
     R: Files<File = File> + AllocGlobal + Clock,
     I: Read,
     O: Write,
+    N: Write,
 >(
     rt: &R,
     name: &'a str,
     options: DumpOptions<'a>,
-    form: AnswerForm,
-    shown: ProgressLine,
+    settings: Settings,
     input: &mut I,
     out: &mut O,
+    notes: &mut N,
 ) -> Result<u8, CommandFault<'a>>
-    ensures ends { EndsOfDumpIn S.Start T.Start form (dump_said options.entry) name.entry.now (I.remaining input.old)
+    ensures ends { EndsOfDumpIn S.Start T.Start settings.form (dump_said options.entry) name.entry.now (I.remaining input.old)
         (O.contents out.old) (O.contents out.new) result }
     ensures unread { reads_dump name.entry.now (dump_said options.entry) ≡ false → input.new ≡ input.old }
+    ensures silent { settings.details ≡ Hidden → N.contents notes.new ≡ N.contents notes.old }
 {
-    match form {
-        AnswerForm::Text => dump_named::<S, T, R, I, O>(rt, name, options, shown, input, out),
+    match settings.form {
+        AnswerForm::Text => dump_named::<S, T, R, I, O, N>(rt, name, options, settings, input, out, notes),
         AnswerForm::Json => {
             let mut text = Vec::new(rt.alloc());
             let lines = DumpOptions {
                 drawn: false,
                 ..options
             };
-            let done = dump_named::<S, T, R, I, Vec<u8>>(rt, name, lines, shown, input, &mut text);
+            let done = dump_named::<S, T, R, I, Vec<u8>, N>(
+                rt, name, lines, settings, input, &mut text, notes,
+            );
             tell_entries(done, text.as_slice(), out)
         }
     }

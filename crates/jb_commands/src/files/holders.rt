@@ -3,6 +3,7 @@
 //! What they say was so a moment ago: a file system may have been unmounted since, and a process may have ended. A
 //! mount is found by the device that is mounted alone, so none of a file by a loop device.
 
+use jb_image::device_numbers;
 use jb_text::number;
 use std::alloc::Global;
 use std::fs;
@@ -40,7 +41,7 @@ pub(crate) fn mount_point<R: Files<File = File> + AllocGlobal>(
     if !metadata.file_type().is_block_device() {
         return None;
     }
-    let (major, minor) = numbers_of(metadata.rdev());
+    let (major, minor) = device_numbers(metadata.rdev());
     let device = format!(in rt.alloc(); "{major}:{minor}").ok()?;
     let mounts = fs::read(rt, MOUNTS).ok()?;
     first_point(rt.alloc(), mounts.as_slice(), device.as_bytes())
@@ -54,7 +55,7 @@ pub(crate) fn locking_process<R: Files<File = File> + AllocGlobal>(
     name: &str,
 ) -> Option<u64> {
     let metadata = fs::metadata(rt, name).ok()?;
-    let (major, minor) = numbers_of(metadata.dev());
+    let (major, minor) = device_numbers(metadata.dev());
     let inode = metadata.ino();
     let file = format!(in rt.alloc(); "{major:02x}:{minor:02x}:{inode}").ok()?;
     let locks = fs::read(rt, LOCKS).ok()?;
@@ -94,11 +95,4 @@ fn word_at(line: &[u8], place: usize) -> &[u8] {
         }
     }
     &[]
-}
-
-/// The two numbers of a device, of the one number that `stat` gives.
-fn numbers_of(device: u64) -> (u64, u64) {
-    let major = (device >> 8) & 0xFFF | (device >> 32) & 0xFFFF_F000;
-    let minor = device & 0xFF | (device >> 12) & 0xFFFF_FF00;
-    (major, minor)
 }

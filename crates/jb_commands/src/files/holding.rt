@@ -1,13 +1,16 @@
 //! Who has a file that is in use, in words, where the system says it.
+ghost use Rattle.std.specs.Prelude.{◌≡◌, ◌++◌, IfSome, map};
+ghost use Rattle.jb_text.specs.TextParts.{spelled};
+ghost use Rattle.jb_args.specs.Advice.{words_in};
+ghost use Rattle.jb_commands.specs.Lines.{shown_name};
 
 use crate::files::holders::{locking_process, mount_point};
-use crate::streams::put_shown;
-use arrayvec::ArrayVec;
-use jb_args::{HOLDER_TEXT, Holder};
-use jb_text::{part, put, put_parts};
-use std::fs;
+use crate::streams::shown_between;
+use jb_args::Holder;
+use jb_text::part;
 use std::fs::File;
 use std::rt::Files;
+use std::{fs, str};
 
 /// Where the block device of this name is mounted.
 pub(crate) fn mount_of<R: Files<File = File> + AllocGlobal>(rt: &R, name: &str) -> Option<Holder> {
@@ -25,11 +28,15 @@ pub(crate) fn locker_of<R: Files<File = File> + AllocGlobal>(rt: &R, name: &str)
     words_of(&["locked by process ", digits.as_str(), " ("], command, ")")
 }
 
-/// A holder of these words, this name as it is shown, and these words behind it.
-fn words_of(words: &[&str], name: &[u8], behind: &str) -> Option<Holder> {
-    let mut text: ArrayVec<u8, HOLDER_TEXT> = ArrayVec::new();
-    put_parts(&mut text, words).ok()?;
-    put_shown(&mut text, name).ok()?;
-    put(&mut text, behind.as_bytes()).ok()?;
-    Holder::new(text.as_slice())
+/// A holder of these words, this name as it is shown, and these words behind it; `None` where they are too long, or the
+/// name is no text.
+fn words_of(words: &[&str], name: &[u8], behind: &str) -> Option<Holder>
+    ensures { IfSome result (λ holder. words_in holder
+        ≡ spelled (map (λ word. word.now) words.now) ++ (shown_name name.now ++ behind.now)) }
+{
+    let line = shown_between(words, name, behind)?;
+    if str::from_utf8(line.as_slice()).is_err() {
+        return None;
+    }
+    Holder::new(line.as_slice())
 }

@@ -1,6 +1,7 @@
 //! Home blocks of images, as recovery would leave them.
 ghost use Rattle.std.specs.Prelude.{◌≡◌, false};
 ghost use Rattle.jb_args.specs.PlainCommand.{cat_said};
+ghost use Rattle.jb_args.specs.declared.settings.Details.TheVariants.{Hidden};
 ghost use Rattle.jb_image.specs.Files.{as_disks};
 ghost use Rattle.jb_commands.specs.JournalPlace.{EndsOfCat, ShowsAsked};
 ghost use Rattle.jb_commands.specs.ListText.{reads_list};
@@ -8,15 +9,16 @@ ghost use Rattle.jb_commands.specs.Watched.{watched};
 
 use crate::command_end::CommandEnd;
 use crate::fault::CommandFault;
+use crate::files::noted::note_opened;
 use crate::files::opened::OpenedImage;
 use crate::files::opening::Opening;
 use crate::files::placed::open_placed;
 use crate::files::recovered::checksums_of;
 use crate::files::watched::show_watched;
-use crate::progress::ShownProgress;
+use crate::progress::{ShownProgress, terminal_beside_text};
 use crate::report::{Report, status_end};
 use crate::streams::{ShownHomes, WatchedDisk};
-use jb_args::{CatOptions, ProgressLine};
+use jb_args::{CatOptions, Settings};
 use jb_disk::{Disk, Start};
 use jb_image::{ExtentsFault, ImageDisk};
 use std::alloc::Global;
@@ -37,19 +39,22 @@ pub fn cat_file<
     R: Files<File = File> + AllocGlobal + Clock,
     I: Read,
     O: Write,
+    N: Write,
 >(
     rt: &R,
     image: &'a str,
     options: CatOptions<'a>,
-    shown: ProgressLine,
+    settings: Settings,
     input: &mut I,
     out: &mut O,
+    notes: &mut N,
 ) -> CommandEnd<'a, S, T>
     /// `cat` over files: the same of the image, since it was opened, unless a home block that is asked for is the
     /// journal's own. [But see](docs/WRONG_BODIES.md#readers-writers-and-files).
     ensures ends { EndsOfCat image.entry.now (cat_said options.entry) (I.remaining input.old) (O.contents out.old)
         (O.contents out.new) result.image result.end }
     ensures unread { reads_list (cat_said options.entry).extents ≡ false → input.new ≡ input.old }
+    ensures silent { settings.details ≡ Hidden → N.contents notes.new ≡ N.contents notes.old }
 {
     match open_placed(
         rt,
@@ -61,8 +66,21 @@ pub fn cat_file<
         input,
     ) {
         Ok(opened) => {
+            note_opened(
+                settings,
+                options.journal,
+                options.extents,
+                &opened,
+                notes,
+            );
             let OpenedImage { disk, homes, .. } = opened;
-            let progress = ShownProgress::over_homes(rt, rt, shown, "jb cat", options.count);
+            let terminal = terminal_beside_text(rt, settings.progress);
+            let progress = ShownProgress::over_homes(
+                terminal.as_ref(),
+                rt,
+                "jb cat",
+                options.count,
+            );
             let done = show_opened(rt.alloc(), disk, homes, options, progress, out);
             CommandEnd {
                 image: Some(done.0),

@@ -1,6 +1,7 @@
 //! Journals whose text is written.
 ghost use Rattle.std.specs.Prelude.{◌≡◌, ◌&&◌, IfOk, None, Some, codes, false, not, option_map, true};
 ghost use Rattle.jb_args.specs.PlainCommand.{dump_said};
+ghost use Rattle.jb_args.specs.declared.settings.Details.TheVariants.{Hidden};
 ghost use Rattle.jb_ext.specs.declared.system.FileSystem.{FileSystem};
 ghost use Rattle.jb_commands.specs.Dump.{choice_of, is_given as is_told, is_placed as is_said};
 ghost use Rattle.jb_commands.specs.Dump.{is_unbegun as begins_not, reads_dump};
@@ -10,15 +11,16 @@ ghost use Rattle.jb_commands.specs.ListText.{reads_list};
 
 use crate::fault::CommandFault;
 use crate::files::found::system_of;
+use crate::files::noted::{note_front, note_opened};
 use crate::files::opening::Opening;
 use crate::files::placed::open_placed;
 use crate::files::recovered::checksums_of;
 use crate::files::searching::dump_opened;
 use crate::files::shut::FileFault;
 use crate::files::texts::unopened;
-use crate::progress::ShownProgress;
+use crate::progress::{ShownProgress, terminal_beside_text};
 use crate::streams::{dump_from, dump_watched};
-use jb_args::{DumpOptions, OptionName, ProgressLine};
+use jb_args::{DumpOptions, OptionName, Settings};
 use jb_block::Memory;
 use jb_disk::{Disk, Start};
 use jb_dump::DumpFilter;
@@ -44,22 +46,25 @@ pub(crate) fn dump_named<
     R: Files<File = File> + AllocGlobal + Clock,
     I: Read,
     O: Write,
+    N: Write,
 >(
     rt: &R,
     name: &'a str,
     options: DumpOptions<'a>,
-    shown: ProgressLine,
+    settings: Settings,
     input: &mut I,
     out: &mut O,
+    notes: &mut N,
 ) -> Result<u8, CommandFault<'a>>
     ensures ends { DumpsNamed S.Start T.Start (dump_said options.entry) name.entry.now (I.remaining input.old)
         (I.remaining input.new) (O.contents out.old) (O.contents out.new) result }
     ensures unread { reads_dump name.entry.now (dump_said options.entry) ≡ false → input.new ≡ input.old }
+    ensures silent { settings.details ≡ Hidden → N.contents notes.new ≡ N.contents notes.old }
 {
     if is_bare(options) {
         return Err(CommandFault::BadOption(OptionName::Ring));
     }
-    dump_chosen::<S, T, R, I, O>(rt, name, options, shown, input, out)
+    dump_chosen::<S, T, R, I, O, N>(rt, name, options, settings, input, out, notes)
 }
 
 /// The same where its options are good.
@@ -73,24 +78,27 @@ fn dump_chosen<
     R: Files<File = File> + AllocGlobal + Clock,
     I: Read,
     O: Write,
+    N: Write,
 >(
     rt: &R,
     name: &'a str,
     options: DumpOptions<'a>,
-    shown: ProgressLine,
+    settings: Settings,
     input: &mut I,
     out: &mut O,
+    notes: &mut N,
 ) -> Result<u8, CommandFault<'a>>
     ensures ends { DumpsChosen S.Start T.Start (dump_said options.entry) name.entry.now (I.remaining input.old)
         (I.remaining input.new) (O.contents out.old) (O.contents out.new) result }
     ensures unread { reads_dump name.entry.now (dump_said options.entry) ≡ false → input.new ≡ input.old }
+    ensures silent { settings.details ≡ Hidden → N.contents notes.new ≡ N.contents notes.old }
 {
     if is_placed(options) {
-        dump_placed::<S, T, R, I, O>(rt, name, options, shown, input, out)
+        dump_placed::<S, T, R, I, O, N>(rt, name, options, settings, input, out, notes)
     } else if name == "-" {
         dump_from(rt.alloc(), input, choice_of(options), out)
     } else {
-        dump_file::<S, T, R, I, O>(rt, name, options, shown, input, out)
+        dump_file::<S, T, R, I, O, N>(rt, name, options, settings, input, out, notes)
     }
 }
 
@@ -107,20 +115,23 @@ fn dump_file<
     R: Files<File = File> + AllocGlobal + Clock,
     I: Read,
     O: Write,
+    N: Write,
 >(
     rt: &R,
     name: &'a str,
     options: DumpOptions<'a>,
-    shown: ProgressLine,
+    settings: Settings,
     input: &mut I,
     out: &mut O,
+    notes: &mut N,
 ) -> Result<u8, CommandFault<'a>>
     ensures ends { DumpsFile S.Start T.Start (dump_said options.entry) name.entry.now (I.remaining input.old)
         (O.contents out.old) (O.contents out.new) result }
     ensures unread { reads_list (dump_said options.entry).extents ≡ false → input.new ≡ input.old }
+    ensures silent { settings.details ≡ Hidden → N.contents notes.new ≡ N.contents notes.old }
 {
     match File::open(rt, name) {
-        Ok(file) => dump_open::<S, T, R, I, O>(rt, file, name, options, shown, input, out),
+        Ok(file) => dump_open::<S, T, R, I, O, N>(rt, file, name, options, settings, input, out, notes),
         Err(error) => Err(unopened(name, error)),
     }
 }
@@ -137,26 +148,32 @@ fn dump_open<
     R: Files<File = File> + AllocGlobal + Clock,
     I: Read,
     O: Write,
+    N: Write,
 >(
     rt: &R,
     file: File,
     name: &'a str,
     options: DumpOptions<'a>,
-    shown: ProgressLine,
+    settings: Settings,
     input: &mut I,
     out: &mut O,
+    notes: &mut N,
 ) -> Result<u8, CommandFault<'a>>
     ensures ends { DumpsOpen S.Start T.Start (dump_said options.entry) name.entry.now (I.remaining input.old)
         (O.contents out.old) (O.contents out.new) result }
     ensures unread { reads_list (dump_said options.entry).extents ≡ false → input.new ≡ input.old }
+    ensures silent { settings.details ≡ Hidden → N.contents notes.new ≡ N.contents notes.old }
 {
-    let progress = ShownProgress::over_bytes(rt, rt, shown, "jb dump", len_of(&file));
+    let terminal = terminal_beside_text(rt, settings.progress);
+    let len = len_of(&file);
+    let progress = ShownProgress::over_bytes(terminal.as_ref(), rt, "jb dump", len);
     let (mut file, end) = dump_watched(rt.alloc(), file, progress, choice_of(options), out);
     if !is_unbegun(end) {
+        note_front(rt.alloc(), settings, &mut file, len, notes);
         return end;
     }
     match is_system(rt.alloc(), &mut file) {
-        Ok(true) => dump_placed::<S, T, R, I, O>(rt, name, options, shown, input, out),
+        Ok(true) => dump_placed::<S, T, R, I, O, N>(rt, name, options, settings, input, out, notes),
         Ok(false) => end,
         Err(_) => Err(CommandFault::Memory),
     }
@@ -182,17 +199,20 @@ fn dump_placed<
     R: Files<File = File> + AllocGlobal + Clock,
     I: Read,
     O: Write,
+    N: Write,
 >(
     rt: &R,
     name: &'a str,
     options: DumpOptions<'a>,
-    shown: ProgressLine,
+    settings: Settings,
     input: &mut I,
     out: &mut O,
+    notes: &mut N,
 ) -> Result<u8, CommandFault<'a>>
     ensures ends { DumpsPlaced S.Start T.Start (dump_said options.entry) name.entry.now (I.remaining input.old)
         (O.contents out.old) (O.contents out.new) result }
     ensures unread { reads_list (dump_said options.entry).extents ≡ false → input.new ≡ input.old }
+    ensures silent { settings.details ≡ Hidden → N.contents notes.new ≡ N.contents notes.old }
 {
     let (journal, extents) = (options.journal, options.extents);
     match open_placed::<S, T, R, I>(
@@ -205,10 +225,12 @@ fn dump_placed<
         input,
     ) {
         Ok(opened) => {
+            note_opened(settings, journal, extents, &opened, notes);
             let disk = opened.disk;
             let journal = disk.blocks().saturating_sub(opened.homes);
             let bytes = journal.saturating_mul(u64::from(disk.block_size().bytes()));
-            let progress = ShownProgress::over_bytes(rt, rt, shown, "jb dump", bytes);
+            let terminal = terminal_beside_text(rt, settings.progress);
+            let progress = ShownProgress::over_bytes(terminal.as_ref(), rt, "jb dump", bytes);
             dump_opened(rt.alloc(), disk, options, progress, out)
         }
         Err(fault) => Err(fault),

@@ -10,13 +10,15 @@ ghost use Rattle.jb_commands.specs.Options.{IsJournalLength};
 use crate::command_end::CommandEnd;
 use crate::fault::CommandFault;
 use crate::options::new_file;
+use crate::progress::{ShownProgress, error_terminal};
 use crate::report::Report;
-use jb_args::FormatOptions;
+use jb_args::{FormatOptions, ProgressLine};
 use jb_disk::Start;
-use jb_image::{ImageDisk, ImageFault, ImageGeometry, MakeFault, create_holding};
+use jb_image::{ImageDisk, ImageFault, ImageGeometry, MakeFault, create_watched};
 use jb_super::Super;
 use std::fs::File;
 use std::rt::Files;
+use std::time::Clock;
 
 /// The number of the system's error where a file is there already (`EEXIST`).
 const EXISTS: i32 = 17;
@@ -30,10 +32,11 @@ const EXISTS: i32 = 17;
 /// process makes it, another file has its name with `.jb-unfinished` after it, or the system refuses it, as where the
 /// disk has too little room; `CommandFault::NoLinks` where its file system has no links; `CommandFault::Memory` where
 /// memory ran out; `CommandFault::DeviceFault` where the journal was not written. There is no new file then.
-pub fn format_file<'a, S: Start, T: Start, R: Files<File = File> + AllocGlobal>(
+pub fn format_file<'a, S: Start, T: Start, R: Files<File = File> + AllocGlobal + Clock>(
     rt: &R,
     image: &'a str,
     options: FormatOptions<'_>,
+    shown: ProgressLine,
 ) -> CommandEnd<'a, S, T>
     /// `format`: no file is looked at where an option is bad; else the file was not made, or, if it is honest, the
     /// journal that was asked for is in it, and a crash meanwhile finds no block changed but block 0. [But
@@ -55,7 +58,7 @@ pub fn format_file<'a, S: Start, T: Start, R: Files<File = File> + AllocGlobal>(
             end: Err(CommandFault::Geometry),
         };
     };
-    make_file(rt, image, new, limit)
+    make_file(rt, image, new, limit, shown)
 }
 
 /// The most log blocks of a transaction of a new journal, or `None` where a journal may not have this many blocks.
@@ -80,17 +83,23 @@ fn limit_of(new: ImageGeometry) -> Option<u32>
 /// `CommandFault::CannotMake` where the file is there already, another process makes it, or the system refuses it;
 /// `CommandFault::NoLinks` where its file system has no links; `CommandFault::Memory` where memory ran out;
 /// `CommandFault::DeviceFault` where the journal was not written.
-fn make_file<'a, S: Start, T: Start, R: Files<File = File> + AllocGlobal>(
+fn make_file<'a, S: Start, T: Start, R: Files<File = File> + AllocGlobal + Clock>(
     rt: &R,
     name: &'a str,
     geometry: ImageGeometry,
     limit: u32,
+    shown: ProgressLine,
 ) -> CommandEnd<'a, S, T>
     requires geometry { MakesImage geometry }
     requires limit { limit ≡ new_limit_of geometry }
     ensures ends { EndsOfMaking name.entry.now geometry result.image result.end }
 {
-    match create_holding(rt, name, geometry) {
+    let terminal = error_terminal(rt, shown);
+    let bytes = geometry.len().unwrap_or(0);
+    let mut progress = ShownProgress::over_bytes(terminal.as_ref(), rt, "jb format", bytes);
+    let made = create_watched(rt, name, geometry, &mut progress);
+    progress.end();
+    match made {
         Ok(disk) => CommandEnd {
             image: Some(ImageDisk::One(disk)),
             end: Ok(Report::Formatted(limit)),

@@ -2,6 +2,7 @@
 ghost use Rattle.std.specs.Prelude.{◌≡◌, [], take, option_map, Some, None, IfErr, IfOk, IfSome};
 ghost use Rattle.jb_disk.specs.File.{IsMeasured, count_of, size_of_blocks};
 ghost use Rattle.jb_format.specs.Front.{homes_in};
+ghost use Rattle.jb_image.specs.Files.{as_files};
 ghost use Rattle.jb_image.specs.Pair.{back_disk, front_disk, joined_count, past_states};
 ghost use Rattle.jb_commands.specs.Files.{IsImageOpened, IsShut, SaysSuper};
 ghost use Rattle.jb_commands.specs.FoundWithin.{IsNotRead};
@@ -27,7 +28,7 @@ use std::{fs, io};
 /// How many bytes of a file are read as a superblock.
 const FRONT: usize = 1024;
 
-/// The image of this name as a disk, with the number of its home blocks: those after the journal's, as many as the
+/// The image of this name as a disk, with the number of its home blocks, and its superblock: the home blocks are those after the journal's, as many as the
 /// journal's first bytes say, and of a journal with block numbers of 32 bits 2^32 at most. The journal is the front of
 /// that file, or a file of its own. It has checksums only where these are allowed; they are not judged here.
 ///
@@ -44,13 +45,14 @@ pub fn open_counted<'a, S: Start, T: Start, R: Files<File = File> + AllocGlobal>
     journal: Option<&'a str>,
     opening: Opening,
     sums: Checksums,
-) -> Result<(ImageDisk<FileDisk<S>, FileDisk<T>>, u64), CommandFault<'a>>
+) -> Result<(ImageDisk<FileDisk<S>, FileDisk<T>>, u64, Super), CommandFault<'a>>
     ensures shut { IfErr result (IsShut name.entry.now (option_map (λ word. word.now) journal.entry)) }
     /// With `shut`: An image is opened in blocks of the size that its superblock says, as one file, or as two: a
     /// journal of exactly its superblock's blocks, and home blocks of the same size; its files were asked their lengths
     /// and nothing else. [But see](docs/WRONG_BODIES.md#readers-writers-and-files).
     ensures opened { IfOk result
         (λ opened. IsImageOpened (option_map (λ word. word.now) journal.entry) opened.0 opened.1) }
+    ensures super { IfOk result (λ opened. opened.1 ≡ homes_in opened.2 (as_files.count opened.0)) }
 {
     match journal {
         None => named(open_one(rt, name, opening, sums), name),
@@ -58,35 +60,38 @@ pub fn open_counted<'a, S: Start, T: Start, R: Files<File = File> + AllocGlobal>
     }
 }
 
-/// The file of this name as a disk with a journal at its front, and the number of its home blocks.
+/// The file of this name as a disk with a journal at its front, the number of its home blocks, and its superblock.
 fn open_one<S: Start, T: Start, R: Files<File = File> + AllocGlobal>(
     rt: &R,
     name: &str,
     opening: Opening,
     sums: Checksums,
-) -> Result<(ImageDisk<FileDisk<S>, FileDisk<T>>, u64), FileFault>
+) -> Result<(ImageDisk<FileDisk<S>, FileDisk<T>>, u64, Super), FileFault>
     ensures shut { IfErr result IsFileShut }
     ensures opened { IfOk result (λ opened. IsImageOpened None opened.0 opened.1) }
+    ensures super { IfOk result (λ opened. opened.1 ≡ homes_in opened.2 (as_files.count opened.0)) }
 {
     match open_front(rt, name, opening, sums) {
         Ok((disk, sb)) => {
             let (disk, homes) = counted(disk, &sb);
-            Ok((ImageDisk::One(disk), homes))
+            Ok((ImageDisk::One(disk), homes, sb))
         }
         Err(fault) => Err(fault),
     }
 }
 
-/// The file of this name as a disk after a journal in the file of the other name, and the number of its home blocks.
+/// The file of this name as a disk after a journal in the file of the other name, the number of its home blocks, and the
+/// journal's superblock.
 fn open_two<S: Start, T: Start, R: Files<File = File> + AllocGlobal>(
     rt: &R,
     name: &str,
     journal: &str,
     opening: Opening,
     sums: Checksums,
-) -> Result<(ImageDisk<FileDisk<S>, FileDisk<T>>, u64), PairFault>
+) -> Result<(ImageDisk<FileDisk<S>, FileDisk<T>>, u64, Super), PairFault>
     ensures shut { IfErr result IsPairShut }
     ensures opened { IfOk result (λ opened. IsImageOpened (Some journal.now) opened.0 opened.1) }
+    ensures super { IfOk result (λ opened. opened.1 ≡ homes_in opened.2 (as_files.count opened.0)) }
 {
     if are_same(rt, name, journal) {
         return Err(PairFault::SameFile);
@@ -95,7 +100,7 @@ fn open_two<S: Start, T: Start, R: Files<File = File> + AllocGlobal>(
         Ok((log, sb)) => match open_sized(rt, name, sb.block_size(), opening) {
             Ok(rest) => {
                 let (pair, homes) = paired(log, rest, &sb);
-                Ok((ImageDisk::Two(pair), homes))
+                Ok((ImageDisk::Two(pair), homes, sb))
             }
             Err(fault) => Err(PairFault::Homes(fault)),
         },
@@ -192,7 +197,7 @@ pub(crate) fn counted<D: Disk>(disk: D, sb: &Super) -> (D, u64)
 }
 
 /// How many home blocks are after the journal on a disk of this many blocks, and can be named in it.
-fn homes_after(sb: &Super, blocks: u64) -> u64
+pub(crate) fn homes_after(sb: &Super, blocks: u64) -> u64
     ensures { result ≡ homes_in sb.now blocks }
 {
     if blocks < u64::from(sb.maxlen()) {

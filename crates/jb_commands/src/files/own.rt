@@ -168,6 +168,7 @@ fn open_journal<S: Start, T: Start>(
             Ok(OpenedImage {
                 disk: ImageDisk::One(disk),
                 homes,
+                sb,
                 found: None,
             })
         }
@@ -216,6 +217,7 @@ fn open_own<S: Start, T: Start>(
             Ok(OpenedImage {
                 disk: ImageDisk::Within(whole),
                 homes,
+                sb,
                 found: Some(by),
             })
         }

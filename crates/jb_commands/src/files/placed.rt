@@ -1,7 +1,9 @@
 //! Images whose journal is at the front, in a file of its own, or within the home blocks.
 ghost use Rattle.std.specs.Prelude.{◌≡◌, false, option_map, None, Some, IfErr, IfOk};
 ghost use Rattle.jb_disk.specs.File.{IsMeasured, size_of_blocks};
+ghost use Rattle.jb_format.specs.Front.{homes_in};
 ghost use Rattle.jb_image.specs.Disks.{whole_disk};
+ghost use Rattle.jb_image.specs.Files.{as_files};
 ghost use Rattle.jb_image.specs.Lists.{AreDisjoint, extents_in, list_of};
 ghost use Rattle.jb_commands.specs.Files.{IsImageOpened, IsShut, SaysSuper};
 ghost use Rattle.jb_commands.specs.JournalPlace.{IsNoPlaceFor, IsOpenedAt, IsOpenedListed};
@@ -77,9 +79,10 @@ fn open_beside<'a, S: Start, T: Start, R: Files<File = File> + AllocGlobal>(
         × (image.found ≡ None)) }
 {
     match open_counted(rt, name, Some(journal), opening, sums) {
-        Ok((disk, homes)) => Ok(OpenedImage {
+        Ok((disk, homes, sb)) => Ok(OpenedImage {
             disk,
             homes,
+            sb,
             found: None,
         }),
         Err(fault) => Err(fault),
@@ -106,10 +109,11 @@ fn open_compared<'a, S: Start, T: Start, R: Files<File = File> + AllocGlobal, I:
     ensures unread { is_input (list_file word.entry.now) ≡ false → input.new ≡ input.old }
 {
     match open_listed(rt, name, word, opening, sums, input) {
-        Ok((image, homes)) => match compare_own(rt.alloc(), image, sums) {
+        Ok((image, homes, sb)) => match compare_own(rt.alloc(), image, sums) {
             Ok(disk) => Ok(OpenedImage {
                 disk,
                 homes,
+                sb,
                 found: None,
             }),
             Err(fault) => Err(fault),
@@ -118,8 +122,8 @@ fn open_compared<'a, S: Start, T: Start, R: Files<File = File> + AllocGlobal, I:
     }
 }
 
-/// The file of this name as a disk whose journal is in the blocks of a list, and the number of its home blocks: as
-/// `open_within`, with the list that a word is, or names.
+/// The file of this name as a disk whose journal is in the blocks of a list, the number of its home blocks, and the
+/// journal's superblock: as `open_within`, with the list that a word is, or names.
 ///
 /// # Errors
 /// Those of `open_within`, and those of `read_text` for the list.
@@ -130,9 +134,10 @@ fn open_listed<'a, S: Start, T: Start, R: Files<File = File> + AllocGlobal, I: R
     opening: Opening,
     sums: Checksums,
     input: &mut I,
-) -> Result<(ImageDisk<FileDisk<S>, FileDisk<T>>, u64), CommandFault<'a>>
+) -> Result<(ImageDisk<FileDisk<S>, FileDisk<T>>, u64, Super), CommandFault<'a>>
     ensures shut { IfErr result (IsShutListed name.entry.now (I.remaining input.old) word.entry.now) }
     ensures opened { IfOk result (λ opened. IsOpenedListed (I.remaining input.old) word.entry.now opened.0 opened.1) }
+    ensures super { IfOk result (λ opened. opened.1 ≡ homes_in opened.2 (as_files.count opened.0)) }
     ensures unread { is_input (list_file word.entry.now) ≡ false → input.new ≡ input.old }
 {
     match file_of(word) {
@@ -156,9 +161,10 @@ fn open_within<S: Start, T: Start, R: Files<File = File> + AllocGlobal>(
     list: &[u8],
     opening: Opening,
     sums: Checksums,
-) -> Result<(ImageDisk<FileDisk<S>, FileDisk<T>>, u64), WithinFault>
+) -> Result<(ImageDisk<FileDisk<S>, FileDisk<T>>, u64, Super), WithinFault>
     ensures shut { IfErr result (IsListShut list.now) }
     ensures opened { IfOk result (λ opened. IsOpenedWithin list.now opened.0 opened.1) }
+    ensures super { IfOk result (λ opened. opened.1 ≡ homes_in opened.2 (as_files.count opened.0)) }
 {
     match extents_of(rt.alloc(), list) {
         Ok(extents) => open_spread(rt, name, extents, opening, sums),
@@ -193,10 +199,11 @@ fn open_spread<S: Start, T: Start, R: Files<File = File> + AllocGlobal>(
     extents: Extents,
     opening: Opening,
     sums: Checksums,
-) -> Result<(ImageDisk<FileDisk<S>, FileDisk<T>>, u64), WithinFault>
+) -> Result<(ImageDisk<FileDisk<S>, FileDisk<T>>, u64, Super), WithinFault>
     requires apart { AreDisjoint (list_of extents) }
     ensures shut { IfErr result (IsSpreadShut (list_of extents)) }
     ensures opened { IfOk result (λ opened. IsOpenedOver (list_of extents) opened.0 opened.1) }
+    ensures super { IfOk result (λ opened. opened.1 ≡ homes_in opened.2 (as_files.count opened.0)) }
 {
     let Some(first) = extents.place(0) else {
         return Err(WithinFault::Extents(ExtentsFault::NoJournal));
@@ -205,7 +212,7 @@ fn open_spread<S: Start, T: Start, R: Files<File = File> + AllocGlobal>(
         Ok((disk, sb)) => match joined(disk, extents, &sb) {
             Ok(whole) => {
                 let (whole, homes) = counted(whole, &sb);
-                Ok((ImageDisk::Within(whole), homes))
+                Ok((ImageDisk::Within(whole), homes, sb))
             }
             Err(fault) => Err(WithinFault::Extents(fault)),
         },

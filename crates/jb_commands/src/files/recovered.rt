@@ -2,6 +2,7 @@
 ghost use Rattle.std.specs.Prelude.{◌≡◌, false, option_map};
 ghost use Rattle.jb_image.specs.Files.{as_disks};
 ghost use Rattle.jb_args.specs.PlainCommand.{recover_said};
+ghost use Rattle.jb_args.specs.declared.settings.Details.TheVariants.{Hidden};
 ghost use Rattle.jb_commands.specs.Foresee.{foreseen_end as foreseen_so};
 ghost use Rattle.jb_commands.specs.ListText.{reads_list};
 ghost use Rattle.jb_commands.specs.JournalPlace.{EndsOfRecover, is_beside as stands_beside, sums_of, use_of as use_so};
@@ -11,15 +12,16 @@ ghost use Rattle.jb_commands.specs.Watched.{watched};
 
 use crate::command_end::CommandEnd;
 use crate::fault::CommandFault;
+use crate::files::noted::note_opened;
 use crate::files::opened::OpenedImage;
 use crate::files::opening::Opening;
 use crate::files::placed::open_placed;
 use crate::files::recovering::recover_image;
 use crate::files::watched::foresee_watched;
-use crate::progress::{PassCounts, ShownProgress};
+use crate::progress::{PassCounts, ShownProgress, error_terminal};
 use crate::report::Report;
 use crate::streams::{WatchedDisk, judge_on};
-use jb_args::{OptionName, ProgressLine, RecoverOptions};
+use jb_args::{OptionName, RecoverOptions, Settings};
 use jb_disk::{Disk, Start};
 use jb_ext::MapSource;
 use jb_image::{ExtentsFault, ImageDisk, JournalUse};
@@ -27,7 +29,7 @@ use jb_recover::{CheckedFault, Foreseen};
 use jb_super::Checksums;
 use std::alloc::Global;
 use std::fs::File;
-use std::io::Read;
+use std::io::{Read, Write};
 use std::rt::Files;
 use std::time::Clock;
 
@@ -38,12 +40,20 @@ use std::time::Clock;
 /// # Errors
 /// `CommandFault::BadOption` where `--list` is given without `--dry-run`; those of `open_placed` and of `judge_on`, and
 /// those of `recover_on`; `CommandFault::Extents` where a copy is for a home block that is one of the journal's own.
-pub fn recover_file<'a, S: Start, T: Start, R: Files<File = File> + AllocGlobal + Clock, I: Read>(
+pub fn recover_file<
+    'a,
+    S: Start,
+    T: Start,
+    R: Files<File = File> + AllocGlobal + Clock,
+    I: Read,
+    N: Write,
+>(
     rt: &R,
     image: &'a str,
     options: RecoverOptions<'a>,
-    shown: ProgressLine,
+    settings: Settings,
     input: &mut I,
+    notes: &mut N,
 ) -> CommandEnd<'a, S, T>
     /// `recover` over files: the image was not opened, or, if its files are honest, it was recovered, also after a
     /// crash meanwhile. Where its journal is not at its front it was judged before, one in a file of its own as an
@@ -66,6 +76,7 @@ pub fn recover_file<'a, S: Start, T: Start, R: Files<File = File> + AllocGlobal 
     ensures ends { EndsOfRecover image.entry.now (recover_said options.entry) (I.remaining input.old) result.image
         result.end }
     ensures unread { reads_list (recover_said options.entry).extents ≡ false → input.new ≡ input.old }
+    ensures silent { settings.details ≡ Hidden → N.contents notes.new ≡ N.contents notes.old }
 {
     if options.list && !options.dry_run {
         return CommandEnd {
@@ -84,14 +95,30 @@ pub fn recover_file<'a, S: Start, T: Start, R: Files<File = File> + AllocGlobal 
         input,
     ) {
         Ok(opened) => {
-            let OpenedImage { disk, homes, found } = opened;
+            note_opened(
+                settings,
+                options.journal,
+                options.extents,
+                &opened,
+                notes,
+            );
+            let OpenedImage {
+                disk, homes, found, ..
+            } = opened;
             let journal = disk.blocks().saturating_sub(homes);
             let passes = PassCounts::of_recovery(
                 options.dry_run,
                 disk.is_within(),
                 options.checksums,
             );
-            let progress = ShownProgress::over_log(rt, rt, shown, "jb recover", journal, passes);
+            let terminal = error_terminal(rt, settings.progress);
+            let progress = ShownProgress::over_log(
+                terminal.as_ref(),
+                rt,
+                "jb recover",
+                journal,
+                passes,
+            );
             let done = recover_opened(rt.alloc(), disk, homes, found, options, progress);
             CommandEnd {
                 image: Some(done.0),

@@ -2,6 +2,7 @@
 
 use crate::progress::Course;
 use crate::progress::advance::Advance;
+use crate::progress::handle_pass::HandlePass;
 use crate::progress::pass::Pass;
 use itoa::Buffer;
 use jb_text::{put, put_parts};
@@ -22,8 +23,8 @@ const CALLS_A_LOOK: u32 = 256;
 
 /// A line on a terminal, which says how far a command has come.
 #[derive(Drop)]
-pub(crate) struct TerminalLine {
-    terminal: File,
+pub(crate) struct TerminalLine<'t> {
+    terminal: &'t File,
     /// What the command does.
     what: &'static str,
     /// When it was begun.
@@ -37,14 +38,14 @@ pub(crate) struct TerminalLine {
     course: Course,
 }
 
-impl TerminalLine {
+impl<'t> TerminalLine<'t> {
     /// A line that is not written yet, where there is a terminal and a clock.
     pub(crate) fn new<K: Clock>(
-        terminal: Option<File>,
+        terminal: Option<&'t File>,
         clock: &K,
         what: &'static str,
         course: Course,
-    ) -> Option<TerminalLine> {
+    ) -> Option<TerminalLine<'t>> {
         let terminal = terminal?;
         let begun = Instant::now(clock).ok()?;
         Some(TerminalLine {
@@ -63,17 +64,28 @@ impl TerminalLine {
         match &mut self.course {
             Course::Log(pass) => pass.meet(place),
             Course::Peeks(peeks) => peeks.meet(place),
-            Course::Bytes(_) => {}
+            Course::Bytes(_) | Course::Handles(_) | Course::Checks(_) => {}
         }
         self.call(clock)
     }
 
-    /// So many bytes more are read.
-    pub(crate) fn read<K: Clock>(&mut self, clock: &K, bytes: u64) {
-        if let Course::Bytes(advance) = &mut self.course {
-            advance.add(bytes)
+    /// So many bytes more are read or written, or so many handles more are gone over.
+    pub(crate) fn pass<K: Clock>(&mut self, clock: &K, more: u64) {
+        match &mut self.course {
+            Course::Bytes(bytes) => bytes.add(more),
+            Course::Handles(handles) => handles.add(more),
+            Course::Checks(pass) => pass.add(more),
+            Course::Log(_) | Course::Peeks(_) => {}
         }
         self.call(clock)
+    }
+
+    /// So many handles are done. They may wait for each other, so that the clock is looked at each time.
+    pub(crate) fn reach<K: Clock>(&mut self, clock: &K, handles: u64) {
+        if let Course::Handles(advance) = &mut self.course {
+            advance.at = handles
+        }
+        self.look(clock)
     }
 
     /// Once in a while the clock is looked at.
@@ -106,7 +118,9 @@ impl TerminalLine {
         match &mut self.course {
             Course::Log(pass) => pass.blocks.see(now),
             Course::Peeks(peeks) => peeks.blocks.see(now),
-            Course::Bytes(advance) => advance.see(now),
+            Course::Bytes(bytes) => bytes.see(now),
+            Course::Handles(handles) => handles.see(now),
+            Course::Checks(pass) => pass.handles.see(now),
         }
     }
 
@@ -116,6 +130,8 @@ impl TerminalLine {
             Course::Log(pass) => pass.blocks.at,
             Course::Peeks(peeks) => peeks.blocks.at,
             Course::Bytes(bytes) => bytes.at,
+            Course::Handles(handles) => handles.at,
+            Course::Checks(pass) => pass.handles.at,
         }
     }
 
@@ -124,52 +140,66 @@ impl TerminalLine {
         self.stands = true;
         let course = self.course;
         match course {
-            Course::Log(pass) => self.show_pass(pass, now),
-            Course::Peeks(peeks) => self.show_homes(peeks.blocks, now),
+            Course::Log(pass) => self.show_log(pass, now),
+            Course::Peeks(peeks) => self.show_things(": block ", peeks.blocks, now),
             Course::Bytes(bytes) => self.show_bytes(bytes, now),
+            Course::Handles(handles) => self.show_things(": handle ", handles, now),
+            Course::Checks(pass) => self.show_checks(pass, now),
         }
     }
 
-    /// Writes it of a pass over a log. A fault of the terminal is ignored.
-    fn show_pass(&mut self, pass: Pass, now: u64) {
-        let (mut number, mut passes) = (Buffer::new(), Buffer::new());
+    /// Writes it of a pass over a log.
+    fn show_log(&mut self, pass: Pass, now: u64) {
+        let (mut passes, words) = (Buffer::new(), pass.passes.words());
+        let of = [words, passes.format(pass.passes.count), ", block "];
+        self.show_pass(pass.number, of, pass.blocks, now)
+    }
+
+    /// Writes it of a pass over the handles of a queue.
+    fn show_checks(&mut self, pass: HandlePass, now: u64) {
+        self.show_pass(pass.number, [" of at most ", "2", ", handle "], pass.handles, now)
+    }
+
+    /// Writes it of a pass: its number, and these words between that and how far it has come. A fault of the terminal
+    /// is ignored.
+    fn show_pass(&mut self, number: u64, between: [&str; 3], done: Advance, now: u64) {
+        let (mut which, mut percent, mut left) = (Buffer::new(), Buffer::new(), Buffer::new());
         let (mut at, mut of) = (Buffer::new(), Buffer::new());
-        let (mut percent, mut left) = (Buffer::new(), Buffer::new());
         let parts = [
             "\r",
             self.what,
             ": pass ",
-            number.format(pass.number),
-            pass.passes.words(),
-            passes.format(pass.passes.count),
-            ", block ",
-            at.format(pass.blocks.at),
+            which.format(number),
+            between[0],
+            between[1],
+            between[2],
+            at.format(done.at),
             " of ",
-            of.format(pass.blocks.of),
+            of.format(done.of),
             ", ",
-            percent.format(pass.blocks.percent()),
+            percent.format(done.percent()),
             "%, ",
-            left.format(pass.blocks.seconds_left(now)),
+            left.format(done.seconds_left(now)),
             " s left\x1b[K",
         ];
         let _ignored = put_parts(&mut self.terminal, &parts);
     }
 
-    /// Writes it of home blocks.
-    fn show_homes(&mut self, homes: Advance, now: u64) {
+    /// Writes it of things that are done one after the other, with these words before how many are.
+    fn show_things(&mut self, words: &'static str, done: Advance, now: u64) {
         let (mut at, mut of) = (Buffer::new(), Buffer::new());
         let (mut percent, mut left) = (Buffer::new(), Buffer::new());
         let parts = [
             "\r",
             self.what,
-            ": block ",
-            at.format(homes.at),
+            words,
+            at.format(done.at),
             " of ",
-            of.format(homes.of),
+            of.format(done.of),
             ", ",
-            percent.format(homes.percent()),
+            percent.format(done.percent()),
             "%, ",
-            left.format(homes.seconds_left(now)),
+            left.format(done.seconds_left(now)),
             " s left\x1b[K",
         ];
         let _ignored = put_parts(&mut self.terminal, &parts);

@@ -13,7 +13,7 @@ use std::io::Write;
 const GATHERED: usize = 4096;
 
 /// The bytes of a line that is gathered.
-type LineBuffer = ArrayVec<u8, GATHERED>;
+pub(crate) type LineBuffer = ArrayVec<u8, GATHERED>;
 
 /// Writes a line of these words, with the name of a file after them where there is one, as far as the writer takes it.
 pub(crate) fn put_line<W: Write>(writer: &mut W, words: &[&str], name: Option<&str>)
@@ -35,6 +35,19 @@ fn gathered(words: &[&str], name: Option<&str>) -> Option<LineBuffer>
     add_words(&mut line, words)?;
     add_name(&mut line, name)?;
     add(&mut line, b"\n")?;
+    Some(line)
+}
+
+/// These words, a name as it is shown, and these words behind it; `None` where they are longer than what is written at
+/// once.
+pub(crate) fn shown_between(words: &[&str], name: &[u8], behind: &str) -> Option<LineBuffer>
+    ensures { IfSome result (λ line. line.items
+        ≡ spelled (map (λ word. word.now) words.now) ++ (shown_name name.now ++ behind.now)) }
+{
+    let mut line = ArrayVec::new();
+    add_words(&mut line, words)?;
+    add_shown(&mut line, name)?;
+    add(&mut line, behind.as_bytes())?;
     Some(line)
 }
 
@@ -109,7 +122,7 @@ fn put_name<W: Write>(writer: &mut W, name: Option<&str>) -> Result<(), WriteFau
 ///
 /// # Errors
 /// `WriteFault` where the writer took only the beginning of it.
-pub(crate) fn put_shown<W: Write>(writer: &mut W, name: &[u8]) -> Result<(), WriteFault>
+fn put_shown<W: Write>(writer: &mut W, name: &[u8]) -> Result<(), WriteFault>
     ensures { Puts (W.contents writer.old) (W.contents writer.new) (shown_name name.now) result }
 {
     for at in 0..name.len() {

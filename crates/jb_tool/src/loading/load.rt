@@ -43,7 +43,7 @@ pub fn load_on<
     disk: D,
     clock: C,
     queue: &QueueLines,
-    options: LoadOptions,
+    options: LoadOptions<'_>,
 ) -> Result<(Loaded, D), LoadFault>
     requires threads { (1 ≤ options.threads) × (options.threads ≤ 64) }
     requires begun { IsBegunOn D.Disk H.begun disk }
@@ -64,7 +64,11 @@ pub fn load_on<
         return Err(LoadFault::BlockSize);
     }
     let run = run_options(options);
-    let loader = Loader { alloc, queue };
+    let loader = Loader {
+        alloc,
+        queue,
+        terminal: options.terminal,
+    };
     let ran = run_on::<Option<Refused>, Loader<'_>, D, C, R, H>(
         rt, alloc, disk, clock, run, &loader,
     );
@@ -78,7 +82,7 @@ pub fn load_on<
 }
 
 /// How the journal is run: no worker waits for what commits, so that it may come after them.
-fn run_options(options: LoadOptions) -> Options
+fn run_options(options: LoadOptions<'_>) -> Options
     ensures { IsRunBy options result }
 {
     let commits = if options.hold {

@@ -8,20 +8,25 @@ ghost use Rattle.jb_tool.specs.Runs.{IsRun, RunsAt};
 use crate::loading::fault::QueueHandleFault;
 use crate::loading::handle::run_handle;
 use crate::loading::loaded::Refused;
+use jb_commands::ShownProgress;
 use jb_journal::{Client, Clock, Disk, Origin, Worker};
 use jb_queue::{HandleReader, QueueLines};
 use std::alloc::Global;
+use std::fs::File;
 use std::sync::Wait;
 use std::time;
 
 /// Workers that run the handles of a queue. The one at the place k of T runs the handles k, k + T, k + 2T and so on,
-/// up to the first that is refused, and answers that one.
+/// up to the first that is refused, and answers that one. The first of them shows how far it has come: the others come
+/// as far, since all wait for the same room in the log.
 #[derive(Drop)]
 pub(crate) struct Loader<'q> {
     /// For the words of a handle, which are read when it is run.
     pub alloc: Global,
     /// What is loaded.
     pub queue: &'q QueueLines,
+    /// The terminal that shows how many handles were run, where one does.
+    pub terminal: Option<&'q File>,
 }
 
 impl Worker<Option<Refused>> for Loader<'_> {
@@ -40,20 +45,43 @@ impl Worker<Option<Refused>> for Loader<'_> {
         ensures answers { IsRun (shape_of client.old) (handles_of self.now.queue.now) workers at
             (client_stops client.new) result }
     {
-        let mut reader = self.queue.reader();
-        let (mut next, mut passed) = (at, at);
-        while next < self.queue.len() {
-            if let Err(fault) = run_next(self.alloc, client, &mut reader, passed) {
-                return Some(Refused {
-                    handle: next as u64,
-                    fault,
-                });
-            }
-            next += workers;
-            passed = workers - 1;
-        }
-        None
+        let terminal = if at == 0 { self.terminal } else { None };
+        let (clock, handles) = (client.runtime(), self.queue.len() as u64);
+        let mut progress = ShownProgress::over_handles(terminal, clock, "jb load", handles);
+        let refused = run_each(self.alloc, self.queue, client, workers, at, &mut progress);
+        progress.end();
+        refused
     }
+}
+
+/// Runs the handles of a queue that are at this place of so many, up to the first that is refused, and gives that one.
+fn run_each<'a, D: Disk, C: Clock, R: Wait + time::Clock, H: Origin>(
+    alloc: Global,
+    queue: &QueueLines,
+    client: &mut Client<'a, D, C, R, H>,
+    workers: usize,
+    at: usize,
+    progress: &mut ShownProgress<'_, R>,
+) -> Option<Refused>
+    requires client { IsClient H.begun client.old }
+    requires fresh { client_stops client.old ≡ [] }
+    requires workers { (1 ≤ workers) × (workers ≤ 64) }
+    ensures answers { IsRun (shape_of client.old) (handles_of queue.now) workers at (client_stops client.new) result }
+{
+    let mut reader = queue.reader();
+    let (mut next, mut passed) = (at, at);
+    while next < queue.len() {
+        progress.reach(next as u64);
+        if let Err(fault) = run_next(alloc, client, &mut reader, passed) {
+            return Some(Refused {
+                handle: next as u64,
+                fault,
+            });
+        }
+        next += workers;
+        passed = workers - 1;
+    }
+    None
 }
 
 /// Passes over this many handles of a queue, reads the next one, and runs it; the words of one handle are read at a

@@ -18,8 +18,7 @@ returns-in-System c =
 
 pub returns-in-Held : goal.returns-in-Held
 returns-in-Held c =
-    let said : SystemSaid = record { text = c.holder_text-held.result.now; remedy = [] } in
-    (said, hint_said said _ _ _ _ _ c.advice-words.ensures (sym c.in-Held.is ∙ c.beside.ensures) c.text_parts-in-Held.ensures.0 c.text_parts-in-Held.ensures.1)
+    (unsaid, hint_said unsaid _ _ _ _ _ c.advice-words.ensures (sym c.in-Held.is ∙ c.beside.ensures) (rw (sym c.holder_text-held.ensures) c.text_parts-in-Held.ensures.0) (rw (sym c.holder_text-held.ensures) c.text_parts-in-Held.ensures.1))
 
 pub returns-in-Failed : goal.returns-in-Failed
 returns-in-Failed c =

@@ -20,8 +20,7 @@ returns-in-Failed g c =
 
 pub returns-in-Held : goal.returns-in-Held
 returns-in-Held g c =
-    let said : SystemSaid = record { text = c.holder_text.result.now; remedy = [] } in
-    (said, subst (λ (b : HintArg). Puts (g.W.Write.contents c.args.writer.now) (g.W.Write.contents c.put_parts-in-Held.new.writer) (line_of_reason (reason_in said b)) c.put_parts-in-Held.result) (sym c.in-Held.is ∙ c.beside.ensures) c.put_parts-in-Held.ensures.puts)
+    (unsaid, subst (λ (b : HintArg). Puts (g.W.Write.contents c.args.writer.now) (g.W.Write.contents c.put_parts-in-Held.new.writer) (line_of_reason (reason_in unsaid b)) c.put_parts-in-Held.result) (sym c.in-Held.is ∙ c.beside.ensures) (rw c.holder_text.ensures at c.put_parts-in-Held.ensures.puts))
 
 pub returns-in-Nothing : goal.returns-in-Nothing
 returns-in-Nothing g c = (unsaid, rw (sym (sym c.in-Nothing.is ∙ c.beside.ensures)) (search rules))

@@ -14,7 +14,7 @@ returns-in-System g c =
 
 pub returns-in-Held : goal.returns-in-Held
 returns-in-Held g c =
-    (record { text = c.holder_text.result.now; remedy = [] }, rw c.in-Held.is c.put_parts-in-Held.ensures.puts)
+    (unsaid, rw c.in-Held.is (rw c.holder_text.ensures at c.put_parts-in-Held.ensures.puts))
 
 pub returns-in-Failed : goal.returns-in-Failed
 returns-in-Failed g c = (c.put_failure.ensures.0, rw c.in-Failed.is c.put_failure.ensures.1)

@@ -6,7 +6,7 @@ use Rattle.jb_commands.proofs.Verdicts.{if_ok_then}
 use Rattle.jb_commands.proofs.check.check_answer.Goals as goal
 
 pub returns-in_ok-verdict-in-Ok : goal.returns-in_ok-verdict-in-Ok
-returns-in_ok-verdict-in-Ok c =
+returns-in_ok-verdict-in-Ok g c =
     let queue = value_of c.args.queue.now in
     let verdict = c.in_ok-verdict-in-Ok.verdict in
     let read = rw c.as_slice.ensures.value at c.in-Ok.ensures.ok in

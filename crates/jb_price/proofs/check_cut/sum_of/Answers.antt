@@ -5,7 +5,7 @@ use Rattle.jb_block.proofs.Refusals.{on-refusal}
 use Rattle.jb_price.proofs.check_cut.sum_of.Goals as goal
 
 pub piece_blocks-requires-clause-to_in : goal.piece_blocks-requires-clause-to_in
-piece_blocks-requires-clause-to_in c =
+piece_blocks-requires-clause-to_in g c =
     let n = length c.args.handles.now in
     let items = take (length c.args.bounds.now - 1) (drop 1 c.args.bounds.now) in
     let i = c.loop-to.to-index in
@@ -14,7 +14,7 @@ piece_blocks-requires-clause-to_in c =
     rises-le n to (drop (i + 1) items) rises.1
 
 pub returns-in_err-cost-clause-grows : goal.returns-in_err-cost-clause-grows
-returns-in_err-cost-clause-grows c =
+returns-in_err-cost-clause-grows g c =
     let n = length c.args.handles.now in
     let items = take (length c.args.bounds.now - 1) (drop 1 c.args.bounds.now) in
     let i = c.loop-to.to-index in
@@ -23,7 +23,7 @@ returns-in_err-cost-clause-grows c =
     on-refusal c.from_residual.result (omega (arith, rises.0, rises-le n to (drop (i + 1) items) rises.1))
 
 pub loop-to-preserved : goal.loop-to-preserved
-loop-to-preserved c =
+loop-to-preserved g c =
     let items = take (length c.args.bounds.now - 1) (drop 1 c.args.bounds.now) in
     let i = c.loop-to.to-index in
     let left = drop_more items i 0 c.loop-to-test.true in

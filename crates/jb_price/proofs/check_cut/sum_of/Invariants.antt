@@ -5,7 +5,7 @@ use Rattle.jb_price.proofs.check_cut.sum_of.Given as goal
 
 -- What is said of the pieces that are left, with the sum so far, holds of all.
 abbrev pub invariant-loop-to : goal.invariant-loop-to
-invariant-loop-to l =
+invariant-loop-to g l =
     record {
       rises : RisesTo (length l.handles) l.from (drop l.to-index l.to-items);
       small : l.sum ≤ 2 ^ 32 * l.to-index;

@@ -6,14 +6,14 @@ use Rattle.jb_price.proofs.check_prices.first_undercut.Goals as goal
 use Rattle.jb_price.proofs.check_prices.first_undercut.Goals.{then-undercuts+in_ok-found, else-undercuts}
 
 pub loop-last-init : goal.loop-last-init
-loop-last-init c = record {
+loop-last-init g c = record {
   looked = first-start (piece_cost c.args.geometry c.args.handles.now) c.args.limit (length c.args.handles.now) c.args.prices.now;
   sound = c.new-touches.ensures.sound;
   tells = c.new-touches.ensures.tells c.args.handles.now c.args.prices.now;
 }
 
 pub best-requires-clause-few : goal.best-requires-clause-few
-best-requires-clause-few c =
+best-requires-clause-few g c =
     let hs = c.args.handles.now in
     let n = c.loop-last.last in
     let ps = c.args.prices.now in
@@ -21,7 +21,7 @@ best-requires-clause-few c =
     homes-few c.args.geometry hs (n + 1) ps c.add.new.self c.in_ok-add.ensures.sound tells c.requires.size
 
 pub loop-last-preserved : goal.loop-last-preserved
-loop-last-preserved c =
+loop-last-preserved g c =
     let g = c.args.geometry in
     let hs = c.args.handles.now in
     let n = c.loop-last.last in
@@ -41,6 +41,6 @@ loop-last-preserved c =
     }
 
 pub returns-clause-first : goal.returns-clause-first
-returns-clause-first c =
+returns-clause-first g c =
     let whole : c.loop-last.last ≡ length c.args.handles.now = omega arith in
     rw whole at c.loop-last.invariant.looked

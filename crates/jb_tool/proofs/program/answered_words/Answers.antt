@@ -18,4 +18,5 @@ returns g c =
             ];
         run = λ which. runs-texts c.args.settings.form (λ (word : Bor (List ℕ)). word.now) words _ _ _ c.run.result ran.bare ran.asked ran.refused;
       };
+      silent = ran.silent;
     }

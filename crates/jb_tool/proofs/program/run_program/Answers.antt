@@ -19,4 +19,5 @@ returns g c =
         refl,
         subst (λ (s : Settings). Advises (second_part s c.args.terminals.err) ended.hint mid new) c.settings_of-settings.ensures c.finish.ensures.advises,
       );
+      silent = rw c.settings_of-settings.ensures at c.answered-ended.ensures.silent;
     }

@@ -5,6 +5,7 @@ pub returns-in-Text : goal.returns-in-Text
 returns-in-Text g c = record {
   ends = rw c.in-Text.is (g.I.Read.remaining c.dump_named.new.input, c.dump_named.ensures.ends);
   unread = c.dump_named.ensures.unread;
+  silent = c.dump_named.ensures.silent;
 }
 
 pub returns-in-Json : goal.returns-in-Json
@@ -18,4 +19,5 @@ returns-in-Json g c =
         rw c.as_slice.ensures.value at c.tell_entries.ensures,
       );
       unread = c.dump_named-done.ensures.unread;
+      silent = c.dump_named-done.ensures.silent;
     }

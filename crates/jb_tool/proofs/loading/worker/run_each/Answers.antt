@@ -3,11 +3,11 @@ use Rattle.jb_journal.specs.Client.{client_stops, shape_of}
 use Rattle.jb_queue.specs.QueueLines.{handles_of}
 use Rattle.jb_tool.proofs.WorkerSteps.{ran-until, stepped-more}
 use Rattle.jb_tool.specs.Runs.{IsRun, RunsAt}
-use Rattle.jb_tool.proofs.loading.worker.LoaderWorkerOptionRefused.work.Goals as goal
+use Rattle.jb_tool.proofs.loading.worker.run_each.Goals as goal
 
 pub returns-in-Err : goal.returns-in-Err
 returns-in-Err g c =
-    let queue = handles_of c.args.self.now.queue.now in
+    let queue = handles_of c.args.queue.now in
     let old = c.loop-next.client in
     let stops = client_stops c.run_next.new.client in
     let placed = c.loop-next.invariant.placed in
@@ -22,7 +22,7 @@ returns-in-Err g c =
 
 pub loop-next-preserved : goal.loop-next-preserved
 loop-next-preserved g c =
-    let queue = handles_of c.args.self.now.queue.now in
+    let queue = handles_of c.args.queue.now in
     let old = c.loop-next.client in
     let stops = client_stops c.run_next.new.client in
     let placed = c.loop-next.invariant.placed in
