@@ -24,6 +24,16 @@ pub enum JournalFault {
     /// The image has fewer home blocks than were asked for.
     #[error("the image has fewer home blocks than this program needs")]
     FewerHomes,
+    /// The journal of an image has room for handles of `most` credits, and not for those of the program.
+    #[error(
+        "the journal has room for {most} credits of a handle, and this program asks for {asked}; make the image anew with a longer journal: jb_journal::least_journal says how long"
+    )]
+    TooFewCredits {
+        /// The most credits of a handle in this journal.
+        most: u32,
+        /// The credits that were asked for.
+        asked: u32,
+    },
     /// A journal was neither recovered nor opened, since this call of its disk failed, for this reason.
     #[error("{}", Remedy(Some(*.0)))]
     Device(Failure),
