@@ -7,12 +7,13 @@ use Rattle.jb_disk.specs.File.{content_of, count_of, size_of_blocks, IsHonest}
 use Rattle.jb_disk.specs.declared.file.FileDisk.{FileDisk}
 use Rattle.jb_disk.specs.declared.start.Start.{Ghosts as Starts}
 use Rattle.jb_format.specs.Front.{super_on}
+use Rattle.jb_image.specs.declared.fault.MakeFault.{MakeFault}
 use Rattle.jb_image.specs.declared.image_geometry.ImageGeometry.{ImageGeometry}
 use Rattle.jb_length.specs.Credits.{HasRoomFor, IsMostCredits}
 use Rattle.jb_length.specs.Lengths.{MayBeLength}
 use Rattle.jb_super.specs.Features.{of_width}
 use Rattle.jb_super.specs.Superblock.{Superblock, new_super}
-use Rattle.jb_journal.specs.OpenFile.{IsAsOpened, RefusesImage, RefusesOpening}
+use Rattle.jb_journal.specs.OpenFile.{IsAsOpened, RefusesOpening}
 use Rattle.jb_journal.specs.declared.journal_fault.JournalFault.{JournalFault}
 use Rattle.jb_journal.specs.declared.journal_fault.JournalFault.TheVariants.{Make, TooFewCredits}
 
@@ -56,17 +57,21 @@ pub record WasTooShort {S : Type 0} (start : Starts S) (size : BlockSize) (most 
 abbrev pub WouldBeTooShort : ImageGeometry → ℕ → Type 0
 WouldBeTooShort g most = MayBeLength g.journal × IsMostCredits (super_made g) most
 
--- Why an image was neither opened nor made for handles of so many credits. Where its journal is told to have room for
--- fewer, that is the journal of some file that was opened, or the one that would have been made. Where a making has
--- failed, the new journal would have had room. All else is as where no credits are asked for.
-abbrev pub RefusesFor : {S : Type 0} → Starts S → ImageGeometry → ℕ → JournalFault → Type 0
-RefusesFor start g credits (TooFewCredits most asked) =
-    (asked ≡ credits) × (most < credits) × (WasTooShort start g.block_size most ⊎ WouldBeTooShort g most)
-RefusesFor start g credits (Make fault) = HasRoomWhenMade credits g
-RefusesFor start g credits fault = RefusesImage start g.block_size fault
+-- it is told that an image was not made
+abbrev pub IsOfMaking : JournalFault → Type 0
+IsOfMaking fault = (why : MakeFault) × (fault ≡ Make why)
 
--- why the journal of a file that was opened has no room for handles of so many credits, or was not read
+-- why a file that is there was not opened for handles of so many credits: its journal has room for fewer, or it was not
+-- opened for another reason
 abbrev pub RefusesRoom : {S : Type 0} → Starts S → BlockSize → ℕ → JournalFault → Type 0
-RefusesRoom start size credits (TooFewCredits most asked) =
-    (asked ≡ credits) × (most < credits) × WasTooShort start size most
-RefusesRoom start size credits fault = RefusesOpening start size fault
+RefusesRoom start size credits fault =
+    IsTooFew (WasTooShort start size) credits fault ⊎ RefusesOpening start size fault
+
+-- Why an image was neither opened nor made for handles of so many credits. The journal of some file that was opened has
+-- room for fewer, or the one that would have been made. Or the making has failed of one that would have had room. Or an
+-- image that is there was not opened for another reason.
+abbrev pub RefusesFor : {S : Type 0} → Starts S → ImageGeometry → ℕ → JournalFault → Type 0
+RefusesFor start g credits fault =
+    IsTooFew (λ most. WasTooShort start g.block_size most ⊎ WouldBeTooShort g most) credits fault
+    ⊎ (IsOfMaking fault × HasRoomWhenMade credits g)
+    ⊎ RefusesOpening start g.block_size fault

@@ -28,7 +28,7 @@ pub(crate) fn check_room<S: Start>(
     credits: u32,
 ) -> Result<(), JournalFault>
     ensures opened { (size : Size) → IsAsOpened size disk.old → OnOk result (IsAsOpened size disk.new) }
-    ensures room { OnOk result (HeldRoomFor credits disk.new) }
+    ensures room { (size : Size) → IsAsOpened size disk.old → OnOk result (HeldRoomFor credits disk.new) }
     ensures refused { (size : Size) → IsAsOpened size disk.old → IfErr result (RefusesRoom S.Start size credits) }
 {
     if credits == 0 {
@@ -69,7 +69,8 @@ pub(crate) fn recover_opened<S: Start>(
     disk: &mut FileDisk<S>,
 ) -> Result<(), JournalFault>
     ensures recovered { (size : Size) → IsAsOpened size disk.old → OnOk result (WasRecovered size disk.new) }
-    ensures room { (credits : ℕ) → HeldRoomFor credits disk.old → OnOk result (HoldsRoomFor credits disk.new) }
+    ensures room { (size : Size) (credits : ℕ) → IsAsOpened size disk.old → HeldRoomFor credits disk.old
+        → OnOk result (HoldsRoomFor credits disk.new) }
     ensures refused { (size : Size) → IsAsOpened size disk.old → IfErr result (RefusesOpening S.Start size) }
 {
     match recover(alloc, disk) {
