@@ -34,7 +34,7 @@ use Rattle.jb_recover.specs.Outcomes.{KeepsJournal}
 use Rattle.jb_recover.specs.Passes.{PassFaults}
 use Rattle.jb_recover.specs.Refusals.{front_refusal}
 use Rattle.jb_recover.specs.declared.recovered.Recovered.{Recovered}
-use Rattle.jb_journal.specs.ImageFor.{HasRoomWhenMade, HeldRoomFor, HoldsRoomFor, IsTooFew, RefusesFor, RefusesRoom, WasTooShort, WouldBeTooShort, super_made}
+use Rattle.jb_journal.specs.ImageFor.{HasRoomWhenMade, HeldRoomFor, HoldsRoomFor, IsTooFew, RefusesImageFor, RefusesRoom, WasTooShort, WouldBeTooShort, super_made}
 use Rattle.jb_journal.specs.OpenFile.{IsAsOpened, RefusesImage, RefusesOpening, WasRefused}
 use Rattle.jb_journal.specs.declared.journal_fault.JournalFault.{JournalFault}
 use Rattle.jb_journal.specs.declared.journal_fault.JournalFault.TheVariants.{Make, TooFewCredits}
@@ -180,12 +180,12 @@ holds-made g credits fits sound may has f made = λ honest. (super_made g, made-
 
 module _ {S : Type 0} (start : Starts S) where
   -- one that is there
-  pub refuses-room : (g : ImageGeometry) (credits : ℕ) (fault : JournalFault) → RefusesRoom start g.block_size credits fault → RefusesFor start g credits fault
+  pub refuses-room : (g : ImageGeometry) (credits : ℕ) (fault : JournalFault) → RefusesRoom start g.block_size credits fault → RefusesImageFor start g credits fault
   refuses-room g credits fault (inl few) = inl (few.0, few.1, few.2, inl few.3)
   refuses-room g credits fault (inr opening) = inr (inr opening)
 
   -- one that would be made
-  pub refuses-new : (g : ImageGeometry) (credits : ℕ) (fault : JournalFault) → IsTooFew (WouldBeTooShort g) credits fault → RefusesFor start g credits fault
+  pub refuses-new : (g : ImageGeometry) (credits : ℕ) (fault : JournalFault) → IsTooFew (WouldBeTooShort g) credits fault → RefusesImageFor start g credits fault
   refuses-new g credits fault few = inl (few.0, few.1, few.2, inr few.3)
 
   refuses-image : (size : BlockSize) (fault : JournalFault) → RefusesOpening start size fault → RefusesImage start size fault
@@ -194,7 +194,7 @@ module _ {S : Type 0} (start : Starts S) where
   refuses-image size _ refuses = refuses
 
   -- for no credits it is refused as where none are asked for
-  pub refuses-none : (g : ImageGeometry) (fault : JournalFault) → RefusesFor start g 0 fault → RefusesImage start g.block_size fault
+  pub refuses-none : (g : ImageGeometry) (fault : JournalFault) → RefusesImageFor start g 0 fault → RefusesImage start g.block_size fault
   refuses-none g fault (inl few) = absurd (let fewer = few.2 in let h : ⊥ = omega (arith, fewer) in h)
   refuses-none g fault (inr (inl made)) = subst (RefusesImage start g.block_size) (sym made.0.1) tt
   refuses-none g fault (inr (inr opening)) = refuses-image g.block_size fault opening

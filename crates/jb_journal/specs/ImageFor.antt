@@ -70,8 +70,8 @@ RefusesRoom start size credits fault =
 -- Why an image was neither opened nor made for handles of so many credits. The journal of some file that was opened has
 -- room for fewer, or the one that would have been made. Or the making has failed of one that would have had room. Or an
 -- image that is there was not opened for another reason.
-abbrev pub RefusesFor : {S : Type 0} → Starts S → ImageGeometry → ℕ → JournalFault → Type 0
-RefusesFor start g credits fault =
+abbrev pub RefusesImageFor : {S : Type 0} → Starts S → ImageGeometry → ℕ → JournalFault → Type 0
+RefusesImageFor start g credits fault =
     IsTooFew (λ most. WasTooShort start g.block_size most ⊎ WouldBeTooShort g most) credits fault
     ⊎ (IsOfMaking fault × HasRoomWhenMade credits g)
     ⊎ RefusesOpening start g.block_size fault

@@ -3,7 +3,7 @@ ghost use Rattle.std.specs.Prelude.{◌≡◌, IfErr, IfOk, OnOk};
 ghost use Rattle.jb_block.specs.Size.{bytes_of};
 ghost use Rattle.jb_disk.specs.File.{size_of_blocks};
 ghost use Rattle.jb_disk.specs.contracts.start.UnknownStart.TheImpl.{ghosts as unknown};
-ghost use Rattle.jb_journal.specs.ImageFor.{HasRoomWhenMade, HoldsRoomFor, IsTooFew, RefusesFor, WouldBeTooShort};
+ghost use Rattle.jb_journal.specs.ImageFor.{HasRoomWhenMade, HoldsRoomFor, IsTooFew, RefusesImageFor, WouldBeTooShort};
 ghost use Rattle.jb_journal.specs.ImageFor.{RefusesRoom};
 ghost use Rattle.jb_journal.specs.OpenFile.{WasRecovered, WasRecoveredOrMade};
 
@@ -20,12 +20,12 @@ use std::rt::Files;
 /// journal has no room for them, the program is refused here, and not each of its handles (`TooManyCredits`).
 ///
 /// Of an image that is there the superblock is read for that before anything is written: one that is refused is not
-/// recovered, and stays as it is for [`open`](crate::open) and `jb recover`. One that would be made is refused before any
-/// file is made.
+/// recovered, and stays as it is for [`open`](crate::open) and `jb recover`. One that would be made is refused before
+/// any file is made.
 ///
 /// # Errors
-/// Those of [`open_or_create`](crate::open_or_create), and `TooFewCredits`: of an image that is there after the faults of
-/// `Image` and a superblock that is refused, and before those of its recovery and `FewerHomes`; of one that is not
+/// Those of [`open_or_create`](crate::open_or_create), and `TooFewCredits`: of an image that is there after the faults
+/// of `Image` and a superblock that is refused, and before those of its recovery and `FewerHomes`; of one that is not
 /// before those of `Make`, but for a length that no journal has (`Geometry`).
 pub fn open_or_create_for<R: Files<File = File> + AllocGlobal>(
     rt: &R,
@@ -37,7 +37,7 @@ pub fn open_or_create_for<R: Files<File = File> + AllocGlobal>(
     ensures ready { IfOk result (WasRecoveredOrMade geometry) }
     /// With `ready`, `refused`: What `open_or_create_for_holding` does, of a file of which nothing is supposed.
     ensures room { IfOk result (HoldsRoomFor credits) }
-    ensures refused { IfErr result (RefusesFor unknown geometry credits) }
+    ensures refused { IfErr result (RefusesImageFor unknown geometry credits) }
 {
     open_or_create_for_holding(rt, name, geometry, credits)
 }
@@ -60,7 +60,7 @@ pub fn open_or_create_for_holding<S: Start, R: Files<File = File> + AllocGlobal>
     /// if it is honest, with as many as it has room for, and nothing of it is changed; or where that is so of the
     /// journal that would be made. No making is tried then. All else is as where no credits are asked for. [But
     /// see](docs/WRONG_BODIES.md#readers-writers-and-files).
-    ensures refused { IfErr result (RefusesFor S.Start geometry credits) }
+    ensures refused { IfErr result (RefusesImageFor S.Start geometry credits) }
 {
     match open_fitting(rt, name, geometry, credits) {
         Ok(disk) => return Ok(disk),

@@ -1,6 +1,6 @@
 //! What may go wrong in any call of the journal.
 use crate::fault::{HandleFault, HomeFault, NotDurable, RunFault};
-use crate::remedy::{Remedy, ToWorker};
+use crate::remedy::{Remedy, ToWorker, TooShort};
 use jb_block::Memory;
 use jb_deck::ReadHomeFault;
 use jb_desk::WaitFault;
@@ -25,9 +25,7 @@ pub enum JournalFault {
     #[error("the image has fewer home blocks than this program needs")]
     FewerHomes,
     /// The journal of an image has room for handles of `most` credits, and not for those of the program.
-    #[error(
-        "the journal has room for {most} credits of a handle, and this program asks for {asked}; make the image anew with a longer journal: jb_journal::least_journal says how long"
-    )]
+    #[error("{}", TooShort {most: *.most, asked: *.asked})]
     TooFewCredits {
         /// The most credits of a handle in this journal.
         most: u32,

@@ -16,9 +16,9 @@ use jb_recover::{PeekFault, RecoverFault, recover};
 use jb_super::Super;
 use std::alloc::Global;
 
-/// Whether the journal of a file has room for handles of so many credits, by its superblock. Nothing is written: where it
-/// has not, it is still recovered by [`open`](crate::open). Each journal has room for no credits, for which nothing is
-/// read.
+/// Whether the journal of a file has room for handles of so many credits, by its superblock. Nothing is written: where
+/// it has not, it is still recovered by [`open`](crate::open). Each journal has room for no credits, for which nothing
+/// is read.
 ///
 /// # Errors
 /// `TooFewCredits` where it has room for fewer; `Device` where a call failed, with the reason; `Recover` where the

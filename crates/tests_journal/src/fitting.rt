@@ -15,8 +15,8 @@ use tests_support::{Bench, Must, Test, check, check_at, crashed, read_at, write_
 /// The image in a folder that is not there, where no file can be made.
 const NOWHERE: &str = "nowhere/image.img";
 
-/// The name, the size of a block, the blocks of a journal and the homes that are asked for, the credits of a handle, and
-/// what is answered: how many blocks the image has.
+/// The name, the size of a block, the blocks of a journal and the homes that are asked for, the credits of a handle,
+/// and what is answered: how many blocks the image has.
 type Row = (
     &'static str,
     BlockSize,
