@@ -16,11 +16,11 @@ ghost use Rattle.std.specs.Prelude.{◌≤◌};
 mod handles;
 mod times;
 
-use crate::handles::{Durable, HOMES, SIZE};
+use crate::handles::{CREDITS, Durable, HOMES, SIZE};
 use crate::times::{Times, Waited};
 use jb_journal::{
     Delay, Disk, ImageGeometry, JournalFault, MemoryDisk, Options, SystemClock, Width, format,
-    open_or_create, run,
+    open_or_create_for, run,
 };
 use std::env;
 use std::fs::File;
@@ -113,7 +113,7 @@ fn run_in_file<R: Files<File = File> + AllocGlobal + Threads + Wait + Clock + Sy
     load: Load,
 ) -> Result<Times, JournalFault> {
     let geometry = ImageGeometry::new(SIZE, JOURNAL, HOMES);
-    let disk = open_or_create(rt, image, geometry)?;
+    let disk = open_or_create_for(rt, image, geometry, CREDITS)?;
     run_handles(rt, disk, load)
 }
 

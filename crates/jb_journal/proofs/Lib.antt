@@ -1,5 +1,6 @@
 pub mod ChangeAnswers
 pub mod ClientNotes
+pub mod FittingImages
 pub mod KnownStays
 pub mod RecoveredFile
 pub mod RunAsked

@@ -2,6 +2,7 @@ pub mod Change
 pub mod Client
 pub mod Gather
 pub mod Homes
+pub mod ImageFor
 pub mod Names
 pub mod Notes
 pub mod OpenFile

@@ -21,7 +21,18 @@ use Rattle.jb_recover.specs.declared.recovered.Recovered.{Recovered}
 use Rattle.jb_journal.specs.declared.journal_fault.JournalFault.{JournalFault}
 use Rattle.jb_journal.specs.declared.fault.HomeFault.{HomeFault}
 use Rattle.jb_journal.specs.declared.fault.HomeFault.TheVariants.{Length, Peek}
-use Rattle.jb_journal.specs.declared.journal_fault.JournalFault.TheVariants.{Device, FewerHomes, ReadHome, Recover}
+use Rattle.jb_journal.specs.declared.journal_fault.JournalFault.TheVariants.{Device, FewerHomes, Make, ReadHome}
+use Rattle.jb_journal.specs.declared.journal_fault.JournalFault.TheVariants.{Recover, TooFewCredits}
+
+-- A file in blocks of this size was asked its length, and nothing was changed since. If it is honest, it holds what it
+-- held when it was opened, and a crash at any moment since it was asked its length leaves that.
+pub record IsAsOpened {S : Type 0} {start : Starts S} (size : BlockSize) (f : FileDisk S start) : Type 0 where
+  pub sized : bytes_of (size_of_blocks f) ≡ bytes_of size
+  pub fresh : faults_of f ≡ 0
+  pub asked : IsHonest f → 1 ≤ length (events_of f)
+  pub holds : IsHonest f → content_of f ≡ start.content 0
+  pub crash : IsHonest f → Only (start.content 0) (FileLeft f 1)
+  pub durable : IsHonest f → Only (start.content 0) (FileLeaves f)
 
 -- A file in blocks of this size was asked its length, and its journal was recovered. If it is honest, it holds the
 -- recovered image of what it held when it was opened, nothing is pending, and a crash at any moment since it was asked
@@ -72,14 +83,20 @@ pub record HasFailedRead {S : Type 0} (start : Starts S) (size : BlockSize) (fai
 
 -- Why a file was not opened for a program. Where that is a fault of a recovery, some file's journal was refused, and
 -- where a call has failed, the file does not tell why. Where a failed call is told, some file tells it so: of its
--- recovery, or of a read once it was recovered.
+-- recovery, or of a read once it was recovered. It is never that the journal has room for too few credits.
 abbrev pub RefusesImage : {S : Type 0} → Starts S → BlockSize → JournalFault → Type 0
 RefusesImage start size (Recover fault) =
     (was : WasRefused start size fault) × (fault ≡ recovering.DeviceFault → failure_of was.file ≡ None)
 RefusesImage start size (Device failure) =
     ((was : WasRefused start size recovering.DeviceFault) × (failure_of was.file ≡ Some failure))
     ⊎ HasFailedRead start size failure
+RefusesImage start size (TooFewCredits most asked) = ⊥
 RefusesImage start size _ = Unit {0}
+
+-- the same of a file that is there: it is also never that an image was not made
+abbrev pub RefusesOpening : {S : Type 0} → Starts S → BlockSize → JournalFault → Type 0
+RefusesOpening start size (Make fault) = ⊥
+RefusesOpening start size fault = RefusesImage start size fault
 
 -- it was recovered, or its journal was made since it was opened
 abbrev pub WasRecoveredOrMade : {S : Type 0} {start : Starts S} → ImageGeometry → FileDisk S start → Type 0

@@ -7,15 +7,17 @@ ghost use Rattle.jb_disk.specs.KeptOn.{KeptOn};
 ghost use Rattle.jb_disk.specs.Time.{Goes};
 ghost use Rattle.jb_recover.specs.Peeks.{IsRecoveredHome};
 ghost use Rattle.jb_journal.specs.Homes.{HomeFaults, ReadsWhole};
-ghost use Rattle.jb_journal.specs.OpenFile.{WasRecoveredOrMade, RefusesImage, WasRecovered, unread_by, unrecovered_by};
+ghost use Rattle.jb_journal.specs.OpenFile.{WasRecoveredOrMade, RefusesImage, RefusesOpening, WasRecovered};
 ghost use Rattle.jb_journal.specs.declared.fault.HomeFault.TheVariants.{Length};
 
 use crate::fault::HomeFault;
+use crate::image_for::open_or_create_for_holding;
 use crate::journal_fault::JournalFault;
-use jb_block::{BlockSize, MOST_BYTES};
-use jb_disk::{Disk, Failure, FileDisk, Start};
-use jb_image::{ImageFault, ImageGeometry, MakeFault, Opening, create_holding};
-use jb_recover::{PeekFault, RecoverFault, peek, recover};
+use crate::opened::recover_opened;
+use jb_block::BlockSize;
+use jb_disk::{Disk, FileDisk, Start};
+use jb_image::{ImageGeometry, Opening};
+use jb_recover::peek;
 use std::fs::File;
 use std::rt::Files;
 
@@ -53,37 +55,14 @@ pub fn open_holding<S: Start, R: Files<File = File> + AllocGlobal>(
     ensures opened { IfOk result (WasRecovered size) }
     /// Where the fault is one of the recovery, it is that of what some such file held, if that is honest. [But
     /// see](docs/WRONG_BODIES.md#readers-writers-and-files).
-    ensures refused { IfErr result (RefusesImage S.Start size) }
+    ensures refused { IfErr result (RefusesOpening S.Start size) }
 {
     let mut disk = match jb_image::open_holding::<S, R>(rt, name, size, Opening::Change) {
         Ok(disk) => disk,
         Err(fault) => return Err(JournalFault::Image(fault)),
     };
-    match recover(rt.alloc(), &mut disk) {
-        Ok(_) => Ok(disk),
-        Err(fault) => Err(unrecovered(fault, disk.failure())),
-    }
-}
-
-/// Why an image was not opened whose recovery ended so, of which its disk tells this.
-fn unrecovered(fault: RecoverFault, told: Option<Failure>) -> JournalFault
-    ensures { result ≡ unrecovered_by fault told }
-{
-    match (fault, told) {
-        (RecoverFault::DeviceFault, Some(failure)) => JournalFault::Device(failure),
-        (fault, _) => JournalFault::Recover(fault),
-    }
-}
-
-/// Why an image was not opened of which no home was read for this, where its disk tells this.
-fn unread(fault: HomeFault, told: Option<Failure>) -> JournalFault
-    ensures { result ≡ unread_by fault told }
-{
-    match (fault, told) {
-        (HomeFault::Peek(PeekFault::HomeOutOfRange(_)), _) => JournalFault::FewerHomes,
-        (HomeFault::Peek(PeekFault::DeviceFault), Some(failure)) => JournalFault::Device(failure),
-        (fault, _) => JournalFault::ReadHome(fault),
-    }
+    recover_opened(rt.alloc(), &mut disk)?;
+    Ok(disk)
 }
 
 /// The same, where there is an image of this name; otherwise makes it, whole or not at all: under another name
@@ -129,46 +108,7 @@ pub fn open_or_create_holding<S: Start, R: Files<File = File> + AllocGlobal>(
     /// file held, if that is honest. [But see](docs/WRONG_BODIES.md#readers-writers-and-files).
     ensures refused { IfErr result (RefusesImage S.Start geometry.block_size) }
 {
-    match open_whole(rt, name, geometry) {
-        Ok(disk) => return Ok(disk),
-        Err(fault) if is_missing(fault) => {}
-        Err(fault) => return Err(fault),
-    }
-    match create_holding(rt, name, geometry) {
-        Ok(disk) => Ok(disk),
-        // another process has made it meanwhile
-        Err(MakeFault::Exists) => open_whole(rt, name, geometry),
-        Err(fault) => Err(JournalFault::Make(fault)),
-    }
-}
-
-/// Whether an image was not opened because there is none of that name.
-fn is_missing(fault: JournalFault) -> bool {
-    match fault {
-        JournalFault::Image(ImageFault::System(fault)) => fault.is_not_found(),
-        _ => false,
-    }
-}
-
-/// Opens an image that has to have this many homes.
-fn open_whole<S: Start, R: Files<File = File> + AllocGlobal>(
-    rt: &R,
-    name: &str,
-    geometry: ImageGeometry,
-) -> Result<FileDisk<S>, JournalFault>
-    ensures opened { IfOk result (WasRecovered geometry.block_size) }
-    ensures refused { IfErr result (RefusesImage S.Start geometry.block_size) }
-{
-    let mut disk = open_holding::<S, R>(rt, name, geometry.block_size)?;
-    let Some(last) = geometry.homes.checked_sub(1) else {
-        return Ok(disk);
-    };
-    let mut block = [0; MOST_BYTES];
-    let size = geometry.block_size.bytes() as usize;
-    match read_home(&mut disk, last, &mut block[..size]) {
-        Ok(()) => Ok(disk),
-        Err(fault) => Err(unread(fault, disk.failure())),
-    }
+    open_or_create_for_holding(rt, name, geometry, 0)
 }
 
 /// Reads a home block of a journal that is not open, as recovery leaves it. Nothing is written, and no memory is taken.

@@ -1,6 +1,6 @@
 //! What may go wrong in any call of the journal.
 use crate::fault::{HandleFault, HomeFault, NotDurable, RunFault};
-use crate::remedy::{Remedy, ToWorker};
+use crate::remedy::{Remedy, ToWorker, TooShort};
 use jb_block::Memory;
 use jb_deck::ReadHomeFault;
 use jb_desk::WaitFault;
@@ -24,6 +24,14 @@ pub enum JournalFault {
     /// The image has fewer home blocks than were asked for.
     #[error("the image has fewer home blocks than this program needs")]
     FewerHomes,
+    /// The journal of an image has room for handles of `most` credits, and not for those of the program.
+    #[error("{}", TooShort {most: *.most, asked: *.asked})]
+    TooFewCredits {
+        /// The most credits of a handle in this journal.
+        most: u32,
+        /// The credits that were asked for.
+        asked: u32,
+    },
     /// A journal was neither recovered nor opened, since this call of its disk failed, for this reason.
     #[error("{}", Remedy(Some(*.0)))]
     Device(Failure),

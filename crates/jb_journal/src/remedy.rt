@@ -1,4 +1,4 @@
-//! What is told once a call of the disk has failed.
+//! What is told once a call of the disk has failed, or an image is refused, and what to do.
 use jb_disk::Failure;
 use std::fmt;
 
@@ -37,5 +37,23 @@ impl<F: fmt::Display> fmt::Display for ToWorker<'_, F> {
             );
         }
         self.fault.fmt(f)
+    }
+}
+
+/// A journal that has room for fewer credits than were asked for, and what to do about it.
+#[derive(Drop)]
+pub(crate) struct TooShort {
+    pub most: u32,
+    pub asked: u32,
+}
+
+impl fmt::Display for TooShort {
+    fn fmt<W: fmt::Write>(&self, f: &mut fmt::Formatter<W>) -> fmt::Result {
+        let TooShort { most, asked } = self;
+        write!(
+            f,
+            "the journal has room for {most} credits of a handle, and this program asks for {asked}; \
+             make the image anew with a longer journal: jb_journal::least_journal says how long"
+        )
     }
 }

@@ -1,1 +1,2 @@
+pub mod Credits
 pub mod Lengths

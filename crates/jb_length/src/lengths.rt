@@ -3,8 +3,9 @@ ghost use Rattle.jb_block.specs.Size.{bytes_of};
 ghost use Rattle.jb_block.specs.Width.{is_wide};
 ghost use Rattle.jb_length.specs.Lengths.{IsLeastLength, MayBeLength, new_limit, TakesHandles};
 
+use crate::credits::credits_in;
 use jb_block::{BlockSize, Width};
-use jb_cost::{Geometry, most_credits, worst_cost};
+use jb_cost::{Geometry, worst_cost};
 use jb_super::Super;
 
 /// The fewest blocks of a journal.
@@ -25,7 +26,7 @@ pub fn credits_within(size: BlockSize, width: Width, journal: u32) -> Option<u32
         → TakesHandles (is_wide width) (bytes_of size) journal credits ↔ (credits ≤ most)) }
 {
     let sb = Super::new(size, journal, 0, [0; 16], width)?;
-    Some(most_credits(Geometry::of(size, width), sb.limit()))
+    Some(credits_in(&sb))
 }
 
 /// The fewest blocks of a new journal, with transactions of a quarter of its log at most, that takes each handle of so

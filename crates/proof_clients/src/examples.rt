@@ -10,6 +10,7 @@ pub mod closing;
 pub mod crashes;
 pub mod cuts;
 pub mod images;
+pub mod lengths;
 pub mod lives;
 pub mod marks;
 pub mod notes;

@@ -16,6 +16,8 @@ mod figures;
 #[cfg(test)]
 mod files;
 #[cfg(test)]
+mod fitting;
+#[cfg(test)]
 mod image_runs;
 #[cfg(test)]
 mod images;
