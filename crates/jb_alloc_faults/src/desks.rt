@@ -67,10 +67,7 @@ pub fn stops_row(rt: &impl Files<File = File>, alloc: Global) -> Option<Met> {
 pub type SmallParts = DeskParts<MemoryDisk, FixedClock>;
 
 /// Starts a desk over a journal, of which nothing is known at the start.
-fn start<H: Origin>(
-    alloc: Global,
-    parts: SmallParts,
-) -> Result<Small<MemoryDisk, H>, SmallParts>
+fn start<H: Origin>(alloc: Global, parts: SmallParts) -> Result<Small<MemoryDisk, H>, SmallParts>
     requires blind { (H.begun.is_known → ⊥) × (H.begun.none_failed → ⊥) }
     requires handles { (parts.handles.tickets.name ≡ H.name) × (parts.handles.tickets.parts ≡ H.parts)
         × (H.parts ≡ 2 ^ 61 + 1) }

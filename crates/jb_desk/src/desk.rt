@@ -69,10 +69,7 @@ impl<D: Disk, C: Clock, H: Origin> Desk<D, C, H> {
     /// # Errors
     ///
     /// All parts, where there is no memory for the board.
-    pub fn start(
-        alloc: Global,
-        parts: DeskParts<D, C>,
-    ) -> Result<Desk<D, C, H>, DeskParts<D, C>>
+    pub fn start(alloc: Global, parts: DeskParts<D, C>) -> Result<Desk<D, C, H>, DeskParts<D, C>>
         requires handles { (parts.handles.tickets.name ≡ H.name) × (parts.handles.tickets.parts ≡ H.parts)
             × (H.parts ≡ 2 ^ 61 + 1) }
         requires histories { (history_in parts.handles ≡ H.history) × (history_id parts.marks ≡ H.marks) }

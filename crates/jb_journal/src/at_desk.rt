@@ -43,10 +43,7 @@ impl<'a, R: Threads + Wait + time::Clock + Sync, W: Sync> Run<'a, R, W> {
         D: Disk + Drop + Send,
         C: Clock + Drop + Send,
         H: Origin + Send + Sync,
-    >(
-        &self,
-        parts: DeskParts<D, C>,
-    ) -> Result<Ran<T, D>, NotRun<T, D>>
+    >(&self, parts: DeskParts<D, C>) -> Result<Ran<T, D>, NotRun<T, D>>
     where
         W: Worker<T>,
         requires run { CanRun W.needs H.begun self.now }

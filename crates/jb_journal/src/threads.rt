@@ -70,11 +70,7 @@ impl<'a, R: Threads + Wait + time::Clock + Sync, W: Sync> Run<'a, R, W> {
         D: Disk + Drop + Send,
         C: Clock + Drop + Send,
         H: Origin + Send + Sync,
-    >(
-        &self,
-        desk: &Desk<D, C, H>,
-        places: Vec<WorkerResult<T, D, H>>,
-    ) -> Threaded<T, D, H>
+    >(&self, desk: &Desk<D, C, H>, places: Vec<WorkerResult<T, D, H>>) -> Threaded<T, D, H>
     where
         W: Worker<T>,
         requires run { CanRun W.needs H.begun self.now }

@@ -114,16 +114,16 @@ module _ {D H : Type 0} (G : Disks D) {O : Ghosts H} {P : Places H} (b : Begun) 
   })
 
 -- the batch is held again: there was no memory, or the journal does not take it
-module _ {D : Type 0} (G : Disks D) (b : Begun) (p : Planned) (after : Option Gathered) (old new : Front) (some : 0 < length p.batch.handles) (again : after ≡ Some p.batch) (as : new ≡ old) where
+module _ {D : Type 0} (G : Disks D) (b : Begun) (p : Planned) (after : Option Gathered) (old new : Front) (some : 0 < length p.batch.handles) (again : after ≡ Some p.batch) (stays : new ≡ old) where
   refused-as : (fault : BatchFault) (why : RoundFault) → why ≡ round.Refused → RefusesRound G b p fault → Ends G b p after old new (Err why)
   refused-as fault why is refuses = subst (λ (w : RoundFault). Ends G b p after old new (Err w)) (sym is) (record {
     answers = again;
-    view = as;
+    view = stays;
     round = (p, fault, record { next = refl; some = some }, again, refuses);
   })
 
   held-as : (fault : BatchFault) (back : Planned) (why : RoundFault) → IsLeftBy fault (Held back why) → EndsRound G b p (Err fault) → Ends G b p after old new (Err why)
-  held-as (batch.Memory given) back why is ends = subst (λ (w : RoundFault). Ends G b p after old new (Err w)) (sym is.1) (record { answers = again; view = as; round = tt })
+  held-as (batch.Memory given) back why is ends = subst (λ (w : RoundFault). Ends G b p after old new (Err w)) (sym is.1) (record { answers = again; view = stays; round = tt })
   held-as (batch.WrongTicket given expected) back why is ends = refused-as (batch.WrongTicket given expected) why is.1 ends
   held-as (batch.OtherShape given) back why is ends = refused-as (batch.OtherShape given) why is.1 ends
   held-as (batch.NumbersSpent given) back why is ends = refused-as (batch.NumbersSpent given) why is.1 ends
