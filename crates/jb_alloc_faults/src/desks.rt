@@ -6,9 +6,7 @@ ghost use Rattle.jb_board.specs.History.{history_id};
 use crate::journals::{STAMP, recovered_word};
 use crate::met::{Met, ample, refusing, tried};
 use jb_block::Memory;
-use jb_board::NewHistory;
-use jb_deck::Deck;
-use jb_desk::{Closed, Desk, Left, Origin, StopLedger};
+use jb_desk::{Closed, Desk, DeskParts, Left, Origin, StopLedger};
 use jb_disk::{Disk, FixedClock, MemoryDisk};
 use std::alloc::Global;
 use std::fs::File;
@@ -65,45 +63,32 @@ pub fn stops_row(rt: &impl Files<File = File>, alloc: Global) -> Option<Met> {
     tried(rt, || is_made(alloc))
 }
 
-/// What a desk is started with, when it is handed back.
-type Parts = (
-    StopLedger,
-    NewHistory<Deck<MemoryDisk>>,
-    Deck<MemoryDisk>,
-    FixedClock,
-);
+/// What the small desk is started with.
+pub type SmallParts = DeskParts<MemoryDisk, FixedClock>;
 
 /// Starts a desk over a journal, of which nothing is known at the start.
-fn start<H: Origin>(
-    alloc: Global,
-    handles: StopLedger,
-    marks: NewHistory<Deck<MemoryDisk>>,
-    deck: Deck<MemoryDisk>,
-) -> Result<Small<MemoryDisk, H>, Parts>
+fn start<H: Origin>(alloc: Global, parts: SmallParts) -> Result<Small<MemoryDisk, H>, SmallParts>
     requires blind { (H.begun.is_known → ⊥) × (H.begun.none_failed → ⊥) }
-    requires handles { (handles.tickets.name ≡ H.name) × (handles.tickets.parts ≡ H.parts) × (H.parts ≡ 2 ^ 61 + 1) }
-    requires histories { (history_in handles ≡ H.history) × (history_id marks ≡ H.marks) }
-    requires fresh { deck.trail ≡ [] }
-    requires running { deck.aborted ≡ false }
-    ensures back { IfErr result (λ back. (back.0 ≡ handles) × (back.1 ≡ marks) × (back.2 ≡ deck)) }
+    requires handles { (parts.handles.tickets.name ≡ H.name) × (parts.handles.tickets.parts ≡ H.parts)
+        × (H.parts ≡ 2 ^ 61 + 1) }
+    requires histories { (history_in parts.handles ≡ H.history) × (history_id parts.marks ≡ H.marks) }
+    requires fresh { parts.deck.trail ≡ [] }
+    requires running { parts.deck.aborted ≡ false }
+    ensures back { IfErr result (λ back. back ≡ parts) }
 {
-    Desk::start(alloc, handles, marks, deck, CLOCK)
+    Desk::start(alloc, parts)
 }
 
 /// The parts that were handed back for want of memory start a desk.
-fn start_again<H: Origin>(
-    alloc: Global,
-    handles: StopLedger,
-    marks: NewHistory<Deck<MemoryDisk>>,
-    deck: Deck<MemoryDisk>,
-) -> Option<Small<MemoryDisk, H>>
+fn start_again<H: Origin>(alloc: Global, parts: SmallParts) -> Option<Small<MemoryDisk, H>>
     requires blind { (H.begun.is_known → ⊥) × (H.begun.none_failed → ⊥) }
-    requires handles { (handles.tickets.name ≡ H.name) × (handles.tickets.parts ≡ H.parts) × (H.parts ≡ 2 ^ 61 + 1) }
-    requires histories { (history_in handles ≡ H.history) × (history_id marks ≡ H.marks) }
-    requires fresh { deck.trail ≡ [] }
-    requires running { deck.aborted ≡ false }
+    requires handles { (parts.handles.tickets.name ≡ H.name) × (parts.handles.tickets.parts ≡ H.parts)
+        × (H.parts ≡ 2 ^ 61 + 1) }
+    requires histories { (history_in parts.handles ≡ H.history) × (history_id parts.marks ≡ H.marks) }
+    requires fresh { parts.deck.trail ≡ [] }
+    requires running { parts.deck.aborted ≡ false }
 {
-    start::<H>(alloc, handles, marks, deck).ok()
+    start::<H>(alloc, parts).ok()
 }
 
 /// A desk over a new journal, which is started where memory may be refused if that is asked; and whether memory ran
@@ -111,28 +96,24 @@ fn start_again<H: Origin>(
 pub fn started<R: Files<File = File>, H: Origin>(
     rt: &R,
     alloc: Global,
-    handles: StopLedger,
-    marks: NewHistory<Deck<MemoryDisk>>,
-    deck: Deck<MemoryDisk>,
+    parts: SmallParts,
     is_refused: bool,
 ) -> (Met, Option<Small<MemoryDisk, H>>)
     requires blind { (H.begun.is_known → ⊥) × (H.begun.none_failed → ⊥) }
-    requires handles { (handles.tickets.name ≡ H.name) × (handles.tickets.parts ≡ H.parts) × (H.parts ≡ 2 ^ 61 + 1) }
-    requires histories { (history_in handles ≡ H.history) × (history_id marks ≡ H.marks) }
-    requires fresh { deck.trail ≡ [] }
-    requires running { deck.aborted ≡ false }
+    requires handles { (parts.handles.tickets.name ≡ H.name) × (parts.handles.tickets.parts ≡ H.parts)
+        × (H.parts ≡ 2 ^ 61 + 1) }
+    requires histories { (history_in parts.handles ≡ H.history) × (history_id parts.marks ≡ H.marks) }
+    requires fresh { parts.deck.trail ≡ [] }
+    requires running { parts.deck.aborted ≡ false }
 {
     if is_refused {
         refusing(rt);
     }
-    let first = start::<H>(alloc, handles, marks, deck);
+    let first = start::<H>(alloc, parts);
     ample(rt);
     match first {
         Ok(desk) => (Met::Ample, Some(desk)),
-        Err((handles, marks, deck, _)) => (
-            Met::Memory,
-            start_again::<H>(alloc, handles, marks, deck),
-        ),
+        Err(parts) => (Met::Memory, start_again::<H>(alloc, parts)),
     }
 }
 

@@ -4,14 +4,13 @@ ghost use Rattle.jb_desk.specs.History.{history_in};
 ghost use Rattle.jb_board.specs.History.{history_id};
 ghost use Rattle.jb_handle.specs.Word.{WordMap};
 
-use crate::desks::{PARTS, Rest, Small, settle, started};
+use crate::desks::{CLOCK, PARTS, Rest, Small, SmallParts, settle, started};
 use crate::journals::opened;
 use crate::met::Met;
 use crate::{books, decks, desks, disks, handles, logs, machines, rounds, stopping, texts, values};
 use jb_board::NewHistory;
-use jb_deck::Deck;
-use jb_desk::{Origin, StopLedger};
-use jb_disk::{Disk, MemoryDisk};
+use jb_desk::{DeskParts, Origin, StopLedger};
+use jb_disk::Disk;
 use std::alloc::Global;
 use std::fs::File;
 use std::marker::Brand;
@@ -103,10 +102,13 @@ fn desk_row<R: Files<File = File> + Threads + Wait + Clock + Sync>(
     alloc: Global,
     row: OfDesk,
 ) -> Option<Met> {
-    let handles = StopLedger::new(alloc, PARTS).ok()?;
-    let marks = NewHistory::new(alloc).ok()?;
-    let deck = opened(alloc)?;
-    run_row::<R, Brand>(rt, alloc, row, handles, marks, deck)
+    let parts = DeskParts {
+        handles: StopLedger::new(alloc, PARTS).ok()?,
+        marks: NewHistory::new(alloc).ok()?,
+        deck: opened(alloc)?,
+        clock: CLOCK,
+    };
+    run_row::<R, Brand>(rt, alloc, row, parts)
 }
 
 /// What a row leaves at its desk.
@@ -134,19 +136,18 @@ fn run_row<R: Files<File = File> + Threads + Wait + Clock + Sync, H: Origin + Se
     rt: &R,
     alloc: Global,
     row: OfDesk,
-    handles: StopLedger,
-    marks: NewHistory<Deck<MemoryDisk>>,
-    deck: Deck<MemoryDisk>,
+    parts: SmallParts,
 ) -> Option<Met>
     requires blind { (H.begun.is_known → ⊥) × (H.begun.none_failed → ⊥) }
     requires any { (words : WordMap) → H.begun.stops words }
-    requires handles { (handles.tickets.name ≡ H.name) × (handles.tickets.parts ≡ H.parts) × (H.parts ≡ 2 ^ 61 + 1) }
-    requires histories { (history_in handles ≡ H.history) × (history_id marks ≡ H.marks) }
-    requires fresh { deck.trail ≡ [] }
-    requires running { deck.aborted ≡ false }
+    requires handles { (parts.handles.tickets.name ≡ H.name) × (parts.handles.tickets.parts ≡ H.parts)
+        × (H.parts ≡ 2 ^ 61 + 1) }
+    requires histories { (history_in parts.handles ≡ H.history) × (history_id parts.marks ≡ H.marks) }
+    requires fresh { parts.deck.trail ≡ [] }
+    requires running { parts.deck.aborted ≡ false }
 {
     let is_refused = matches!(row, OfDesk::Start);
-    let (met, desk) = started::<R, H>(rt, alloc, handles, marks, deck, is_refused);
+    let (met, desk) = started::<R, H>(rt, alloc, parts, is_refused);
     let desk = desk?;
     let rest = rest_of(rt, row, &desk);
     match settle(rt, alloc, desk, rest) {

@@ -2,12 +2,10 @@
 ghost use Rattle.std.specs.Prelude.{◌≡◌, None, Some, Ok, Err, OnOk, IfErr};
 
 use crate::held_batch::HeldBatch;
-use crate::queue_state::{HasAborted, NothingToTake, OutstandingBatch};
+use crate::queue_state::{HasAborted, NothingToTake};
 use crate::seat::Seat;
-use jb_board::Tickets;
-use jb_book::{Origin, Sights};
-use jb_deck::{Done, Prepared};
-use jb_disk::Disk;
+use jb_book::Origin;
+use jb_deck::Done;
 use std::mem;
 use thiserror::Error;
 
@@ -29,9 +27,6 @@ pub struct Committer<H: Origin> {
 }
 
 impl<H: Origin> Committer<H> {
-    ghost use Rattle.jb_board.specs.Seats.{given_by};
-    ghost use Rattle.jb_desk.specs.BatchOut.{IsOut};
-
     /// Holds a batch until the next round.
     pub(crate) fn hold(&mut self, batch: HeldBatch<H>)
         requires { self.old.batch ≡ None }
@@ -41,21 +36,6 @@ impl<H: Origin> Committer<H> {
             None => {}
             Some(_) => unreachable!(),
         }
-    }
-
-    /// Holds a batch again that the journal hands back.
-    pub(crate) fn hold_again<D: Disk>(
-        &mut self,
-        prepared: Prepared,
-        tickets: Tickets<H>,
-        seen: Sights<D, H>,
-        out: OutstandingBatch,
-    )
-        requires free { self.old.batch ≡ None }
-        requires out { IsOut H.begun prepared.batch (given_by tickets) seen.stops out }
-        ensures { (self.new.seat ≡ self.old.seat) × (self.new.batch ≡ Some prepared.batch) }
-    {
-        self.hold(HeldBatch::of(prepared.back(), tickets, seen.stops, out));
     }
 }
 

@@ -17,6 +17,7 @@ mod taking;
 mod timed;
 mod waiting;
 
+use crate::desk_parts::DeskParts;
 use crate::fair_queue::FairQueue;
 use crate::fault::{SeatFault, StopFault, WaitFault};
 use crate::queue_state::QueueState;
@@ -26,7 +27,7 @@ use crate::signals::Signals;
 use crate::stop_ledger::StopLedger;
 use crate::waits::Waits;
 pub use closing::{CloseFault, Closed};
-use jb_board::{Board, Front, NewHistory};
+use jb_board::{Board, Front};
 use jb_book::{BeginFault, Histories, JournalState, Marks, Origin, Register, Sights};
 use jb_deck::Deck;
 use jb_disk::{Clock, Disk};
@@ -62,34 +63,32 @@ impl<D: Disk, C: Clock, H: Origin> Desk<D, C, H> {
     ghost use Rattle.jb_book.specs.Since.{IsSince};
     ghost use Rattle.jb_desk.specs.Views.{with_settled, RefusesWait};
 
-    /// A desk over a journal that has committed nothing yet and has not failed. `handles` is a new ledger,
-    /// in which the handles that stop are counted, with a new history of them; `marks` is a new history of the journal
-    /// as it is now, after each round of a committer and after each read.
-    /// What is promised of the disk from now on is said of the start that the caller picks (`H.begun`).
+    /// A desk over a journal that has committed nothing yet and has not failed. What is promised of the disk from now
+    /// on is said of the start that the caller picks (`H.begun`).
     ///
     /// # Errors
     ///
-    /// All four parts, where there is no memory for the board.
-    pub fn start(
-        alloc: Global,
-        handles: StopLedger,
-        marks: NewHistory<Deck<D>>,
-        deck: Deck<D>,
-        clock: C,
-    ) -> Result<Desk<D, C, H>, (StopLedger, NewHistory<Deck<D>>, Deck<D>, C)>
-        requires handles { (handles.tickets.name ≡ H.name) × (handles.tickets.parts ≡ H.parts)
+    /// All parts, where there is no memory for the board.
+    pub fn start(alloc: Global, parts: DeskParts<D, C>) -> Result<Desk<D, C, H>, DeskParts<D, C>>
+        requires handles { (parts.handles.tickets.name ≡ H.name) × (parts.handles.tickets.parts ≡ H.parts)
             × (H.parts ≡ 2 ^ 61 + 1) }
-        requires histories { (history_in handles ≡ H.history) × (history_id marks ≡ H.marks) }
-        requires fresh { deck.trail ≡ [] }
-        requires running { deck.aborted ≡ false }
-        requires begun { IsSince D.Disk H.begun deck }
+        requires histories { (history_in parts.handles ≡ H.history) × (history_id parts.marks ≡ H.marks) }
+        requires fresh { parts.deck.trail ≡ [] }
+        requires running { parts.deck.aborted ≡ false }
+        requires begun { IsSince D.Disk H.begun parts.deck }
         /// A desk that is started has the journal's shape.
-        ensures shape { IfOk result (λ desk. shape_in desk ≡ deck.shape) }
-        ensures back { IfErr result (λ back. back ≡ (handles, marks, deck, clock)) }
+        ensures shape { IfOk result (λ desk. shape_in desk ≡ parts.deck.shape) }
+        ensures back { IfErr result (λ back. back ≡ parts) }
     {
         let Ok((board, _)) = Board::new(alloc) else {
-            return Err((handles, marks, deck, clock));
+            return Err(parts);
         };
+        let DeskParts {
+            handles,
+            marks,
+            deck,
+            clock,
+        } = parts;
         let shape = deck.shape();
         let StopLedger { tickets, history } = handles;
         let (stops, mut appender) = history.named::<H>();

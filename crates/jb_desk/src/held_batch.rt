@@ -8,15 +8,23 @@ use jb_deck::Batch;
 use jb_handle::Words;
 use std::marker::Model;
 
+/// What a committer has of a batch beside its handles. It must be used up with the batch.
+#[must_use]
+pub(crate) struct BatchWitness<H: Origin> {
+    /// That its tickets were given.
+    pub tickets: Tickets<H>,
+    /// A prefix of the history of stops that has its handles.
+    pub prefix: Prefix<Words, H>,
+    /// That it is out.
+    pub out: OutstandingBatch,
+}
+
 /// A batch of one handle at least, which has a cut within the journal's limit, and whose handles stopped with words
-/// that a handle may stop with (`H.begun`); that its tickets were given and are out; and a prefix of the history
-/// of stops that has its handles. It must be used up, as the batch in it.
+/// that a handle may stop with (`H.begun`), with its witness. It must be used up, as the batch in it.
 #[must_use]
 pub struct HeldBatch<H: Origin> {
     batch: Batch,
-    tickets: Tickets<H>,
-    prefix: Prefix<Words, H>,
-    out: OutstandingBatch,
+    witness: BatchWitness<H>,
 }
 
 impl<H: Origin> Model for HeldBatch<H> {
@@ -32,7 +40,7 @@ impl<H: Origin> Model for HeldBatch<H> {
 
     ghost view = { λ h. h.batch };
 
-    ghost invariant = { λ h. IsOut H.begun h.batch (given_by h.tickets) h.prefix h.out };
+    ghost invariant = { λ h. IsOut H.begun h.batch (given_by h.witness.tickets) h.witness.prefix h.witness.out };
 }
 
 impl<H: Origin> HeldBatch<H> {
@@ -40,43 +48,28 @@ impl<H: Origin> HeldBatch<H> {
     ghost use Rattle.jb_desk.specs.BatchOut.{IsOut};
 
     /// A batch to be held.
-    pub(crate) fn of(
-        batch: Batch,
-        tickets: Tickets<H>,
-        prefix: Prefix<Words, H>,
-        out: OutstandingBatch,
-    ) -> HeldBatch<H>
-        requires { IsOut H.begun batch (given_by tickets) prefix out }
+    pub(crate) fn of(batch: Batch, witness: BatchWitness<H>) -> HeldBatch<H>
+        requires { IsOut H.begun batch (given_by witness.tickets) witness.prefix witness.out }
         ensures { result ≡ batch }
     {
-        HeldBatch {
-            batch,
-            tickets,
-            prefix,
-            out,
-        }
+        HeldBatch { batch, witness }
     }
 
-    /// The batch again, that its tickets were given, what has its handles, and that it is out.
-    pub(crate) fn end(self) -> (Batch, Tickets<H>, Prefix<Words, H>, OutstandingBatch)
+    /// The batch again, and its witness.
+    pub(crate) fn end(self) -> (Batch, BatchWitness<H>)
         ensures batch { result.0 ≡ self }
         // A batch that is held for a round has handles of the history of stops, with their words; it has the tickets
         // and the shape with which it is out.
-        ensures out { IsOut H.begun result.0 (given_by result.1) result.2 result.3 }
+        ensures out { IsOut H.begun result.0 (given_by result.1.tickets) result.1.prefix result.1.out }
     {
-        let HeldBatch {
-            batch,
-            tickets,
-            prefix,
-            out,
-        } = self;
-        (batch, tickets, prefix, out)
+        let HeldBatch { batch, witness } = self;
+        (batch, witness)
     }
 
     /// The batch is lost, as its book has failed.
     pub(crate) fn lose(self, failed: &HasAborted) {
-        let (batch, _, _, out) = self.end();
-        out.lose(failed);
+        let (batch, witness) = self.end();
+        witness.out.lose(failed);
         let _lost = batch.end();
     }
 }

@@ -12,6 +12,7 @@
 mod committer;
 mod delay;
 mod desk;
+mod desk_parts;
 mod ended;
 mod fair_queue;
 mod fault;
@@ -23,11 +24,13 @@ mod seat;
 mod shown;
 mod signals;
 mod stop_ledger;
+mod uncommitted;
 mod waits;
 
 pub use committer::{Committer, Retired, Round, RoundFault};
 pub use delay::Delay;
 pub use desk::{CloseFault, Closed, Desk};
+pub use desk_parts::DeskParts;
 pub use ended::Ended;
 pub use fault::{SeatFault, StopFault, WaitFault};
 pub use jb_book::{

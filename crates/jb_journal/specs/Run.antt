@@ -6,6 +6,7 @@ use Rattle.std.specs.List.{sum_by}
 use Rattle.jb_cost.specs.Pieces.{joined}
 use Rattle.jb_disk.specs.declared.disk.Disk.{Ghosts as Disks}
 use Rattle.jb_disk.specs.declared.failure.Failure.{Failure}
+use Rattle.jb_handle.specs.Word.{WordMap}
 use Rattle.jb_handle.specs.declared.shape.Shape.{Shape}
 use Rattle.jb_deck.specs.Deck.{OpenDeck}
 use Rattle.jb_deck.specs.Done.{Follow, start_of}
@@ -26,6 +27,8 @@ use Rattle.jb_book.specs.OpenDisk.{WasOpened}
 use Rattle.jb_book.specs.declared.sights.Sights.{Sights}
 use Rattle.jb_journal.specs.Client.{AreHonest, known_in}
 use Rattle.jb_journal.specs.Notes.{Known, KnownLasts, Stop}
+use Rattle.jb_journal.specs.declared.at_desk.Run.{Run}
+use Rattle.jb_journal.specs.declared.options.Commits.{Commits}
 use Rattle.jb_journal.specs.declared.fault.NotDurable.{NotDurable}
 use Rattle.jb_journal.specs.declared.fault.NotDurable.TheVariants.{NotSettled, NotHome}
 use Rattle.jb_journal.specs.declared.ran.Ran.{Ran}
@@ -49,6 +52,14 @@ pub record AreAnswers {T D : Type 0} (G : Disks D) (may : Type 0 → ℕ → ℕ
 abbrev pub stops_left_by : {H : Type 0} {O : Ghosts H} {P : Places H} → Option (Left H O P) → List Stop
 stops_left_by None = []
 stops_left_by (Some left) = made_left left
+
+-- what is asked of a run: it has 1 to 64 workers, a handle may stop with any words, and commits are made when its
+-- worker needs them
+pub record CanRun {R W : Type 0} (needs : W → Commits → Type 0) (b : Begun) (run : Run R W) : Type 0 where
+  pub some : 1 ≤ run.options.workers
+  pub few : run.options.workers ≤ 64
+  pub any : (words : WordMap) → b.stops words
+  pub needs : needs run.worker.now run.options.commits
 
 module _ {T D H : Type 0} {O : Ghosts H} {P : Places H} where
   -- what a worker answered

@@ -2,6 +2,7 @@
 //! and written home.
 #![tactic(auto)]
 
+mod at_desk;
 mod change;
 mod client;
 mod clock;

@@ -1,30 +1,22 @@
 //! A journal is run.
-ghost use Rattle.std.specs.Prelude.{◌≡◌, ◌+◌, ◌^◌, ◌<◌, ◌≤◌, [], false, IfErr, IfOk, IfSome};
+ghost use Rattle.std.specs.Prelude.{◌≡◌, ◌+◌, ◌^◌, ◌<◌, ◌≤◌, IfErr, IfOk, IfSome};
 ghost use Rattle.jb_disk.specs.Faults.{most_faults};
-ghost use Rattle.jb_desk.specs.Desks.{shape_in};
-ghost use Rattle.jb_desk.specs.History.{history_in};
-ghost use Rattle.jb_book.specs.Since.{EndsSince, IsBegunOn, IsSince};
+ghost use Rattle.jb_book.specs.Since.{EndsSince, IsBegunOn};
 ghost use Rattle.jb_handle.specs.Word.{WordMap};
-ghost use Rattle.jb_board.specs.History.{history_id};
-ghost use Rattle.jb_journal.specs.Gather.{IsRoomFor};
-ghost use Rattle.jb_journal.specs.RunFaults.{IsNotRun, StopsAtDesk, StopsRun};
-ghost use Rattle.jb_journal.specs.Run.{EndsRun, RanAll, RanOn};
+ghost use Rattle.jb_journal.specs.RunFaults.{IsNotRun};
+ghost use Rattle.jb_journal.specs.Run.{EndsRun, RanOn};
 ghost use Rattle.jb_journal.specs.Start.{started_on};
 
-use crate::closing::close;
+use crate::at_desk::Run;
 use crate::fault::RunFault;
 use crate::not_run::NotRun;
 use crate::options::Options;
 use crate::ran::Ran;
-use crate::room::{Room, places_of};
-use crate::thread_results::ThreadResults;
-use crate::threads::run_all;
 use crate::worker::Worker;
 use jb_board::NewHistory;
 use jb_deck::Deck;
-use jb_desk::{Desk, Origin, StopLedger};
+use jb_desk::{DeskParts, Origin, StopLedger};
 use jb_disk::{Clock, Disk};
-use jb_handle::Shape;
 use std::alloc::Global;
 use std::marker::Brand;
 use std::sync::Wait;
@@ -136,48 +128,28 @@ pub fn run_on<
     ensures refused { IfErr result (IsNotRun D.Disk disk H.begun options.commits (W.answers worker.now H.begun)
         options.workers) }
 {
-    match jb_desk::open::<D, H>(alloc, disk) {
-        Ok(deck) => {
-            let shape = deck.shape();
-            run_deck::<T, W, D, C, R, H>(rt, alloc, deck, shape, clock, options, worker)
-        }
-        Err((disk, fault)) => Err(NotRun::of(alloc, disk, RunFault::Open(fault))),
-    }
-}
-
-/// Runs the workers on a journal that was just opened.
-fn run_deck<
-    T: Drop + Send,
-    W: Worker<T> + Sync,
-    D: Disk + Drop + Send,
-    C: Clock + Drop + Send,
-    R: Threads + Wait + time::Clock + Sync,
-    H: Origin,
->(
-    rt: &R,
-    alloc: Global,
-    deck: Deck<D>,
-    shape: Shape,
-    clock: C,
-    options: Options,
-    worker: &W,
-) -> Result<Ran<T, D>, NotRun<T, D>>
-    requires workers { (1 ≤ options.workers) × (options.workers ≤ 64) }
-    requires needs { W.needs worker.now options.commits }
-    requires deck { (deck.trail ≡ []) × (deck.aborted ≡ false) × (deck.shape ≡ shape) × IsSince D.Disk H.begun deck }
-    requires any { (words : WordMap) → H.begun.stops words }
-    ensures ran { IfOk result (RanAll D.Disk H.begun (W.answers worker.now H.begun shape) options.workers shape) }
-    ensures ends { IfOk result (EndsRun options.checkpoint) }
-    ensures since { IfOk result (λ ran. EndsSince D.Disk H.begun ran.disk ran.trail.items) }
-    ensures faults { IfErr result (StopsRun D.Disk H.begun deck.disk options.commits
-        (W.answers worker.now H.begun shape) options.workers) }
-{
+    let deck = match jb_desk::open::<D, H>(alloc, disk) {
+        Ok(deck) => deck,
+        Err((disk, fault)) => return Err(NotRun::of(alloc, disk, RunFault::Open(fault))),
+    };
+    let shape = deck.shape();
     let Some((handles, marks)) = histories(alloc) else {
         return Err(NotRun::of(alloc, deck.close(), RunFault::Memory));
     };
-    run_open::<T, W, D, C, R, Brand>(
-        rt, alloc, handles, marks, deck, shape, clock, options, worker,
-    )
+    let run = Run {
+        rt,
+        alloc,
+        worker,
+        options,
+        shape,
+    };
+    let parts = DeskParts {
+        handles,
+        marks,
+        deck,
+        clock,
+    };
+    run.at_desk::<T, D, C, Brand>(parts)
 }
 
 /// A new ledger of handles, with its history, and a new history of a journal's commits; `None` where there is no memory
@@ -188,105 +160,4 @@ fn histories<D: Disk>(alloc: Global) -> Option<(StopLedger, NewHistory<Deck<D>>)
     let handles = StopLedger::new(alloc, PARTS).ok()?;
     let marks = NewHistory::new(alloc).ok()?;
     Some((handles, marks))
-}
-
-/// Runs the workers at a desk over a journal that was just opened. `handles` is the ledger of its handles, with their
-/// history; `marks` is the history of its commits.
-fn run_open<
-    T: Drop + Send,
-    W: Worker<T> + Sync,
-    D: Disk + Drop + Send,
-    C: Clock + Drop + Send,
-    R: Threads + Wait + time::Clock + Sync,
-    H: Origin + Send + Sync,
->(
-    rt: &R,
-    alloc: Global,
-    handles: StopLedger,
-    marks: NewHistory<Deck<D>>,
-    deck: Deck<D>,
-    shape: Shape,
-    clock: C,
-    options: Options,
-    worker: &W,
-) -> Result<Ran<T, D>, NotRun<T, D>>
-    requires ledger { (handles.tickets.name ≡ H.name) × (handles.tickets.parts ≡ H.parts) × (H.parts ≡ 2 ^ 61 + 1) }
-    requires histories { (history_in handles ≡ H.history) × (history_id marks ≡ H.marks) }
-    requires deck { (deck.trail ≡ []) × (deck.aborted ≡ false) × (deck.shape ≡ shape) × IsSince D.Disk H.begun deck }
-    requires work { (1 ≤ options.workers) × (options.workers ≤ 64) × ((words : WordMap) → H.begun.stops words)
-        × W.needs worker.now options.commits }
-    ensures ran { IfOk result (RanAll D.Disk H.begun (W.answers worker.now H.begun shape) options.workers shape) }
-    ensures ends { IfOk result (EndsRun options.checkpoint) }
-    ensures since { IfOk result (λ ran. EndsSince D.Disk H.begun ran.disk ran.trail.items) }
-    ensures faults { IfErr result (StopsRun D.Disk H.begun deck.disk options.commits
-        (W.answers worker.now H.begun shape) options.workers) }
-{
-    let Ok(room) = Room::take(alloc, options.workers) else {
-        return Err(NotRun::of(alloc, deck.close(), RunFault::Memory));
-    };
-    match start::<D, C, H>(alloc, handles, marks, deck, clock) {
-        Ok(desk) => run_at(rt, desk, shape, options, worker, room),
-        Err(disk) => Err(NotRun::of(alloc, disk, RunFault::Memory)),
-    }
-}
-
-/// A desk over a journal that was just opened.
-///
-/// # Errors
-/// The journal's disk, where there is no memory for it.
-fn start<D: Disk + Drop, C: Clock + Drop, H: Origin>(
-    alloc: Global,
-    handles: StopLedger,
-    marks: NewHistory<Deck<D>>,
-    deck: Deck<D>,
-    clock: C,
-) -> Result<Desk<D, C, H>, D>
-    requires ledger { (handles.tickets.name ≡ H.name) × (handles.tickets.parts ≡ H.parts) × (H.parts ≡ 2 ^ 61 + 1) }
-    requires histories { (history_in handles ≡ H.history) × (history_id marks ≡ H.marks) }
-    requires deck { (deck.trail ≡ []) × (deck.aborted ≡ false) × IsSince D.Disk H.begun deck }
-    ensures ok { IfOk result (λ desk. shape_in desk ≡ deck.shape) }
-    ensures err { IfErr result (λ disk. disk ≡ deck.disk) }
-{
-    match Desk::start(alloc, handles, marks, deck, clock) {
-        Ok(desk) => Ok(desk),
-        Err((_, _, deck, _)) => Err(deck.close()),
-    }
-}
-
-/// Runs the workers at a new desk, and closes it. There is room for what they leave.
-fn run_at<
-    T: Drop + Send,
-    W: Worker<T> + Sync,
-    D: Disk + Drop + Send,
-    C: Clock + Drop + Send,
-    R: Threads + Wait + time::Clock + Sync,
-    H: Origin + Send + Sync,
->(
-    rt: &R,
-    desk: Desk<D, C, H>,
-    shape: Shape,
-    options: Options,
-    worker: &W,
-    room: Room<T, D, H>,
-) -> Result<Ran<T, D>, NotRun<T, D>>
-    requires parts { H.parts ≡ 2 ^ 61 + 1 }
-    requires shape { shape ≡ shape_in desk }
-    requires work { (1 ≤ options.workers) × (options.workers ≤ 64) × ((words : WordMap) → H.begun.stops words)
-        × W.needs worker.now options.commits }
-    requires room { IsRoomFor options.workers room }
-    ensures ran { IfOk result (RanAll D.Disk H.begun (W.answers worker.now H.begun shape) options.workers shape) }
-    ensures ends { IfOk result (EndsRun options.checkpoint) }
-    ensures since { IfOk result (λ ran. EndsSince D.Disk H.begun ran.disk ran.trail.items) }
-    ensures faults { IfErr result (StopsAtDesk D.Disk H.begun options.commits (W.answers worker.now H.begun shape)
-        options.workers) }
-{
-    let Room {
-        places,
-        lefts,
-        answers,
-    } = room;
-    let places = places_of(rt, &desk, options.workers, places);
-    let ran = run_all(rt, &desk, shape, options, worker, places);
-    let (gathered, ends) = ThreadResults::of(rt, &desk, lefts, answers, ran);
-    close(desk, shape, options.workers, gathered, ends)
 }

@@ -1,18 +1,16 @@
 //! The threads of a journal: its workers, its committer and its checkpointer.
-ghost use Rattle.std.specs.Prelude.{◌≡◌, ◌≤◌, true, All, None, Some, vec_len};
-ghost use Rattle.jb_handle.specs.Word.{WordMap};
+ghost use Rattle.std.specs.Prelude.{◌≡◌, true, All, None, Some, vec_len};
 ghost use Rattle.jb_desk.specs.Desks.{shape_in};
-ghost use Rattle.jb_journal.specs.Run.{HasNotWorked, HasThreaded, EndsChecked};
+ghost use Rattle.jb_journal.specs.Run.{CanRun, HasNotWorked, HasThreaded, EndsChecked};
 ghost use Rattle.jb_journal.specs.declared.options.Commits.TheVariants.{Meanwhile};
 
+use crate::at_desk::Run;
 use crate::committing::{commit_all, commit_from};
 use crate::gate::Gate;
 use crate::options::{Commits, Options};
 use crate::worker::Worker;
-use crate::working::work;
 use jb_desk::{Desk, Ended, Left, Origin, Sights};
 use jb_disk::{Clock, Disk};
-use jb_handle::Shape;
 use std::sync::Wait;
 use std::thread::Threads;
 use std::{thread, time};
@@ -63,48 +61,95 @@ pub(crate) struct Ends {
     pub given_up: bool,
 }
 
-/// Runs the workers and commits what they stopped, and writes committed transactions home where that is asked for; says
-/// how that ended, too. With `Commits::Meanwhile` no worker is called unless each of these has a thread. Takes no
-/// memory for what they leave.
-pub(crate) fn run_all<
-    T: Drop + Send,
-    W: Worker<T> + Sync,
-    D: Disk + Drop + Send,
-    C: Clock + Drop + Send,
-    R: Threads + Wait + time::Clock + Sync,
-    H: Origin + Send + Sync,
->(
-    rt: &R,
-    desk: &Desk<D, C, H>,
-    shape: Shape,
-    options: Options,
-    worker: &W,
-    places: Vec<WorkerResult<T, D, H>>,
-) -> Threaded<T, D, H>
-    requires shape { shape ≡ shape_in desk.now }
-    requires needs { W.needs worker.now options.commits }
-    requires work { (1 ≤ vec_len places) × (vec_len places ≤ 64) × ((words : WordMap) → H.begun.stops words) }
-    requires fresh { All HasNotWorked places.items }
-    ensures ran { HasThreaded D.Disk (W.answers worker.now H.begun shape) (vec_len places) result }
-    ensures given_up { result.ends.given_up ≡ true → options.commits ≡ Meanwhile }
-    ensures ended { EndsChecked options.checkpoint result.ends.checkpoint }
-{
-    let gate = Gate::new(threads_of(options));
-    if !options.checkpoint {
-        return run_workers(rt, desk, shape, &gate, options, worker, places);
+impl<'a, R: Threads + Wait + time::Clock + Sync, W: Sync> Run<'a, R, W> {
+    /// Runs the workers and commits what they stopped, and writes committed transactions home where that is asked for;
+    /// says how that ended, too. With `Commits::Meanwhile` no worker is called unless each of these has a thread. Takes
+    /// no memory for what they leave.
+    pub fn threads<
+        T: Drop + Send,
+        D: Disk + Drop + Send,
+        C: Clock + Drop + Send,
+        H: Origin + Send + Sync,
+    >(&self, desk: &Desk<D, C, H>, places: Vec<WorkerResult<T, D, H>>) -> Threaded<T, D, H>
+    where
+        W: Worker<T>,
+        requires run { CanRun W.needs H.begun self.now }
+        requires desk { self.now.shape ≡ shape_in desk.now }
+        requires places { vec_len places ≡ self.now.options.workers }
+        requires fresh { All HasNotWorked places.items }
+        ensures ran { HasThreaded D.Disk (W.answers self.now.worker.now H.begun self.now.shape)
+            self.now.options.workers result }
+        ensures given_up { result.ends.given_up ≡ true → self.now.options.commits ≡ Meanwhile }
+        ensures ended { EndsChecked self.now.options.checkpoint result.ends.checkpoint }
+    {
+        let gate = Gate::new(threads_of(self.options));
+        if !self.options.checkpoint {
+            return self.work_and_commit(desk, &gate, places);
+        }
+        let (rt, level) = (self.rt, self.options.level);
+        // the checkpointer is first, since the first closure runs last where no thread can be made
+        let (checkpoint, mut ran) = thread::join(
+            rt,
+            || check_home(rt, desk, &gate, level),
+            || -> Threaded<T, D, H>
+                requires { CanRun W.needs H.begun self.now × (self.now.shape ≡ shape_in desk.now)
+                    × (vec_len places ≡ self.now.options.workers) × All HasNotWorked places.items }
+            { self.work_and_commit(desk, &gate, places) },
+        );
+        ran.ends.checkpoint = Some(checkpoint);
+        ran
     }
-    // the checkpointer is first, since the first closure runs last where no thread can be made
-    let (checkpoint, mut ran) = thread::join(
-        rt,
-        || check_home(rt, desk, &gate, options.level),
-        || -> Threaded<T, D, H>
-            requires { (shape ≡ shape_in desk.now) × (1 ≤ vec_len places) × (vec_len places ≤ 64)
-                × ((words : WordMap) → H.begun.stops words) × All HasNotWorked places.items
-                × W.needs worker.now options.commits }
-        { run_workers(rt, desk, shape, &gate, options, worker, places) },
-    );
-    ran.ends.checkpoint = Some(checkpoint);
-    ran
+
+    /// Runs the workers and commits what they stopped, at the same time or after them. The desk is shut then. No worker
+    /// is called where the committer has no seat.
+    fn work_and_commit<
+        T: Drop + Send,
+        D: Disk + Drop + Send,
+        C: Clock + Drop + Send,
+        H: Origin + Send + Sync,
+    >(
+        &self,
+        desk: &Desk<D, C, H>,
+        gate: &Gate,
+        places: Vec<WorkerResult<T, D, H>>,
+    ) -> Threaded<T, D, H>
+    where
+        W: Worker<T>,
+        requires run { CanRun W.needs H.begun self.now }
+        requires desk { self.now.shape ≡ shape_in desk.now }
+        requires places { vec_len places ≡ self.now.options.workers }
+        requires fresh { All HasNotWorked places.items }
+        ensures ran { HasThreaded D.Disk (W.answers self.now.worker.now H.begun self.now.shape)
+            self.now.options.workers result }
+        ensures given_up { result.ends.given_up ≡ true → self.now.options.commits ≡ Meanwhile }
+        ensures checkpoint { result.ends.checkpoint ≡ None }
+    {
+        let rt = self.rt;
+        let Ok(seat) = desk.seat(rt) else {
+            desk.shut(rt);
+            return Threaded::of(places, None, false);
+        };
+        let Options { delay, commits, .. } = self.options;
+        if commits == Commits::After {
+            let places = self.work(desk, gate, places);
+            return Threaded::of(places, Some(commit_all(rt, desk, delay, seat)), false);
+        }
+        // the committer is first, since the first closure runs last where no thread can be made
+        let mut place = Some(seat);
+        let (committed, places) = thread::join(
+            rt,
+            || commit_from(rt, desk, gate, delay, &mut place),
+            || -> Vec<WorkerResult<T, D, H>>
+                requires { CanRun W.needs H.begun self.now × (self.now.shape ≡ shape_in desk.now)
+                    × (vec_len places ≡ self.now.options.workers) }
+            { self.work(desk, gate, places) },
+        );
+        if let Some(seat) = place {
+            let _left = desk.leave(rt, seat);
+        }
+        let given_up = commits == Commits::Meanwhile && gate.is_given_up(rt);
+        Threaded::of(places, committed, given_up)
+    }
 }
 
 /// How many threads have to be there before a worker is called: the workers' own, that of the committer, and that of
@@ -129,58 +174,6 @@ fn check_home<D: Disk, C: Clock, R: Wait, H: Origin>(
 {
     gate.pass(rt);
     desk.run_checkpointer_at(rt, level)
-}
-
-/// Runs the workers and commits what they stopped, at the same time or after them. The desk is shut then. No worker is
-/// called where the committer has no seat.
-fn run_workers<
-    T: Drop + Send,
-    W: Worker<T> + Sync,
-    D: Disk + Drop + Send,
-    C: Clock + Drop + Send,
-    R: Threads + Wait + time::Clock + Sync,
-    H: Origin + Send + Sync,
->(
-    rt: &R,
-    desk: &Desk<D, C, H>,
-    shape: Shape,
-    gate: &Gate,
-    options: Options,
-    worker: &W,
-    places: Vec<WorkerResult<T, D, H>>,
-) -> Threaded<T, D, H>
-    requires shape { shape ≡ shape_in desk.now }
-    requires needs { W.needs worker.now options.commits }
-    requires work { (1 ≤ vec_len places) × (vec_len places ≤ 64) × ((words : WordMap) → H.begun.stops words) }
-    requires fresh { All HasNotWorked places.items }
-    ensures ran { HasThreaded D.Disk (W.answers worker.now H.begun shape) (vec_len places) result }
-    ensures given_up { result.ends.given_up ≡ true → options.commits ≡ Meanwhile }
-    ensures checkpoint { result.ends.checkpoint ≡ None }
-{
-    let Ok(seat) = desk.seat(rt) else {
-        desk.shut(rt);
-        return Threaded::of(places, None, false);
-    };
-    let delay = options.delay;
-    if options.commits == Commits::After {
-        let places = work(rt, desk, shape, gate, options.commits, worker, places);
-        return Threaded::of(places, Some(commit_all(rt, desk, delay, seat)), false);
-    }
-    // the committer is first, since the first closure runs last where no thread can be made
-    let mut place = Some(seat);
-    let (committed, places) = thread::join(
-        rt,
-        || commit_from(rt, desk, gate, delay, &mut place),
-        || -> Vec<WorkerResult<T, D, H>>
-            requires { (shape ≡ shape_in desk.now) × (1 ≤ vec_len places) × (vec_len places ≤ 64)
-                × ((words : WordMap) → H.begun.stops words) × W.needs worker.now options.commits }
-        { work(rt, desk, shape, gate, options.commits, worker, places) },
-    );
-    if let Some(seat) = place {
-        let _left = desk.leave(rt, seat);
-    }
-    let given_up = options.commits == Commits::Meanwhile && gate.is_given_up(rt);
-    Threaded::of(places, committed, given_up)
 }
 
 impl<T, D: Disk, H: Origin> Threaded<T, D, H> {

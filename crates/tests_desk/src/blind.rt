@@ -6,7 +6,7 @@ ghost use Rattle.jb_board.specs.History.{history_id};
 use crate::journal::{CLOCK, PARTS, Still};
 use jb_board::NewHistory;
 use jb_deck::Deck;
-use jb_desk::{Desk, Origin, StopLedger};
+use jb_desk::{Desk, DeskParts, Origin, StopLedger};
 use jb_disk::Disk;
 use std::alloc::Global;
 use std::process::Abort;
@@ -37,7 +37,13 @@ pub fn start<D: Disk + Drop, H: Origin>(
     requires fresh { deck.trail ≡ [] }
     requires running { deck.aborted ≡ false }
 {
-    Desk::start(alloc, handles, marks, deck, CLOCK)
+    let parts = DeskParts {
+        handles,
+        marks,
+        deck,
+        clock: CLOCK,
+    };
+    Desk::start(alloc, parts)
         .ok()
         .expect(rt, "the desk is not started")
 }

@@ -5,14 +5,13 @@ ghost use Rattle.jb_desk.specs.Seats.{view_of};
 
 use crate::committer::{Committer, Round, RoundFault};
 use crate::desk::Desk;
-use crate::held_batch::HeldBatch;
+use crate::held_batch::{BatchWitness, HeldBatch};
 use crate::queue_state::OutstandingBatch;
 use crate::seat::Seat;
-use jb_board::{Prefix, Tickets};
+use crate::uncommitted::Uncommitted;
 use jb_book::{Origin, Sights, end_of};
-use jb_deck::{Batch, BatchFault, Done, PrepareFault, Prepared, prepare};
+use jb_deck::{Batch, Done, PrepareFault, Prepared, prepare};
 use jb_disk::{Clock, Disk};
-use jb_handle::Words;
 use std::sync::Wait;
 
 impl<D: Disk, C: Clock, H: Origin> Desk<D, C, H> {
@@ -82,16 +81,16 @@ impl<D: Disk, C: Clock, H: Origin> Desk<D, C, H> {
             return Ok(Round::Idle(queue.nothing_to_take()));
         };
         drop(queue);
-        let (batch, tickets, prefix, out) = held.end();
+        let (batch, witness) = held.end();
         let end = past(&batch);
         self.board
-            .raise_stopped(&mut committer.seat.board, end, &tickets);
+            .raise_stopped(&mut committer.seat.board, end, &witness.tickets);
         self.board
-            .raise_taken(&mut committer.seat.board, end, out.counts());
+            .raise_taken(&mut committer.seat.board, end, witness.out.counts());
         match prepare(self.alloc, batch) {
-            Ok(prepared) => self.commit(rt, committer, prepared, (tickets, prefix, out)),
+            Ok(prepared) => self.commit(rt, committer, prepared, witness),
             Err((batch, fault)) => {
-                committer.hold(HeldBatch::of(batch, tickets, prefix, out));
+                committer.hold(HeldBatch::of(batch, witness));
                 match fault {
                     PrepareFault::Memory => Err(RoundFault::Memory),
                     // a batch of a book has a cut
@@ -107,11 +106,11 @@ impl<D: Disk, C: Clock, H: Origin> Desk<D, C, H> {
         rt: &R,
         committer: &mut Committer<H>,
         prepared: Prepared,
-        held: (Tickets<H>, Prefix<Words, H>, OutstandingBatch),
+        witness: BatchWitness<H>,
     ) -> Result<Round, RoundFault>
         requires desk { desk_of (seat_of committer.old) ≡ desk_id self.now }
         requires free { held_by committer.old ≡ None }
-        requires out { IsOut H.begun prepared.batch (given_by held.0) held.1 held.2 }
+        requires out { IsOut H.begun prepared.batch (given_by witness.tickets) witness.prefix witness.out }
         requires taken { end_in prepared.batch ≤ (view_of (seat_of committer.old)).taken }
         ensures seat { KeepsSeat (seat_of committer.old) (seat_of committer.new) }
         ensures answers { AnswersRound (Some prepared.batch) (held_by committer.new)
@@ -121,7 +120,11 @@ impl<D: Disk, C: Clock, H: Origin> Desk<D, C, H> {
         ensures round { CommitsRound D.Disk H.begun 0 (Some prepared.batch) (held_by committer.new)
             (view_of (seat_of committer.new)).settled result }
     {
-        let (tickets, prefix, out) = held;
+        let BatchWitness {
+            tickets,
+            prefix,
+            out,
+        } = witness;
         // for the proof alone: only the clause of this method says that the cut is a least one
         let _groups = prepared.groups();
         // bound first, so that the lock is free again before the book's is taken
@@ -134,31 +137,27 @@ impl<D: Disk, C: Clock, H: Origin> Desk<D, C, H> {
                 let settled = self.settle(rt, &mut committer.seat, &mut seen, &done, out);
                 Round::settled(done, settled)
             }
-            Err(BatchFault::DeviceFault { settled }) => {
-                Err(self.settle_last(rt, &mut committer.seat, &mut seen, &settled, out))
-            }
-            Err(BatchFault::Aborted(prepared)) => {
-                lose(prepared);
-                let failed = self.fail(rt, &mut seen);
-                out.lose(&failed);
-                Err(RoundFault::Aborted(failed))
-            }
-            Err(BatchFault::Memory(prepared)) => {
-                committer.hold_again(prepared, tickets, seen, out);
-                Err(RoundFault::Memory)
-            }
-            Err(BatchFault::WrongTicket(prepared, _)) => {
-                committer.hold_again(prepared, tickets, seen, out);
-                Err(RoundFault::Refused)
-            }
-            Err(BatchFault::OtherShape(prepared)) => {
-                committer.hold_again(prepared, tickets, seen, out);
-                Err(RoundFault::Refused)
-            }
-            Err(BatchFault::NumbersSpent(prepared)) => {
-                committer.hold_again(prepared, tickets, seen, out);
-                Err(RoundFault::Refused)
-            }
+            Err(fault) => match Uncommitted::of(fault) {
+                Uncommitted::Failed(settled) => {
+                    Err(self.settle_last(rt, &mut committer.seat, &mut seen, &settled, out))
+                }
+                Uncommitted::Lost(prepared) => {
+                    lose(prepared);
+                    let failed = self.fail(rt, &mut seen);
+                    out.lose(&failed);
+                    Err(RoundFault::Aborted(failed))
+                }
+                Uncommitted::Held(prepared, fault) => {
+                    let prefix = seen.stops;
+                    let witness = BatchWitness {
+                        tickets,
+                        prefix,
+                        out,
+                    };
+                    committer.hold(HeldBatch::of(prepared.back(), witness));
+                    Err(fault)
+                }
+            },
         }
     }
 

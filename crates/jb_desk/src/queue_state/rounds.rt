@@ -3,7 +3,7 @@ ghost use Rattle.std.specs.Prelude.{◌≡◌, ◌↔◌, ◌≤◌, IsTrue, tru
 ghost use Rattle.std.specs.Prelude.{OnOk, IfErr, IfOk, IfSome, IfNone};
 
 use crate::committer::RoundFault;
-use crate::held_batch::HeldBatch;
+use crate::held_batch::{BatchWitness, HeldBatch};
 use crate::queue_state::{HasAborted, OutstandingBatch, QueueState};
 use jb_board::History;
 use jb_book::{Histories, Origin, Sights, WrongBatch};
@@ -62,7 +62,12 @@ impl<D: Disk, H: Origin> QueueState<D, H> {
         let _reserved = self.register.book().reserved();
         let (batch, prefix) = self.register.take(history)?;
         self.is_odd = !self.is_odd;
-        Some(HeldBatch::of(batch, self.tickets(), prefix, self.out()))
+        let witness = BatchWitness {
+            tickets: self.tickets(),
+            prefix,
+            out: self.out(),
+        };
+        Some(HeldBatch::of(batch, witness))
     }
 
     /// Settles a batch that is committed whole: one whose handles were seen, and its groups at a mark.
@@ -156,9 +161,9 @@ impl<D: Disk, H: Origin> QueueState<D, H> {
         let Some(held) = held else {
             return None;
         };
-        let (batch, _, prefix, out) = held.end();
-        let _lost = out.end();
-        self.register.give_up(history, prefix, batch);
+        let (batch, witness) = held.end();
+        let _lost = witness.out.end();
+        self.register.give_up(history, witness.prefix, batch);
         Some(self.failed())
     }
 

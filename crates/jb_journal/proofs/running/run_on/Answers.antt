@@ -1,4 +1,4 @@
-use Rattle.std.proofs.Common.{◌≡◌, ℕ, List, [], refl, sym, subst, ⊎_elim}
+use Rattle.std.proofs.Common.{◌≡◌, ◌∙◌, ℕ, List, [], inr, refl, sym, subst, ⊎_elim}
 use Rattle.std.proofs.lemmas.Result.{IfErr-weaker, IfOk-weaker}
 use Rattle.jb_book.proofs.StopHistories.{none-given}
 use Rattle.jb_book.specs.OpenDisk.{WasOpenedAs}
@@ -12,6 +12,8 @@ use Rattle.jb_journal.specs.declared.fault.RunFault.{RunFault}
 use Rattle.jb_journal.specs.declared.fault.RunFault.TheVariants.{Memory, NoThread, Accounts}
 use Rattle.jb_journal.specs.declared.not_run.NotRun.{NotRun}
 use Rattle.jb_journal.specs.declared.options.Commits.{Commits}
+use Rattle.jb_journal.proofs.running.run_on.Given.{Over}
+use Rattle.jb_journal.proofs.running.run_on.Goals.{After-shape-shape}
 use Rattle.jb_journal.proofs.running.run_on.Goals as goal
 
 module _ {T D : Type 0} (G : Ghosts D) (disk : D) (b : Begun) (commits : Commits) (may : Shape → Type 0 → ℕ → ℕ → List Stop → Known → T → Type 0) (workers : ℕ) where
@@ -32,22 +34,37 @@ module _ {T D : Type 0} (G : Ghosts D) (disk : D) (b : Begun) (commits : Commits
       (λ is. not-run-as back Memory back.disk back.answers.items is.0 refl refl (record { shape = shape; deck = deck; opened = opened; same_disk = sym is.1; none = none }, is.2))
       stops
 
-pub returns-in-Ok : goal.returns-in-Ok
-returns-in-Ok g c =
+-- the journal was opened, and is given no handle yet: what stops its run refuses it
+opened-as : (g : Over) (c : After-shape-shape g) (back : NotRun g.row.T.Denot g.row.D.Denot)
+    → StopsRun g.D.Disk g.H.Origin.begun c.in-Ok.deck.disk c.args.options.commits (g.W.Worker.answers c.args.worker.now g.H.Origin.begun c.shape-shape.result) c.args.options.workers back
+    → IsNotRun g.D.Disk c.args.disk g.H.Origin.begun c.args.options.commits (g.W.Worker.answers c.args.worker.now g.H.Origin.begun) c.args.options.workers back
+opened-as g c back =
     let b = g.H.Origin.begun in
-    let ran = c.run_deck.ensures in
-    let shape = c.shape-shape.result in
     let deck = c.in-Ok.deck in
-    let opened = c.in-Ok.ensures.opened shape c.shape-shape.ensures.journal in
     let none = none-given g.D.Disk b (λ h. ⊥) deck c.in-Ok.ensures.new.0 c.in-Ok.ensures.new.1 c.in-Ok.ensures.since in
+    refuses-as g.D.Disk c.args.disk b c.args.options.commits (g.W.Worker.answers c.args.worker.now b) c.args.options.workers c.shape-shape.result deck (c.in-Ok.ensures.opened c.shape-shape.result c.shape-shape.ensures.journal) none back
+
+pub returns : goal.returns
+returns g c =
+    let at = (goal.at.returns g c).After-shape-shape in
+    let ran = c.at_desk.ensures in
+    let shape = c.shape-shape.result in
+    let opened = c.in-Ok.ensures.opened shape c.shape-shape.ensures.journal in
     record {
-      ran = IfOk-weaker c.run_deck.result _ _ (λ told all. record { shape = shape; opened = record { deck = deck; is = opened }; all = all }) ran.ran;
+      ran = IfOk-weaker c.at_desk.result _ _ (λ told all. record { shape = shape; opened = record { deck = c.in-Ok.deck; is = opened }; all = all }) ran.ran;
       ends = ran.ends;
       since = ran.since;
-      refused = IfErr-weaker c.run_deck.result _ _
-          (refuses-as g.D.Disk c.args.disk b c.args.options.commits (g.W.Worker.answers c.args.worker.now b) c.args.options.workers shape deck opened none)
-          ran.faults;
+      refused = IfErr-weaker c.at_desk.result _ _ (opened-as g at) ran.faults;
     }
+
+-- there is no memory for its histories
+pub returns-in_default : goal.returns-in_default
+returns-in_default g c = record {
+  ran = tt;
+  ends = tt;
+  since = tt;
+  refused = opened-as g (goal.at.returns-in_default g c).After-shape-shape c.of-2.result (inr (c.of-2.ensures.2, c.of-2.ensures.0 ∙ c.close.ensures, c.of-2.ensures.1));
+}
 
 pub returns-in-Err : goal.returns-in-Err
 returns-in-Err g c = record {

@@ -6,10 +6,12 @@ use Rattle.jb_disk.specs.declared.disk.Disk.{Ghosts as Disks}
 use Rattle.jb_board.specs.Steps.{raised_settled}
 use Rattle.jb_board.specs.declared.front.Front.{Front}
 use Rattle.jb_deck.specs.declared.batched.BatchFault.{BatchFault}
-use Rattle.jb_deck.specs.declared.batched.BatchFault.TheVariants.{DeviceFault, WrongTicket, OtherShape, NumbersSpent}
+use Rattle.jb_deck.specs.declared.batched.BatchFault.TheVariants as batch
 use Rattle.jb_deck.specs.declared.done.Done.{Done}
 use Rattle.jb_deck.specs.Done.{entries_of, first_ticket, past_after}
-use Rattle.jb_book.specs.Journal.{EndsRound}
+use Rattle.jb_book.specs.Journal.{EndsRound, RefusesRound}
+use Rattle.jb_book.specs.Marks.{HasFailedMark}
+use Rattle.jb_deck.specs.Deck.{OpenDeck}
 use Rattle.jb_book.specs.CallsToBook.{IsInHistory}
 use Rattle.jb_book.specs.Origin.{Begun}
 use Rattle.jb_book.specs.Rounds.{CommitsAs, end_of}
@@ -17,6 +19,8 @@ use Rattle.jb_book.specs.SinceMark.{MarksSettled}
 use Rattle.jb_book.specs.MachineTie.{TellsFirst}
 use Rattle.jb_desk.specs.Journal.{CommitsRound}
 use Rattle.jb_desk.specs.BatchOut.{IsOut}
+use Rattle.jb_desk.specs.Refusals.{IsLeftBy}
+use Rattle.jb_desk.specs.declared.uncommitted.Uncommitted.TheVariants.{Failed, Lost, Held}
 use Rattle.jb_desk.specs.Rounds.{AnswersRound, seat_of}
 use Rattle.jb_desk.specs.Seats.{view_of}
 use Rattle.jb_desk.specs.Views.{SeesCommit}
@@ -32,16 +36,39 @@ use Rattle.jb_desk.specs.declared.committer.RoundFault.TheVariants as round
 use Rattle.jb_desk.proofs.SettledBatch.{settles-whole, whole-past}
 use Rattle.jb_desk.proofs.RoundCounts.{keeps-same, settled-by}
 use Rattle.jb_desk.proofs.desk.Desk.commit.Given.{Over}
-use Rattle.jb_desk.proofs.desk.Desk.commit.Goals.{After-settled, After-settle_last}
+use Rattle.jb_desk.proofs.desk.Desk.commit.Goals.{After-settled, After-settle_last, After-back, After-hold}
 use Rattle.jb_desk.proofs.desk.Desk.commit.Goals as goal
 
 -- a batch that is handed back as it was is out as it was
 out-on : {b : Begun} {batch back : Gathered} {given : ℕ} {prefix seen : List WordMap} {out : OutstandingBatch} → back ≡ batch → seen ≡ prefix → IsOut b batch given prefix out → IsOut b back given seen out
 out-on {b} {given = given} {out = out} same kept is = subst (λ (x : Gathered × List WordMap). IsOut b x.0 given x.1 out) (λ i. (sym same i, sym kept i)) is
 
--- what is told of a commit is told of its fault
-falls : {r : Result Done BatchFault} {found fault : BatchFault} → r ≡ Err found → found ≡ fault → (Told : Result Done BatchFault → Type 0) → Told r → Told (Err fault)
-falls fails is Told told = subst (λ (f : BatchFault). Told (Err f)) is (subst Told fails told)
+-- what is told of a fault that has left these groups settled
+fell : (Told : Result Done BatchFault → Type 0) (fault : BatchFault) (done : Done) → IsLeftBy fault (Failed done) → Told (Err fault) → Told (Err (batch.DeviceFault done))
+fell Told (batch.DeviceFault settled) done is told = subst (λ (d : Done). Told (Err (batch.DeviceFault d))) (sym is) told
+fell Told (batch.Aborted back) done is told = absurd is
+fell Told (batch.WrongTicket back expected) done is told = absurd is
+fell Told (batch.OtherShape back) done is told = absurd is
+fell Told (batch.NumbersSpent back) done is told = absurd is
+fell Told (batch.Memory back) done is told = absurd is
+
+-- the journal had failed before, and is marked so
+lost : (fault : BatchFault) (back : Planned) → IsLeftBy fault (Lost back) → {D : Type 0} (marks : List (OpenDeck D)) → MarksSettled marks (Err fault) → HasFailedMark marks
+lost (batch.Aborted p) back is marks told = told
+lost (batch.DeviceFault settled) back is marks told = absurd is
+lost (batch.WrongTicket p expected) back is marks told = absurd is
+lost (batch.OtherShape p) back is marks told = absurd is
+lost (batch.NumbersSpent p) back is marks told = absurd is
+lost (batch.Memory p) back is marks told = absurd is
+
+-- a batch that is to be held is the one that was to be committed
+same : (p : Planned) (fault : BatchFault) (back : Planned) (why : RoundFault) → IsLeftBy fault (Held back why) → CommitsAs p (Err fault) → back ≡ p
+same p (batch.Memory given) back why is told = is.0 ∙ told
+same p (batch.WrongTicket given expected) back why is told = is.0 ∙ told
+same p (batch.OtherShape given) back why is told = is.0 ∙ told
+same p (batch.NumbersSpent given) back why is told = is.0 ∙ told
+same p (batch.Aborted given) back why is told = absurd is
+same p (batch.DeviceFault settled) back why is told = absurd is
 
 -- what a round has done that ends so
 record Ends {D : Type 0} (G : Disks D) (b : Begun) (p : Planned) (after : Option Gathered) (old new : Front) (r : Result Round RoundFault) : Type 0 where
@@ -67,7 +94,7 @@ module _ {D H : Type 0} (G : Disks D) {O : Ghosts H} {P : Places H} (b : Begun) 
   })
 
   -- a first part of it is committed before a failure: this is settled, unless the book has failed
-  settled-last : (fault : RoundFault) → CommitsAs p (Err (DeviceFault done)) → EndsRound G b p (Err (DeviceFault done))
+  settled-last : (fault : RoundFault) → CommitsAs p (Err (batch.DeviceFault done)) → EndsRound G b p (Err (batch.DeviceFault done))
       → (at : HasAborted) × (((fault ≡ round.DeviceFault at) × (view_of new ≡ raised_settled (view_of old) (past_after (first_ticket done) (entries_of done)))) ⊎ ((fault ≡ round.Aborted at) × (new ≡ old)))
       → Ends G b p after (view_of old) (view_of new) (Err fault)
   settled-last fault told ends (at, inl (is, raised)) = subst (λ (f : RoundFault). Ends G b p after (view_of old) (view_of new) (Err f)) (sym is) (record {
@@ -85,6 +112,23 @@ module _ {D H : Type 0} (G : Disks D) {O : Ghosts H} {P : Places H} (b : Begun) 
     view = ap (λ s. view_of s) same;
     round = tt;
   })
+
+-- the batch is held again: there was no memory, or the journal does not take it
+module _ {D : Type 0} (G : Disks D) (b : Begun) (p : Planned) (after : Option Gathered) (old new : Front) (some : 0 < length p.batch.handles) (again : after ≡ Some p.batch) (stays : new ≡ old) where
+  refused-as : (fault : BatchFault) (why : RoundFault) → why ≡ round.Refused → RefusesRound G b p fault → Ends G b p after old new (Err why)
+  refused-as fault why is refuses = subst (λ (w : RoundFault). Ends G b p after old new (Err w)) (sym is) (record {
+    answers = again;
+    view = stays;
+    round = (p, fault, record { next = refl; some = some }, again, refuses);
+  })
+
+  held-as : (fault : BatchFault) (back : Planned) (why : RoundFault) → IsLeftBy fault (Held back why) → EndsRound G b p (Err fault) → Ends G b p after old new (Err why)
+  held-as (batch.Memory given) back why is ends = subst (λ (w : RoundFault). Ends G b p after old new (Err w)) (sym is.1) (record { answers = again; view = stays; round = tt })
+  held-as (batch.WrongTicket given expected) back why is ends = refused-as (batch.WrongTicket given expected) why is.1 ends
+  held-as (batch.OtherShape given) back why is ends = refused-as (batch.OtherShape given) why is.1 ends
+  held-as (batch.NumbersSpent given) back why is ends = refused-as (batch.NumbersSpent given) why is.1 ends
+  held-as (batch.Aborted given) back why is ends = absurd is
+  held-as (batch.DeviceFault settled) back why is ends = absurd is
 
 pub commit-result-requires-clause-stops : goal.commit-result-requires-clause-stops
 commit-result-requires-clause-stops g c = c.requires.out.stops
@@ -159,123 +203,99 @@ settle_last-requires-clause-settling g c =
       shape_is = c.requires.out.shape_is;
       tickets = c.commit-result.ensures.tells.2;
       recorded = subst (λ (l : List WordMap). All (IsInHistory l) p.batch.handles) (sym c.commit-result.ensures.stops) c.requires.out.recorded;
-      first = (falls c.in-Err-DeviceFault.is c.in-Err-DeviceFault.field-0-is (CommitsAs p) c.commit-result.ensures.tells.0).0;
+      first = (fell (CommitsAs p) c.in-Err.fault c.in-Failed.settled c.in-Failed.ensures (subst (CommitsAs p) c.in-Err.is c.commit-result.ensures.tells.0)).0;
       past = sym c.requires.out.end_is;
-      tells = falls c.in-Err-DeviceFault.is c.in-Err-DeviceFault.field-0-is (TellsFirst p) c.commit-result.ensures.tells.1;
+      tells = fell (TellsFirst p) c.in-Err.fault c.in-Failed.settled c.in-Failed.ensures (subst (TellsFirst p) c.in-Err.is c.commit-result.ensures.tells.1);
     }
 
 pub settle_last-requires-clause-first : goal.settle_last-requires-clause-first
-settle_last-requires-clause-first g c = (falls c.in-Err-DeviceFault.is c.in-Err-DeviceFault.field-0-is (CommitsAs c.args.prepared) c.commit-result.ensures.tells.0).0 ∙ c.requires.out.first_is
+settle_last-requires-clause-first g c =
+    let told = CommitsAs c.args.prepared in
+    (fell told c.in-Err.fault c.in-Failed.settled c.in-Failed.ensures (subst told c.in-Err.is c.commit-result.ensures.tells.0)).0 ∙ c.requires.out.first_is
 
 pub settle_last-requires-clause-marked : goal.settle_last-requires-clause-marked
-settle_last-requires-clause-marked g c = (falls c.in-Err-DeviceFault.is c.in-Err-DeviceFault.field-0-is (MarksSettled c.commit-result.result.1.marks) c.commit-result.ensures.marked).0
+settle_last-requires-clause-marked g c =
+    let told = MarksSettled c.commit-result.result.1.marks in
+    (fell told c.in-Err.fault c.in-Failed.settled c.in-Failed.ensures (subst told c.in-Err.is c.commit-result.ensures.marked)).0
 
 pub settle_last-requires-clause-failed : goal.settle_last-requires-clause-failed
-settle_last-requires-clause-failed g c = (falls c.in-Err-DeviceFault.is c.in-Err-DeviceFault.field-0-is (MarksSettled c.commit-result.result.1.marks) c.commit-result.ensures.marked).1
+settle_last-requires-clause-failed g c =
+    let told = MarksSettled c.commit-result.result.1.marks in
+    (fell told c.in-Err.fault c.in-Failed.settled c.in-Failed.ensures (subst told c.in-Err.is c.commit-result.ensures.marked)).1
 
 pub settle_last-requires-clause-taken : goal.settle_last-requires-clause-taken
 settle_last-requires-clause-taken g c =
-    let told = falls c.in-Err-DeviceFault.is c.in-Err-DeviceFault.field-0-is (CommitsAs c.args.prepared) c.commit-result.ensures.tells.0 in
+    let p = c.args.prepared in
+    let told = fell (CommitsAs p) c.in-Err.fault c.in-Failed.settled c.in-Failed.ensures (subst (CommitsAs p) c.in-Err.is c.commit-result.ensures.tells.0) in
     let part = told.2 in
     let taken = c.requires.taken in
-    subst (λ f. past_after f (entries_of c.in-Err-DeviceFault.settled) ≤ (view_of (seat_of c.args.committer.now)).taken) (sym told.0) (omega (arith, part, taken))
+    subst (λ f. past_after f (entries_of c.in-Failed.settled) ≤ (view_of (seat_of c.args.committer.now)).taken) (sym told.0) (omega (arith, part, taken))
 
 last : (g : Over) (c : After-settle_last g) → Ends g.D.Disk g.H.Origin.begun c.args.prepared c.args.committer.now.batch (view_of (seat_of c.args.committer.now)) (view_of c.settle_last.new.seat) (Err c.settle_last.result)
 last g c =
     let p = c.args.prepared in
-    settled-last g.D.Disk g.H.Origin.begun p c.in-Err-DeviceFault.settled _ (seat_of c.args.committer.now) c.settle_last.new.seat c.requires.free c.requires.out.some c.settle_last.result
-    (falls c.in-Err-DeviceFault.is c.in-Err-DeviceFault.field-0-is (CommitsAs p) c.commit-result.ensures.tells.0) (falls c.in-Err-DeviceFault.is c.in-Err-DeviceFault.field-0-is (EndsRound g.D.Disk g.H.Origin.begun p) c.commit-result.ensures.round) c.settle_last.ensures.view
+    let ends = EndsRound g.D.Disk g.H.Origin.begun p in
+    settled-last g.D.Disk g.H.Origin.begun p c.in-Failed.settled _ (seat_of c.args.committer.now) c.settle_last.new.seat c.requires.free c.requires.out.some c.settle_last.result
+    (fell (CommitsAs p) c.in-Err.fault c.in-Failed.settled c.in-Failed.ensures (subst (CommitsAs p) c.in-Err.is c.commit-result.ensures.tells.0))
+    (fell ends c.in-Err.fault c.in-Failed.settled c.in-Failed.ensures (subst ends c.in-Err.is c.commit-result.ensures.round)) c.settle_last.ensures.view
 
-pub returns-in-Err-DeviceFault-clause-seat : goal.returns-in-Err-DeviceFault-clause-seat
-returns-in-Err-DeviceFault-clause-seat g c = c.settle_last.ensures.seat
+pub returns-in-Failed-clause-seat : goal.returns-in-Failed-clause-seat
+returns-in-Failed-clause-seat g c = c.settle_last.ensures.seat
 
-pub returns-in-Err-DeviceFault-clause-answers : goal.returns-in-Err-DeviceFault-clause-answers
-returns-in-Err-DeviceFault-clause-answers g c = (last g (goal.at.returns-in-Err-DeviceFault-clause-answers g c).After-settle_last).answers
+pub returns-in-Failed-clause-answers : goal.returns-in-Failed-clause-answers
+returns-in-Failed-clause-answers g c = (last g (goal.at.returns-in-Failed-clause-answers g c).After-settle_last).answers
 
-pub returns-in-Err-DeviceFault-clause-view : goal.returns-in-Err-DeviceFault-clause-view
-returns-in-Err-DeviceFault-clause-view g c = (last g (goal.at.returns-in-Err-DeviceFault-clause-view g c).After-settle_last).view
+pub returns-in-Failed-clause-view : goal.returns-in-Failed-clause-view
+returns-in-Failed-clause-view g c = (last g (goal.at.returns-in-Failed-clause-view g c).After-settle_last).view
 
-pub returns-in-Err-DeviceFault-clause-round : goal.returns-in-Err-DeviceFault-clause-round
-returns-in-Err-DeviceFault-clause-round g c = (last g (goal.at.returns-in-Err-DeviceFault-clause-round g c).After-settle_last).round
+pub returns-in-Failed-clause-round : goal.returns-in-Failed-clause-round
+returns-in-Failed-clause-round g c = (last g (goal.at.returns-in-Failed-clause-round g c).After-settle_last).round
 
 -- ---- the journal has failed before
 
-pub returns-in-Err-Aborted-clause-seat : goal.returns-in-Err-Aborted-clause-seat
-returns-in-Err-Aborted-clause-seat g c = keeps-same _ _ refl
+pub fail-failed-requires : goal.fail-failed-requires
+fail-failed-requires g c =
+    let marks = c.commit-result.result.1.marks in
+    lost c.in-Err.fault c.in-Lost.prepared c.in-Lost.ensures marks (subst (MarksSettled marks) c.in-Err.is c.commit-result.ensures.marked)
 
-pub returns-in-Err-Aborted-clause-answers : goal.returns-in-Err-Aborted-clause-answers
-returns-in-Err-Aborted-clause-answers g c = c.requires.free
+pub returns-in-Lost-clause-seat : goal.returns-in-Lost-clause-seat
+returns-in-Lost-clause-seat g c = keeps-same _ _ refl
 
-pub returns-in-Err-Aborted-clause-view : goal.returns-in-Err-Aborted-clause-view
-returns-in-Err-Aborted-clause-view g c = refl
+pub returns-in-Lost-clause-answers : goal.returns-in-Lost-clause-answers
+returns-in-Lost-clause-answers g c = c.requires.free
 
-pub returns-in-Err-Aborted-clause-round : goal.returns-in-Err-Aborted-clause-round
-returns-in-Err-Aborted-clause-round g c = tt
+pub returns-in-Lost-clause-view : goal.returns-in-Lost-clause-view
+returns-in-Lost-clause-view g c = refl
 
--- ---- the batch is held again: there was no memory, or the journal does not take it
+pub returns-in-Lost-clause-round : goal.returns-in-Lost-clause-round
+returns-in-Lost-clause-round g c = tt
 
-pub hold_again-requires-clause-out : goal.hold_again-requires-clause-out
-hold_again-requires-clause-out g c = out-on (ap (λ (x : Planned). x.batch) (falls c.in-Err-Memory.is c.in-Err-Memory.field-0-is (CommitsAs c.args.prepared) c.commit-result.ensures.tells.0)) c.commit-result.ensures.stops c.requires.out
+-- ---- the batch is held again
 
-pub returns-in-Err-Memory-clause-seat : goal.returns-in-Err-Memory-clause-seat
-returns-in-Err-Memory-clause-seat g c = keeps-same _ _ c.hold_again.ensures.0
+-- it is the one that was to be committed
+back : (g : Over) (c : After-back g) → c.in-Held.prepared ≡ c.args.prepared
+back g c =
+    let told = CommitsAs c.args.prepared in
+    same c.args.prepared c.in-Err.fault c.in-Held.prepared c.in-Held.fault c.in-Held.ensures (subst told c.in-Err.is c.commit-result.ensures.tells.0)
 
-pub returns-in-Err-Memory-clause-answers : goal.returns-in-Err-Memory-clause-answers
-returns-in-Err-Memory-clause-answers g c = c.hold_again.ensures.1 ∙ ap (λ (x : Planned). Some x.batch) (falls c.in-Err-Memory.is c.in-Err-Memory.field-0-is (CommitsAs c.args.prepared) c.commit-result.ensures.tells.0)
+pub of-2-requires : goal.of-2-requires
+of-2-requires g c = out-on (c.back.ensures ∙ ap (λ (x : Planned). x.batch) (back g c)) c.commit-result.ensures.stops c.requires.out
 
-pub returns-in-Err-Memory-clause-view : goal.returns-in-Err-Memory-clause-view
-returns-in-Err-Memory-clause-view g c = ap (λ s. view_of s) c.hold_again.ensures.0
+held : (g : Over) (c : After-hold g) → Ends g.D.Disk g.H.Origin.begun c.args.prepared c.hold.new.self.batch (view_of (seat_of c.args.committer.now)) (view_of (seat_of c.hold.new.self)) (Err c.in-Held.fault)
+held g c =
+    let p = c.args.prepared in
+    let ends = EndsRound g.D.Disk g.H.Origin.begun p in
+    let again = c.hold.ensures.1 ∙ ap (λ (x : Gathered). Some x) (c.of-2.ensures ∙ c.back.ensures ∙ ap (λ (x : Planned). x.batch) (back g c)) in
+    held-as g.D.Disk g.H.Origin.begun p c.hold.new.self.batch _ _ c.requires.out.some again (ap (λ s. view_of s) c.hold.ensures.0) c.in-Err.fault c.in-Held.prepared c.in-Held.fault c.in-Held.ensures (subst ends c.in-Err.is c.commit-result.ensures.round)
 
-pub returns-in-Err-Memory-clause-round : goal.returns-in-Err-Memory-clause-round
-returns-in-Err-Memory-clause-round g c = tt
+pub returns-in-Held-clause-seat : goal.returns-in-Held-clause-seat
+returns-in-Held-clause-seat g c = keeps-same _ _ c.hold.ensures.0
 
-pub hold_again-requires-in-Err-WrongTicket-clause-out : goal.hold_again-requires-in-Err-WrongTicket-clause-out
-hold_again-requires-in-Err-WrongTicket-clause-out g c = out-on (ap (λ (x : Planned). x.batch) (falls c.in-Err-WrongTicket.is c.in-Err-WrongTicket.field-0-is (CommitsAs c.args.prepared) c.commit-result.ensures.tells.0)) c.commit-result.ensures.stops c.requires.out
+pub returns-in-Held-clause-answers : goal.returns-in-Held-clause-answers
+returns-in-Held-clause-answers g c = (held g (goal.at.returns-in-Held-clause-answers g c).After-hold).answers
 
-pub returns-in-Err-WrongTicket-clause-seat : goal.returns-in-Err-WrongTicket-clause-seat
-returns-in-Err-WrongTicket-clause-seat g c = keeps-same _ _ c.hold_again-in-Err-WrongTicket.ensures.0
+pub returns-in-Held-clause-view : goal.returns-in-Held-clause-view
+returns-in-Held-clause-view g c = (held g (goal.at.returns-in-Held-clause-view g c).After-hold).view
 
-pub returns-in-Err-WrongTicket-clause-answers : goal.returns-in-Err-WrongTicket-clause-answers
-returns-in-Err-WrongTicket-clause-answers g c = c.hold_again-in-Err-WrongTicket.ensures.1 ∙ ap (λ (x : Planned). Some x.batch) (falls c.in-Err-WrongTicket.is c.in-Err-WrongTicket.field-0-is (CommitsAs c.args.prepared) c.commit-result.ensures.tells.0)
-
-pub returns-in-Err-WrongTicket-clause-view : goal.returns-in-Err-WrongTicket-clause-view
-returns-in-Err-WrongTicket-clause-view g c = ap (λ s. view_of s) c.hold_again-in-Err-WrongTicket.ensures.0
-
-pub returns-in-Err-WrongTicket-clause-round : goal.returns-in-Err-WrongTicket-clause-round
-returns-in-Err-WrongTicket-clause-round g c =
-    let again = c.hold_again-in-Err-WrongTicket.ensures.1 ∙ ap (λ (x : Planned). Some x.batch) (falls c.in-Err-WrongTicket.is c.in-Err-WrongTicket.field-0-is (CommitsAs c.args.prepared) c.commit-result.ensures.tells.0) in
-    (c.args.prepared, WrongTicket c.in-Err-WrongTicket.prepared c.in-Err-WrongTicket.field-0-1, record { next = refl; some = c.requires.out.some }, again, falls c.in-Err-WrongTicket.is c.in-Err-WrongTicket.field-0-is (EndsRound g.D.Disk g.H.Origin.begun c.args.prepared) c.commit-result.ensures.round)
-
-pub hold_again-requires-in-Err-OtherShape-clause-out : goal.hold_again-requires-in-Err-OtherShape-clause-out
-hold_again-requires-in-Err-OtherShape-clause-out g c = out-on (ap (λ (x : Planned). x.batch) (falls c.in-Err-OtherShape.is c.in-Err-OtherShape.field-0-is (CommitsAs c.args.prepared) c.commit-result.ensures.tells.0)) c.commit-result.ensures.stops c.requires.out
-
-pub returns-in-Err-OtherShape-clause-seat : goal.returns-in-Err-OtherShape-clause-seat
-returns-in-Err-OtherShape-clause-seat g c = keeps-same _ _ c.hold_again-in-Err-OtherShape.ensures.0
-
-pub returns-in-Err-OtherShape-clause-answers : goal.returns-in-Err-OtherShape-clause-answers
-returns-in-Err-OtherShape-clause-answers g c = c.hold_again-in-Err-OtherShape.ensures.1 ∙ ap (λ (x : Planned). Some x.batch) (falls c.in-Err-OtherShape.is c.in-Err-OtherShape.field-0-is (CommitsAs c.args.prepared) c.commit-result.ensures.tells.0)
-
-pub returns-in-Err-OtherShape-clause-view : goal.returns-in-Err-OtherShape-clause-view
-returns-in-Err-OtherShape-clause-view g c = ap (λ s. view_of s) c.hold_again-in-Err-OtherShape.ensures.0
-
-pub returns-in-Err-OtherShape-clause-round : goal.returns-in-Err-OtherShape-clause-round
-returns-in-Err-OtherShape-clause-round g c =
-    let again = c.hold_again-in-Err-OtherShape.ensures.1 ∙ ap (λ (x : Planned). Some x.batch) (falls c.in-Err-OtherShape.is c.in-Err-OtherShape.field-0-is (CommitsAs c.args.prepared) c.commit-result.ensures.tells.0) in
-    (c.args.prepared, OtherShape c.in-Err-OtherShape.prepared, record { next = refl; some = c.requires.out.some }, again, falls c.in-Err-OtherShape.is c.in-Err-OtherShape.field-0-is (EndsRound g.D.Disk g.H.Origin.begun c.args.prepared) c.commit-result.ensures.round)
-
-pub hold_again-requires-in-Err-NumbersSpent-clause-out : goal.hold_again-requires-in-Err-NumbersSpent-clause-out
-hold_again-requires-in-Err-NumbersSpent-clause-out g c = out-on (ap (λ (x : Planned). x.batch) (falls c.in-Err-NumbersSpent.is c.in-Err-NumbersSpent.field-0-is (CommitsAs c.args.prepared) c.commit-result.ensures.tells.0)) c.commit-result.ensures.stops c.requires.out
-
-pub returns-in-Err-NumbersSpent-clause-seat : goal.returns-in-Err-NumbersSpent-clause-seat
-returns-in-Err-NumbersSpent-clause-seat g c = keeps-same _ _ c.hold_again-in-Err-NumbersSpent.ensures.0
-
-pub returns-in-Err-NumbersSpent-clause-answers : goal.returns-in-Err-NumbersSpent-clause-answers
-returns-in-Err-NumbersSpent-clause-answers g c = c.hold_again-in-Err-NumbersSpent.ensures.1 ∙ ap (λ (x : Planned). Some x.batch) (falls c.in-Err-NumbersSpent.is c.in-Err-NumbersSpent.field-0-is (CommitsAs c.args.prepared) c.commit-result.ensures.tells.0)
-
-pub returns-in-Err-NumbersSpent-clause-view : goal.returns-in-Err-NumbersSpent-clause-view
-returns-in-Err-NumbersSpent-clause-view g c = ap (λ s. view_of s) c.hold_again-in-Err-NumbersSpent.ensures.0
-
-pub returns-in-Err-NumbersSpent-clause-round : goal.returns-in-Err-NumbersSpent-clause-round
-returns-in-Err-NumbersSpent-clause-round g c =
-    let again = c.hold_again-in-Err-NumbersSpent.ensures.1 ∙ ap (λ (x : Planned). Some x.batch) (falls c.in-Err-NumbersSpent.is c.in-Err-NumbersSpent.field-0-is (CommitsAs c.args.prepared) c.commit-result.ensures.tells.0) in
-    (c.args.prepared, NumbersSpent c.in-Err-NumbersSpent.prepared, record { next = refl; some = c.requires.out.some }, again, falls c.in-Err-NumbersSpent.is c.in-Err-NumbersSpent.field-0-is (EndsRound g.D.Disk g.H.Origin.begun c.args.prepared) c.commit-result.ensures.round)
+pub returns-in-Held-clause-round : goal.returns-in-Held-clause-round
+returns-in-Held-clause-round g c = (held g (goal.at.returns-in-Held-clause-round g c).After-hold).round

@@ -25,8 +25,8 @@ up g c b same =
     (subst (λ (x : Gathered). 0 < length x.handles) (sym same) c.end-batch.ensures.out.some) c.in_ok-held.ensures.batch c.in_ok-held.ensures.all
 
 -- it is out
-out : (g : Over) (c : After-raise_taken g) (b : Gathered) → b ≡ c.end-batch.result.0 → IsOut g.H.Origin.begun b (given_by c.end-batch.result.1) c.end-batch.result.2 c.end-batch.result.3
-out g c b same = subst (λ (x : Gathered). IsOut g.H.Origin.begun x (given_by c.end-batch.result.1) c.end-batch.result.2 c.end-batch.result.3) (sym same) c.end-batch.ensures.out
+out : (g : Over) (c : After-raise_taken g) (b : Gathered) → b ≡ c.end-batch.result.0 → IsOut g.H.Origin.begun b (given_by c.end-batch.result.1.tickets) c.end-batch.result.1.prefix c.end-batch.result.1.out
+out g c b same = subst (λ (x : Gathered). IsOut g.H.Origin.begun x (given_by c.end-batch.result.1.tickets) c.end-batch.result.1.prefix c.end-batch.result.1.out) (sym same) c.end-batch.ensures.out
 
 -- and the seat is sure that it is taken
 taken : (g : Over) (c : After-raise_taken g) (b : Gathered) → b ≡ c.end-batch.result.0 → seat_view c.raise_taken.new.seat ≡ with_taken (end_in b) (view_of (seat_of c.args.committer.now))
@@ -38,7 +38,7 @@ pub raise_stopped-requires-clause-here : goal.raise_stopped-requires-clause-here
 raise_stopped-requires-clause-here g c = c.requires
 
 pub raise_stopped-requires-clause-given : goal.raise_stopped-requires-clause-given
-raise_stopped-requires-clause-given g c = subst (λ k. k ≤ given_by c.end-batch.result.1) (sym c.past-end.ensures) c.end-batch.ensures.out.were_given
+raise_stopped-requires-clause-given g c = subst (λ k. k ≤ given_by c.end-batch.result.1.tickets) (sym c.past-end.ensures) c.end-batch.ensures.out.were_given
 
 pub raise_taken-requires-clause-here : goal.raise_taken-requires-clause-here
 raise_taken-requires-clause-here g c = c.raise_stopped.ensures.board ∙ c.requires

@@ -9,4 +9,4 @@ pub new-register-requires-clause-journal : goal.new-register-requires-clause-jou
 new-register-requires-clause-journal g c =
     let none = c.named-marks.result.1 in
     subst (λ (ms : List (OpenDeck g.row.D.Denot)). HasShapeMark ms c.shape-shape.result) (sym c.mark-seen.ensures.whole ∙ sym c.mark-seen.ensures.prefix)
-    (record { at = length none; mark = c.args.deck; stands = get_last none c.args.deck; same = sym c.shape-shape.ensures.value })
+    (record { at = length none; mark = c.args.parts.deck; stands = get_last none c.args.parts.deck; same = sym c.shape-shape.ensures.value })
