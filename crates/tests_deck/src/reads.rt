@@ -168,9 +168,17 @@ fn check_refusals(test: &impl Bench) {
     refuse_on(test, OneFaultDisk::of(disk, OPENED))
 }
 
+/// A read of a home is one call: each after it would fail.
+fn check_one_call(test: &impl Bench) {
+    let disk = small(test, BLOCKS, &FIVE, &[]);
+    let mut deck = opening(test, FuseDisk::of(disk, OPENED + 1));
+    check(test, has_five(&mut deck), "a read by one call")
+}
+
 #[test]
 fn a_read_is_refused_in_order_and_a_fault_of_it_is_not_the_journals(rt: HostRuntime) {
-    check_refusals(&By(&rt, rt.alloc()))
+    check_refusals(&By(&rt, rt.alloc()));
+    check_one_call(&By(&rt, rt.alloc()))
 }
 
 /// A commit that fails. A checkpoint with nothing live makes no call of the disk, a commit does.

@@ -66,10 +66,10 @@ fn check_two_makers(rt: &impl FileHost) {
     fresh(rt)
 }
 
-/// Checks that a file with anything in it is not what such a process leaves.
-fn check_mine(rt: &impl FileHost) {
+/// Checks that a file with these bytes is not what such a process leaves.
+fn check_mine(rt: &impl FileHost, mine: &[u8]) {
     let test = By(rt, rt.alloc());
-    fs::write(rt, UNFINISHED, "mine").must(&test, "a file");
+    fs::write(rt, UNFINISHED, mine).must(&test, "a file");
     let there = ImageFault::System(SystemFault { code: Some(17) });
     let answer = made(rt, geometry());
     check(
@@ -78,20 +78,24 @@ fn check_mine(rt: &impl FileHost) {
         "a file of the other name",
     );
     let bytes = fs::read(rt, UNFINISHED).must(&test, "the file is gone");
-    check(
-        &test,
-        bytes.as_slice() == b"mine".as_slice(),
-        "the bytes of the file",
-    );
+    check(&test, bytes.as_slice() == mine, "the bytes of the file");
     check(&test, !exists(rt, NAME), "an image beside the file");
     fresh(rt)
+}
+
+/// Zeros, and after them a byte that is none.
+fn zeros_and_more() -> [u8; 4096] {
+    let mut bytes = [0; 4096];
+    bytes[4095] = 1;
+    bytes
 }
 
 fn check_made(rt: &impl FileHost) {
     fresh(rt);
     check_unmade(rt);
     check_two_makers(rt);
-    check_mine(rt)
+    check_mine(rt, b"mine");
+    check_mine(rt, &zeros_and_more())
 }
 
 #[test]

@@ -62,20 +62,22 @@ fn a_call_that_fails_is_reported_and_nothing_is_written(rt: HostRuntime) {
     check_changes(&rt, rt.alloc())
 }
 
-/// The home block that is shown.
+/// The home blocks that are shown.
 const SHOWN: ShownHomes = ShownHomes {
     home: 3,
-    count: 1,
+    count: 2,
     hex: false,
     sums: Checksums::Refused,
 };
 
-/// Checks that a home block is shown as it was written last.
+/// Checks that a home block is shown as it was written last, and the next one, of zeros, after it.
 fn check_shown(rt: &impl Abort, alloc: Global, disk: &mut MemoryDisk) {
     let mut out = Vec::new(alloc);
     let shown = cat_on(alloc, disk, SHOWN, None, &mut out);
-    let is_shown = shown.is_ok() && out.as_slice() == [7; 1024].as_slice();
-    check(rt, is_shown, "it is not shown")
+    let mut wanted = [0; 2048];
+    wanted[..1024].fill(7);
+    let is_shown = shown.is_ok() && out.as_slice() == wanted.as_slice();
+    check(rt, is_shown, "they are not shown")
 }
 
 /// Checks that a home block that was written and shown is still lost in a crash: nothing was synced.

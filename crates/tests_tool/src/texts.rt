@@ -29,7 +29,7 @@ const DUMPED: &str = "super bs=1024 maxlen=33 first=1 sequence=2 start=1 errno=0
 const BAD_OPTION: End = (2, "", "jb: bad option\n");
 
 /// The runs, in their order on one image, with at least one of each command.
-static ROWS: [Row; 30] = [
+static ROWS: [Row; 31] = [
     (
         "cost -",
         b"bs 1024\nlimit 7\nh w1 w2 w3\nh w3 w4 w5\nh w1 w2\n",
@@ -110,6 +110,11 @@ static ROWS: [Row; 30] = [
     ),
     (
         "recover no-such.img",
+        b"",
+        (2, "", "jb: cannot read no-such.img\n"),
+    ),
+    (
+        "load no-such.img no-such.txt",
         b"",
         (2, "", "jb: cannot read no-such.img\n"),
     ),
