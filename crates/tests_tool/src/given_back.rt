@@ -3,9 +3,7 @@
 use crate::checks::{check_at, check_text};
 use crate::files::remove;
 use crate::runs::Host;
-use jb_args::{
-    CatOptions, Details, FormatOptions, Plain, ProgressLine, RecoverOptions, Settings,
-};
+use jb_args::{CatOptions, Details, FormatOptions, Plain, ProgressLine, RecoverOptions, Settings};
 use jb_disk::{Disk, Unknown};
 use jb_tool::{
     AnswerForm, CommandEnd, cat_file, format_file, perform, recover_file, renumber_file, widen_file,
@@ -46,7 +44,8 @@ const CAT: CatOptions<'static> = CatOptions {
 };
 
 /// What is said of its journal where details are asked for.
-const NOTE: &str = "jb:  journal front bs 1024 blocks 33 homes 16 skipped 0 sequence 1 start 0 revoke\n";
+const NOTE: &str =
+    "jb:  journal front bs 1024 blocks 33 homes 16 skipped 0 sequence 1 start 0 revoke\n";
 
 /// Settings with which details are asked for.
 fn told_more() -> Settings {
@@ -101,25 +100,11 @@ fn check_changes(rt: &impl Host) {
     let line = "renumbered blocks 0 next 1\n";
     let mut notes = Vec::new(rt.alloc());
     let settings = told_more();
-    let renumbered = renumber_file(
-        rt,
-        NAME,
-        None,
-        settings,
-        &mut b"".as_slice(),
-        &mut notes,
-    );
+    let renumbered = renumber_file(rt, NAME, None, settings, &mut b"".as_slice(), &mut notes);
     check_done(rt, renumbered, ALL, line, 3);
     check_text(rt, &notes, NOTE, "what is said of the journal", 3);
     let settings = Settings::new(false, false);
-    let widened = widen_file(
-        rt,
-        NAME,
-        None,
-        settings,
-        &mut b"".as_slice(),
-        &mut sink(),
-    );
+    let widened = widen_file(rt, NAME, None, settings, &mut b"".as_slice(), &mut sink());
     check_done(rt, widened, ALL, "widened limit 8\n", 4)
 }
 
