@@ -74,6 +74,7 @@ fn is_planned(planned: &Planned, cert: &Cert) -> bool {
 }
 
 /// How many handles a check has gone over.
+#[derive(Drop)]
 struct Steps(u64);
 
 impl Watch for Steps {

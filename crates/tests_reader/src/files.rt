@@ -17,6 +17,7 @@ use tests_support::{Must, Test, block_with, check, fail, put_rows, read_at, writ
 const NAME: &str = "read.img";
 
 /// How many bytes of an image were written.
+#[derive(Drop)]
 struct Written(u64);
 
 impl Watch for Written {
