@@ -22,12 +22,10 @@ sys.dont_write_bytecode = True
 from images import BS, SAME_UUID, LAST_TAG, commit, descriptor, superblock  # noqa: E402
 
 JB = os.path.abspath(sys.argv[1])
-<<<<<<< ours
 TAGS, GROUPS, HOMES, SHOWN = 124, 2420, 124, 8
-=======
-TAGS, GROUPS, HOMES = 124, 2420, 124
 HANDLES = 60000
->>>>>>> theirs
+CHECKED = 2500000
+MADE = 600 << 20
 count = wrong = 0
 
 
@@ -63,6 +61,21 @@ def lay_load():
         file.writelines("h w%d=%02x w%d\n" % (k % 60, k % 256, k % 60 + 1) for k in range(HANDLES))
 
 
+def lay_nothing():
+    """No image."""
+    if os.path.exists("image"):
+        os.remove("image")
+
+
+def lay_certificate():
+    """Many handles that touch nothing, and the certificate that says so."""
+    if not os.path.exists("cert"):
+        with open("queue", "w") as file:
+            file.write("bs %d\nlimit 60\n" % BS + "h\n" * CHECKED)
+        with open("cert", "w") as file:
+            subprocess.run([JB, "plan", "queue"], stdout=file, check=True)
+
+
 def opened(process, name):
     """A process has this file open, or has ended."""
     try:
@@ -74,6 +87,14 @@ def opened(process, name):
 
 def is_open(process):
     return opened(process, "/image")
+
+
+def is_drafted(process):
+    return opened(process, "/image.jb-unfinished")
+
+
+def is_certified(process):
+    return opened(process, "/cert")
 
 
 class Written:
@@ -94,21 +115,16 @@ def line(text):
 # a name; the words; what lays the files; what says that the command has begun; its answer; its line
 COPIED = b"transactions %d copies %d revoked 0 next %d\n" % (GROUPS, GROUPS * TAGS, GROUPS + 2)
 COMMANDS = [
-<<<<<<< ours
-    ("recover", ["image"], COPIED.__eq__, rb"recover: pass [12] of 2, block \d+ of \d+, \d+%"),
-    ("recover", ["image", "--checksums"], COPIED.__eq__, rb"recover: pass [12] of at most 4, block \d+ of \d+, \d+%"),
-    ("recover", ["image", "--dry-run"], COPIED.__eq__, rb"recover: pass [12] of 2, block \d+ of \d+, \d+%"),
-    ("cat", ["image", "0", "-n", str(SHOWN)], bytes(SHOWN * BS).__eq__, rb"cat: block [1-9]\d* of %d, \d+%%" % SHOWN),
-    ("dump", ["image"], lambda text: len(text) > GROUPS * TAGS * 9, rb"dump: \d+ of \d+ KiB, \d+%"),
-=======
     ("recover", ["image"], lay_log, lambda: is_open, COPIED.__eq__, rb"recover: pass [12] of 2, block \d+ of \d+, \d+%"),
     ("recover", ["image", "--checksums"], lay_log, lambda: is_open, COPIED.__eq__, rb"recover: pass [12] of at most 4, block \d+ of \d+, \d+%"),
     ("recover", ["image", "--dry-run"], lay_log, lambda: is_open, COPIED.__eq__, rb"recover: pass [12] of 2, block \d+ of \d+, \d+%"),
-    ("cat", ["image", "0", "-n", str(HOMES)], lay_log, lambda: is_open, bytes(HOMES * BS).__eq__, rb"cat: block [1-9]\d* of %d, \d+%%" % HOMES),
+    ("cat", ["image", "0", "-n", str(SHOWN)], lay_log, lambda: is_open, bytes(SHOWN * BS).__eq__, rb"cat: block [1-9]\d* of %d, \d+%%" % SHOWN),
     ("load", ["image", "queue", "--checkpoint"], lay_load, Written, re.compile(rb"handles %d changes %d settled %d groups \d+ blocks \d+\n" % (HANDLES, 2 * HANDLES, HANDLES)).fullmatch,
      rb"load: handle [1-9]\d* of %d, \d+%%" % HANDLES),
+    ("format", ["image", "--bs", str(BS), "--journal", "1024", "--homes", str(MADE // BS - 1024)], lay_nothing, lambda: is_drafted, b"formatted limit 255\n".__eq__,
+     rb"format: \d+ of %d KiB, \d+%%" % (MADE >> 10)),
+    ("check", ["queue", "cert"], lay_certificate, lambda: is_certified, b"accepted\n".__eq__, rb"check: pass [12] of at most 2, handle \d+ of %d, \d+%%" % CHECKED),
     ("dump", ["image"], lay_log, lambda: is_open, lambda text: len(text) > GROUPS * TAGS * 9, rb"dump: \d+ of \d+ KiB, \d+%"),
->>>>>>> theirs
 ]
 
 

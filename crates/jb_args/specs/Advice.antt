@@ -1,8 +1,9 @@
 -- What is advised on a line of standard error: what the table says in the row of its hint.
 use denote.Enum.Declared.{tag_of}
-use Rattle.std.specs.Prelude.{ℕ, ℤ, ◌==◌, if◌then◌else◌, List, [], ◌∷◌, ◌++◌, codes, decimal, length, map, slice_index, slice_index_or, take}
+use Rattle.std.specs.Prelude.{ℕ, ℤ, if◌then◌else◌, List, [], ◌∷◌, ◌++◌, codes, decimal, map, slice_index, slice_index_or}
+use Rattle.std.specs.Prelude.{take}
 use Rattle.std.specs.Prelude.{Option, None, Some, option_map}
-use Rattle.std.specs.Str.Lossy.{utf8_valid_len}
+use Rattle.std.specs.Str.{is_utf8}
 use Rattle.jb_disk.specs.declared.failure.FailedCall.{FailedCall}
 use Rattle.jb_disk.specs.declared.failure.FailedCall.TheVariants.{Read, Sync, Write}
 use Rattle.jb_disk.specs.declared.failure.Failure.{Failure}
@@ -40,7 +41,7 @@ words_in holder = take holder.len holder.text
 
 -- bytes that are a text; else none
 abbrev pub text_or_none : List ℕ → List ℕ
-text_or_none bytes = if utf8_valid_len bytes == length bytes then bytes else []
+text_or_none bytes = if is_utf8 bytes then bytes else []
 
 -- what is said of who has a file: its words, where they are a text
 abbrev pub holder_text : Holder → List ℕ

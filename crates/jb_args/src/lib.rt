@@ -25,6 +25,7 @@ pub use option_name::OptionName;
 pub use plain::{CatOptions, DumpOptions, FormatOptions, Plain, RecoverOptions};
 pub use second::{HintParts, ReasonParts, SYSTEM_TEXT, hint_parts, put_hint, put_reason};
 pub use settings::{
-    AnswerForm, Details, ProgressLine, SecondLine, SecondPart, Settings, Statuses, settings_in, words_left,
+    AnswerForm, Details, ProgressLine, SecondLine, SecondPart, Settings, Statuses, settings_in,
+    words_left,
 };
 pub use words::{parse, show_help};

@@ -52,7 +52,7 @@ pub enum ProgressLine {
 pub enum Details {
     /// It does not.
     Hidden,
-    /// It does, before its work.
+    /// It does.
     Shown,
 }
 
@@ -107,7 +107,7 @@ macro_rules! setting_rows {
             Json, "--json" => "Answers, and says what went wrong, in JSON";
             Hints, "--hints" => "Says on a second line what to do; without it on a terminal alone";
             Quiet, "-q", "--quiet" => "Says neither what to do nor the system's reason, and shows no progress";
-            Verbose, "-v", "--verbose" => "Says first which journal was found and how, and its features";
+            Verbose, "-v", "--verbose" => "Says which journal was found and how, and its features";
             Status, "--status" => "Ends with a finer status: 3, 4 or 5 in place of some 1";
             NoProgress, "--no-progress" => "Does not show how far it has come";
         }

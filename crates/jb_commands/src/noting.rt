@@ -167,11 +167,7 @@ pub fn note_queue<W: Write>(settings: Settings, note: QueueNote, writer: &mut W)
 ///
 /// # Errors
 /// `WriteFault` where the writer took only the beginning of it.
-fn put_queue<W: Write>(
-    form: AnswerForm,
-    note: QueueNote,
-    writer: &mut W,
-) -> Result<(), WriteFault>
+fn put_queue<W: Write>(form: AnswerForm, note: QueueNote, writer: &mut W) -> Result<(), WriteFault>
     ensures { Puts (W.contents writer.old) (W.contents writer.new)
         (note_in form (codes "queue") (queue_facts note)) result }
 {
@@ -214,11 +210,7 @@ fn put_note<W: Write>(
 ///
 /// # Errors
 /// `WriteFault` where the writer took only the beginning of it.
-fn put_line<W: Write>(
-    about: &str,
-    fields: &[Field<'_>],
-    writer: &mut W,
-) -> Result<(), WriteFault>
+fn put_line<W: Write>(about: &str, fields: &[Field<'_>], writer: &mut W) -> Result<(), WriteFault>
     ensures { Puts (W.contents writer.old) (W.contents writer.new)
         (note_in Text about.now (facts_of fields.now)) result }
 {

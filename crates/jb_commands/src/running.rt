@@ -129,13 +129,7 @@ fn perform_plan<'a, R: Files + AllocGlobal, I: Read, O: Write, E: Write>(
 }
 
 /// Runs `jb check`: the second file is opened where the first is the text of a queue.
-fn perform_check<
-    'a,
-    R: Files<File = File> + AllocGlobal + Clock,
-    O: Write,
-    E: Write,
-    N: Write,
->(
+fn perform_check<'a, R: Files<File = File> + AllocGlobal + Clock, O: Write, E: Write, N: Write>(
     rt: &R,
     file: &'a str,
     cert: &'a str,
@@ -156,13 +150,7 @@ fn perform_check<
 }
 
 /// The same of a queue text that has been read.
-fn check_texts<
-    'a,
-    R: Files<File = File> + AllocGlobal + Clock,
-    O: Write,
-    E: Write,
-    N: Write,
->(
+fn check_texts<'a, R: Files<File = File> + AllocGlobal + Clock, O: Write, E: Write, N: Write>(
     rt: &R,
     text: &[u8],
     cert: &'a str,

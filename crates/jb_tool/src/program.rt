@@ -68,16 +68,7 @@ pub fn run_program<
         → N.contents notes.new ≡ N.contents notes.old }
 {
     let settings = settings_of(given, words);
-    let ended = answered(
-        rt,
-        words,
-        settings,
-        terminals.input,
-        input,
-        out,
-        err,
-        notes,
-    );
+    let ended = answered(rt, words, settings, terminals.input, input, out, err, notes);
     finish(ended, settings, terminals.err, err)
 }
 
@@ -146,16 +137,7 @@ fn answered<
     ensures silent { settings.details ≡ Hidden → N.contents notes.new ≡ N.contents notes.old }
 {
     match words {
-        Ok(words) => answered_given(
-            rt,
-            words,
-            settings,
-            at_terminal,
-            input,
-            out,
-            err,
-            notes,
-        ),
+        Ok(words) => answered_given(rt, words, settings, at_terminal, input, out, err, notes),
         Err(kind) => refuse_words(kind, err),
     }
 }

@@ -5,6 +5,7 @@ ghost use Rattle.jb_handle.specs.Size.{IsWithinSize};
 use jb_commands::{AnswerForm, CommandOutput, check_answer, cost_answer};
 use jb_handle::is_within_size;
 use jb_queue::{QueueText, read_queue};
+use jb_watch::Unwatched;
 use std::alloc::Global;
 use tests_support::{Must, Test, check, check_at};
 
@@ -71,6 +72,7 @@ pub fn check_said(
 )
     requires { IsWithinSize queue.now.handles.items }
 {
-    let answer = check_answer(alloc, AnswerForm::Text, queue, cert.as_bytes()).must(test, "memory");
+    let (form, claim) = (AnswerForm::Text, cert.as_bytes());
+    let answer = check_answer(alloc, form, queue, claim, &mut Unwatched).must(test, "memory");
     check_told(test, &answer, told, "what is said of certificate", row)
 }

@@ -5,15 +5,26 @@ use crate::homes::misread;
 use crate::logs::{ESCAPED, Laid, put_blocks};
 use jb_block::BlockSize;
 use jb_disk::{Disk, FileDisk, Unknown};
-use jb_image::{ImageFault, ImageGeometry, Opening, create_image, open_image};
+use jb_image::{ImageFault, ImageGeometry, Opening, create_watched, open_image};
 use jb_reader::{HomeReader, OpenReadFault, ReaderFault, open_read, open_read_holding};
 use jb_recover::PeekFault;
 use jb_super::SuperFault;
+use jb_watch::Watch;
 use std::fs;
 use tests_support::{Must, Test, block_with, check, fail, put_rows, read_at, write_at};
 
 /// The image.
 const NAME: &str = "read.img";
+
+/// How many bytes of an image were written.
+#[derive(Drop)]
+struct Written(u64);
+
+impl Watch for Written {
+    fn pass(&mut self, more: u64) {
+        self.0 = self.0.saturating_add(more)
+    }
+}
 
 /// The superblock of a journal whose log begins at place 1 with number 2, and which is otherwise as it was made.
 const BEGUN: Laid = (0, &[(16, [33, 1, 2, 1])]);
@@ -54,7 +65,10 @@ fn make(rt: &impl FileHost) {
     );
     check(&test, is_missing, "an image that is not there");
     let geometry = ImageGeometry::new(BlockSize::OneKib, 33, 16);
-    let mut held = create_image(rt, NAME, geometry).must(&test, "an image");
+    let mut written = Written(0);
+    let made = create_watched::<Unknown, _, _>(rt, NAME, geometry, &mut written);
+    let mut held = made.must(&test, "an image");
+    check(&test, written.0 == 49 * 1024, "how many bytes were written");
     let in_use = Some(OpenReadFault::Image(ImageFault::InUse));
     check(
         &test,

@@ -3,11 +3,12 @@
 use crate::checks::{check_at, check_text};
 use crate::files::remove;
 use crate::runs::Host;
-use jb_args::{CatOptions, FormatOptions, Plain, ProgressLine, RecoverOptions, Settings};
+use jb_args::{CatOptions, Details, FormatOptions, Plain, ProgressLine, RecoverOptions, Settings};
 use jb_disk::{Disk, Unknown};
 use jb_tool::{
     AnswerForm, CommandEnd, cat_file, format_file, perform, recover_file, renumber_file, widen_file,
 };
+use std::io::sink;
 
 const NAME: &str = "given.img";
 
@@ -42,6 +43,19 @@ const CAT: CatOptions<'static> = CatOptions {
     checksums: false,
 };
 
+/// What is said of its journal where details are asked for.
+const NOTE: &str =
+    "jb:  journal front bs 1024 blocks 33 homes 16 skipped 0 sequence 1 start 0 revoke\n";
+
+/// Settings with which details are asked for.
+fn told_more() -> Settings {
+    Settings {
+        details: Details::Shown,
+        progress: ProgressLine::Never,
+        ..Settings::new(false, false)
+    }
+}
+
 /// Checks how many blocks the image has that a command gives back, if it gives one, and what the command has to say.
 fn check_done(
     rt: &impl Host,
@@ -63,20 +77,34 @@ fn check_done(
 
 /// Makes an image, and recovers it.
 fn check_made(rt: &impl Host) {
-    let made = format_file(rt, NAME, NEW);
+    let made = format_file(rt, NAME, NEW, ProgressLine::Never);
     check_done(rt, made, ALL, "formatted limit 8\n", 0);
-    check_done(rt, format_file(rt, NAME, NEW), None, "", 1);
+    let again = format_file(rt, NAME, NEW, ProgressLine::Never);
+    check_done(rt, again, None, "", 1);
     let line = "transactions 0 copies 0 revoked 0 next 2\n";
-    let recovered = recover_file(rt, NAME, RECOVER, ProgressLine::Never, &mut b"".as_slice());
-    check_done(rt, recovered, ALL, line, 2)
+    let mut notes = Vec::new(rt.alloc());
+    let recovered = recover_file(
+        rt,
+        NAME,
+        RECOVER,
+        told_more(),
+        &mut b"".as_slice(),
+        &mut notes,
+    );
+    check_done(rt, recovered, ALL, line, 2);
+    check_text(rt, &notes, NOTE, "what is said of the journal", 2)
 }
 
 /// Changes its journal.
 fn check_changes(rt: &impl Host) {
     let line = "renumbered blocks 0 next 1\n";
-    let renumbered = renumber_file(rt, NAME, None, &mut b"".as_slice());
+    let mut notes = Vec::new(rt.alloc());
+    let settings = told_more();
+    let renumbered = renumber_file(rt, NAME, None, settings, &mut b"".as_slice(), &mut notes);
     check_done(rt, renumbered, ALL, line, 3);
-    let widened = widen_file(rt, NAME, None, &mut b"".as_slice());
+    check_text(rt, &notes, NOTE, "what is said of the journal", 3);
+    let settings = Settings::new(false, false);
+    let widened = widen_file(rt, NAME, None, settings, &mut b"".as_slice(), &mut sink());
     check_done(rt, widened, ALL, "widened limit 8\n", 4)
 }
 
@@ -88,7 +116,15 @@ fn check_again(rt: &impl Host) {
         extents: None,
     };
     let settings = Settings::new(false, false);
-    let again = perform(rt, widen, settings, &mut b"".as_slice(), &mut out, &mut err);
+    let again = perform(
+        rt,
+        widen,
+        settings,
+        &mut b"".as_slice(),
+        &mut out,
+        &mut err,
+        &mut sink(),
+    );
     check_done(rt, again, ALL, "already wide limit 8\n", 5)
 }
 
@@ -99,9 +135,10 @@ fn check_cat(rt: &impl Host, blocks: Option<u64>, home: &[u8], at: usize) {
         rt,
         NAME,
         CAT,
-        ProgressLine::Never,
+        Settings::new(false, false),
         &mut b"".as_slice(),
         &mut out,
+        &mut sink(),
     );
     check_done(rt, shown, blocks, "", at);
     check_at(rt, out.as_slice() == home, "the bytes of a home:", at)
@@ -115,8 +152,17 @@ fn check_commands(rt: &impl Host) {
     check_cat(rt, ALL, &[0; 1024], 6);
     remove(rt, NAME);
     check_cat(rt, None, &[], 7);
-    let recovered = recover_file(rt, NAME, RECOVER, ProgressLine::Never, &mut b"".as_slice());
-    check_done(rt, recovered, None, "", 8)
+    let mut notes = Vec::new(rt.alloc());
+    let recovered = recover_file(
+        rt,
+        NAME,
+        RECOVER,
+        told_more(),
+        &mut b"".as_slice(),
+        &mut notes,
+    );
+    check_done(rt, recovered, None, "", 8);
+    check_text(rt, &notes, "", "what is said of the journal", 8)
 }
 
 #[test]

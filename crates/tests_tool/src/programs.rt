@@ -4,6 +4,7 @@ use crate::checks::{check_at, check_number, check_text};
 use crate::runs::{End, Host, words_of};
 use jb_tool::{Settings, Terminals, run_program};
 use std::io::ErrorKind::{self, InvalidData, OutOfMemory};
+use std::io::sink;
 
 /// The command line, or why there is none; whether standard input and standard error are terminals; and how the program
 /// ends.
@@ -93,6 +94,7 @@ fn ran(
         input,
         &mut out,
         &mut err,
+        &mut sink(),
     );
     Ended { out, err, status }
 }

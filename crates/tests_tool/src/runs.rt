@@ -3,7 +3,7 @@
 use crate::checks::check_text;
 use jb_tool::{ProgramEnd, Settings, run};
 use std::fs::File;
-use std::io::Read;
+use std::io::{Read, sink};
 use std::process::Abort;
 use std::rt::Files;
 use std::sync::Wait;
@@ -50,6 +50,7 @@ pub fn ran_from<I: Read>(rt: &impl Host, line: &str, input: &mut I) -> Outcome {
         input,
         &mut out,
         &mut err,
+        &mut sink(),
     );
     Outcome { ended, out, err }
 }

@@ -6,7 +6,7 @@ use crate::runs::{Host, words_of};
 use jb_args::{Shell, completions, words_left};
 
 /// Command lines, and what is left of each without its settings.
-static LEFT: [(&str, &str); 9] = [
+static LEFT: [(&str, &str); 10] = [
     ("", ""),
     ("cost -", "cost -"),
     ("--hints cost -q a", "cost a"),
@@ -15,6 +15,7 @@ static LEFT: [(&str, &str); 9] = [
     ("--json --quiet", ""),
     ("-- -q", "-- -q"),
     ("--hint -qq q --jsonx", "--hint -qq q --jsonx"),
+    ("-v cost --verbose -q q -vv", "cost q -vv"),
     ("a -q b --hints c -q", "a b c"),
 ];
 

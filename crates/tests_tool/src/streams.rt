@@ -5,7 +5,7 @@ use crate::files::{remove, write};
 use crate::runs::{Host, check_status, words_of};
 use jb_text::put_parts;
 use jb_tool::{Settings, run};
-use std::io::{self, Error, ErrorKind, Read, Write};
+use std::io::{self, Error, ErrorKind, Read, Write, sink};
 use std::process::Abort;
 
 const QUEUE: &[u8] = b"bs 1024\nlimit 7\nh w1\n";
@@ -100,6 +100,7 @@ fn check_line(rt: &impl Host, line: &str, writes: [usize; 2], sizes: [usize; 2],
         &mut input,
         &mut out,
         &mut err,
+        &mut sink(),
     );
     let is_so = [out.writes, err.writes] == writes;
     check_at(rt, is_so, "how many writes a line takes, row", row);
@@ -160,6 +161,7 @@ fn check_torn_output(rt: &impl Host, line: &str, left: usize, stuck: bool, at: u
         &mut rest,
         &mut out,
         &mut err,
+        &mut sink(),
     );
     check_status(rt, ended, 1, line, at);
     check_text(rt, &err, "jb: WriteFault\n", line, at)
@@ -206,6 +208,7 @@ fn check_torn_error(rt: &impl Host, of: &Quiet, left: usize, stuck: bool, row: u
         &mut rest,
         &mut told,
         &mut err,
+        &mut sink(),
     );
     check_status(rt, ended, status, line, row);
     check_text(rt, &told, out, line, row)
@@ -244,6 +247,7 @@ fn check_unwritten<I: Read>(rt: &impl Host, input: &mut I, line: &str, at: usize
         input,
         &mut out,
         &mut err,
+        &mut sink(),
     );
     check_status(rt, ended, 2, "cost", at);
     check_text(rt, &err, line, "cost", at)

@@ -6,7 +6,7 @@ use crate::runs::{End, Host, Outcome, check_over, check_ran, ran_from};
 use jb_text::{ReadFault, read_within};
 use jb_tool::{Plain, Settings, TEXT_LIMIT, refuse_words, run_plain};
 use std::alloc::Global;
-use std::io::{self, ErrorKind, Read};
+use std::io::{self, ErrorKind, Read, sink};
 use std::process::Abort;
 
 /// The command line and the input of a run, and how it ends.
@@ -143,6 +143,7 @@ fn ran_plain(rt: &impl Host, plain: Plain, text: &[u8]) -> Outcome {
         &mut rest,
         &mut out,
         &mut err,
+        &mut sink(),
     );
     Outcome { ended, out, err }
 }

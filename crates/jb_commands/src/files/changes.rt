@@ -34,7 +34,14 @@ use std::rt::Files;
 ///
 /// # Errors
 /// Those of `open_placed`, of `judge_on` and of `renumber_on`.
-pub fn renumber_file<'a, S: Start, T: Start, R: Files<File = File> + AllocGlobal, I: Read, N: Write>(
+pub fn renumber_file<
+    'a,
+    S: Start,
+    T: Start,
+    R: Files<File = File> + AllocGlobal,
+    I: Read,
+    N: Write,
+>(
     rt: &R,
     image: &'a str,
     extents: Option<&'a str>,

@@ -43,7 +43,9 @@ pub(crate) fn dump_in<
     ensures silent { settings.details ≡ Hidden → N.contents notes.new ≡ N.contents notes.old }
 {
     match settings.form {
-        AnswerForm::Text => dump_named::<S, T, R, I, O, N>(rt, name, options, settings, input, out, notes),
+        AnswerForm::Text => dump_named::<S, T, R, I, O, N>(
+            rt, name, options, settings, input, out, notes,
+        ),
         AnswerForm::Json => {
             let mut text = Vec::new(rt.alloc());
             let lines = DumpOptions {

@@ -66,13 +66,7 @@ pub fn cat_file<
         input,
     ) {
         Ok(opened) => {
-            note_opened(
-                settings,
-                options.journal,
-                options.extents,
-                &opened,
-                notes,
-            );
+            note_opened(settings, options.journal, options.extents, &opened, notes);
             let OpenedImage { disk, homes, .. } = opened;
             let terminal = terminal_beside_text(rt, settings.progress);
             let progress = ShownProgress::over_homes(

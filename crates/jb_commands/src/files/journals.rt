@@ -131,7 +131,9 @@ fn dump_file<
     ensures silent { settings.details ≡ Hidden → N.contents notes.new ≡ N.contents notes.old }
 {
     match File::open(rt, name) {
-        Ok(file) => dump_open::<S, T, R, I, O, N>(rt, file, name, options, settings, input, out, notes),
+        Ok(file) => dump_open::<S, T, R, I, O, N>(
+            rt, file, name, options, settings, input, out, notes,
+        ),
         Err(error) => Err(unopened(name, error)),
     }
 }

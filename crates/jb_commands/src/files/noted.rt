@@ -32,7 +32,7 @@ pub fn note_opened<S: Start, T: Start, N: Write>(
 fn note_of<S: Start, T: Start>(place: JournalPlace, opened: &OpenedImage<S, T>) -> JournalNote
     ensures place { result.place ≡ place }
     ensures size { bytes_of result.size ≡ as_files.size opened.now.disk }
-    ensures super { result.sb ≡ opened.now.sb }
+    ensures counted { result.sb ≡ opened.now.sb }
     ensures homes { result.homes ≡ opened.now.homes }
     ensures skipped { result.skipped
         ≡ as_files.count opened.now.disk - opened.now.sb.maxlen - opened.now.homes }

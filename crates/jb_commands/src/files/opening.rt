@@ -52,7 +52,7 @@ pub fn open_counted<'a, S: Start, T: Start, R: Files<File = File> + AllocGlobal>
     /// and nothing else. [But see](docs/WRONG_BODIES.md#readers-writers-and-files).
     ensures opened { IfOk result
         (λ opened. IsImageOpened (option_map (λ word. word.now) journal.entry) opened.0 opened.1) }
-    ensures super { IfOk result (λ opened. opened.1 ≡ homes_in opened.2 (as_files.count opened.0)) }
+    ensures counted { IfOk result (λ opened. opened.1 ≡ homes_in opened.2 (as_files.count opened.0)) }
 {
     match journal {
         None => named(open_one(rt, name, opening, sums), name),
@@ -69,7 +69,7 @@ fn open_one<S: Start, T: Start, R: Files<File = File> + AllocGlobal>(
 ) -> Result<(ImageDisk<FileDisk<S>, FileDisk<T>>, u64, Super), FileFault>
     ensures shut { IfErr result IsFileShut }
     ensures opened { IfOk result (λ opened. IsImageOpened None opened.0 opened.1) }
-    ensures super { IfOk result (λ opened. opened.1 ≡ homes_in opened.2 (as_files.count opened.0)) }
+    ensures counted { IfOk result (λ opened. opened.1 ≡ homes_in opened.2 (as_files.count opened.0)) }
 {
     match open_front(rt, name, opening, sums) {
         Ok((disk, sb)) => {
@@ -91,7 +91,7 @@ fn open_two<S: Start, T: Start, R: Files<File = File> + AllocGlobal>(
 ) -> Result<(ImageDisk<FileDisk<S>, FileDisk<T>>, u64, Super), PairFault>
     ensures shut { IfErr result IsPairShut }
     ensures opened { IfOk result (λ opened. IsImageOpened (Some journal.now) opened.0 opened.1) }
-    ensures super { IfOk result (λ opened. opened.1 ≡ homes_in opened.2 (as_files.count opened.0)) }
+    ensures counted { IfOk result (λ opened. opened.1 ≡ homes_in opened.2 (as_files.count opened.0)) }
 {
     if are_same(rt, name, journal) {
         return Err(PairFault::SameFile);

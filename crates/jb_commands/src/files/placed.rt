@@ -137,7 +137,7 @@ fn open_listed<'a, S: Start, T: Start, R: Files<File = File> + AllocGlobal, I: R
 ) -> Result<(ImageDisk<FileDisk<S>, FileDisk<T>>, u64, Super), CommandFault<'a>>
     ensures shut { IfErr result (IsShutListed name.entry.now (I.remaining input.old) word.entry.now) }
     ensures opened { IfOk result (λ opened. IsOpenedListed (I.remaining input.old) word.entry.now opened.0 opened.1) }
-    ensures super { IfOk result (λ opened. opened.1 ≡ homes_in opened.2 (as_files.count opened.0)) }
+    ensures counted { IfOk result (λ opened. opened.1 ≡ homes_in opened.2 (as_files.count opened.0)) }
     ensures unread { is_input (list_file word.entry.now) ≡ false → input.new ≡ input.old }
 {
     match file_of(word) {
@@ -164,7 +164,7 @@ fn open_within<S: Start, T: Start, R: Files<File = File> + AllocGlobal>(
 ) -> Result<(ImageDisk<FileDisk<S>, FileDisk<T>>, u64, Super), WithinFault>
     ensures shut { IfErr result (IsListShut list.now) }
     ensures opened { IfOk result (λ opened. IsOpenedWithin list.now opened.0 opened.1) }
-    ensures super { IfOk result (λ opened. opened.1 ≡ homes_in opened.2 (as_files.count opened.0)) }
+    ensures counted { IfOk result (λ opened. opened.1 ≡ homes_in opened.2 (as_files.count opened.0)) }
 {
     match extents_of(rt.alloc(), list) {
         Ok(extents) => open_spread(rt, name, extents, opening, sums),
@@ -203,7 +203,7 @@ fn open_spread<S: Start, T: Start, R: Files<File = File> + AllocGlobal>(
     requires apart { AreDisjoint (list_of extents) }
     ensures shut { IfErr result (IsSpreadShut (list_of extents)) }
     ensures opened { IfOk result (λ opened. IsOpenedOver (list_of extents) opened.0 opened.1) }
-    ensures super { IfOk result (λ opened. opened.1 ≡ homes_in opened.2 (as_files.count opened.0)) }
+    ensures counted { IfOk result (λ opened. opened.1 ≡ homes_in opened.2 (as_files.count opened.0)) }
 {
     let Some(first) = extents.place(0) else {
         return Err(WithinFault::Extents(ExtentsFault::NoJournal));

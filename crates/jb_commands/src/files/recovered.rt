@@ -95,15 +95,12 @@ pub fn recover_file<
         input,
     ) {
         Ok(opened) => {
-            note_opened(
-                settings,
-                options.journal,
-                options.extents,
-                &opened,
-                notes,
-            );
+            note_opened(settings, options.journal, options.extents, &opened, notes);
             let OpenedImage {
-                disk, homes, found, ..
+                disk,
+                homes,
+                found,
+                ..
             } = opened;
             let journal = disk.blocks().saturating_sub(homes);
             let passes = PassCounts::of_recovery(

@@ -157,7 +157,12 @@ impl<'t> TerminalLine<'t> {
 
     /// Writes it of a pass over the handles of a queue.
     fn show_checks(&mut self, pass: HandlePass, now: u64) {
-        self.show_pass(pass.number, [" of at most ", "2", ", handle "], pass.handles, now)
+        self.show_pass(
+            pass.number,
+            [" of at most ", "2", ", handle "],
+            pass.handles,
+            now,
+        )
     }
 
     /// Writes it of a pass: its number, and these words between that and how far it has come. A fault of the terminal

@@ -4,10 +4,11 @@ use Rattle.jb_cost.specs.Cut.{Hold, piece_cost, price}
 use Rattle.jb_price.specs.declared.verdict.Verdict.TheVariants.{Accepted}
 use Rattle.jb_price.specs.Verdict.{AnswerSays, PricesHold, IsRight}
 use Rattle.jb_price.proofs.Verdicts.{hold, prices-hold, says-answer, right-accepted, where-ok}
+use Rattle.jb_price.proofs.checker.check_watched.Given.{Over}
 use Rattle.jb_price.proofs.checker.check_watched.Goals as goal
 
 -- no group undercuts the prices, once none was found
-no_undercut : (g : goal.Ghosts) (c : goal.After-check_answer g) → PricesHold (piece_cost c.args.geometry c.args.handles.now) c.args.limit (length c.args.handles.now) c.args.cert.now.prices.items
+no_undercut : (g : Over) (c : goal.After-check_answer g) → PricesHold (piece_cost c.args.geometry c.args.handles.now) c.args.limit (length c.args.handles.now) c.args.cert.now.prices.items
 no_undercut g c =
     let cost = piece_cost c.args.geometry c.args.handles.now in
     let n = length c.args.handles.now in
