@@ -1,6 +1,6 @@
 -- Images whose journal has room for the handles of a program, and those that are refused since it has not.
 use Rattle.std.proofs.Common.{◌≡◌, ◌+◌, ◌/◌, ◌<◌, ◌≤◌, ◌^◌, ◌==◌, ℕ, Bool, true, false, List, [], length, max, min, nat_lt, replicate, set, if◌then◌else◌, Result, Ok, Err, refl, sym, ◌∙◌, ap, subst, inl, inr, ⊎_elim, arith}
-use Rattle.std.proofs.lemmas.Bool.{le-ltb}
+use Rattle.std.proofs.lemmas.Bool.{cases_lt, le-ltb}
 use Rattle.std.proofs.lemmas.List.{get_or-set_same, length-replicate}
 use Rattle.jb_block.specs.Size.{bytes_of, IsBlockSize}
 use Rattle.jb_block.specs.Width.{is_wide}
@@ -34,7 +34,7 @@ use Rattle.jb_recover.specs.Outcomes.{KeepsJournal}
 use Rattle.jb_recover.specs.Passes.{PassFaults}
 use Rattle.jb_recover.specs.Refusals.{front_refusal}
 use Rattle.jb_recover.specs.declared.recovered.Recovered.{Recovered}
-use Rattle.jb_journal.specs.ImageFor.{HasRoomWhenMade, HeldRoomFor, HoldsRoomFor, IsTooFew, RefusesImageFor, RefusesRoom, WasTooShort, WouldBeTooShort, super_made}
+use Rattle.jb_journal.specs.ImageFor.{HasFields, HasRoomWhenMade, HeldRoomFor, HoldsRoomFor, IsTooFew, RefusesImageFor, RefusesRoom, WasTooShort, WouldBeTooShort, super_made}
 use Rattle.jb_journal.specs.OpenFile.{IsAsOpened, RefusesImage, RefusesOpening, WasRefused}
 use Rattle.jb_journal.specs.declared.journal_fault.JournalFault.{JournalFault}
 use Rattle.jb_journal.specs.declared.journal_fault.JournalFault.TheVariants.{Make, TooFewCredits}
@@ -171,10 +171,38 @@ module _ {S : Type 0} {start : Starts S} (g : ImageGeometry) (fits : FitsFields 
         enough = le-ltb (count_of f) (super_made g).maxlen (omega (arith, count, maxlen));
       })
 
+-- a journal may have the length of one that was made
+pub may-be : (g : ImageGeometry) → ((MakesImage g → ⊥) → ⊥) → MayBeLength g.journal
+may-be g makes = (
+  elim (cases_lt g.journal 9) [
+    | inl short ↦ absurd (makes (λ is. let least = is.least in let h : ⊥ = omega (arith, short, least) in h))
+    | inr least ↦ least
+  ],
+  elim (cases_lt g.journal (2 ^ 31)) [
+    | inl most ↦ most
+    | inr long ↦ absurd (makes (λ is. let most = is.most in let h : ⊥ = omega (arith, long, most) in h))
+  ],
+)
+
+sound-made : (wide : Bool) (size journal most : ℕ) (uuid : List ℕ) → IsBlockSize size → (9 ≤ journal) × (journal < 2 ^ 31) → IsSound (of_width wide (new_super size journal most uuid))
+sound-made false size journal most uuid is may = record { size = is; maxlen = may.1; first = omega arith; usable = may.0; start = inl refl; compat = refl; incompat = refl; ro_compat = refl }
+sound-made true size journal most uuid is may = record { size = is; maxlen = may.1; first = omega arith; usable = may.0; start = inl refl; compat = refl; incompat = refl; ro_compat = refl }
+
+fits-made : (wide : Bool) (size journal most : ℕ) (uuid : List ℕ) → length uuid ≡ 16 → most < 2 ^ 32 → FitsFields (of_width wide (new_super size journal most uuid))
+fits-made false size journal most uuid long small = record { number = omega arith; sequence = omega arith; errno = omega arith; compat = omega arith; incompat = omega arith; uuid = long; nr_users = omega arith; dynsuper = omega arith; max_transaction = small; max_trans_data = omega arith }
+fits-made true size journal most uuid long small = record { number = omega arith; sequence = omega arith; errno = omega arith; compat = omega arith; incompat = omega arith; uuid = long; nr_users = omega arith; dynsuper = omega arith; max_transaction = small; max_trans_data = omega arith }
+
+block-size : (size : BlockSize) → IsBlockSize (bytes_of size)
+block-size OneKib = inl refl
+block-size TwoKib = inr (inl refl)
+block-size FourKib = inr (inr refl)
+
 -- so it has room, if the new journal has
-pub holds-made : {S : Type 0} {start : Starts S} (g : ImageGeometry) (credits : ℕ) → FitsFields (super_made g) → IsSound (super_made g) → MayBeLength g.journal → HasRoomWhenMade credits g
-    → (f : FileDisk S start) → WasMade g f → HoldsRoomFor credits f
-holds-made g credits fits sound may has f made = λ honest. (super_made g, made-front g fits sound f made honest may.0, has may)
+pub holds-made : {S : Type 0} {start : Starts S} (g : ImageGeometry) (credits : ℕ) → HasFields g → MayBeLength g.journal → HasRoomWhenMade credits g → (f : FileDisk S start) → WasMade g f → HoldsRoomFor credits f
+holds-made g credits fields may has f made =
+    let sound : IsSound (super_made g) = sound-made (is_wide g.width) (bytes_of g.block_size) g.journal g.max_transaction g.uuid (block-size g.block_size) may in
+    let fits : FitsFields (super_made g) = fits-made (is_wide g.width) (bytes_of g.block_size) g.journal g.max_transaction g.uuid fields.0 fields.1 in
+    λ honest. (super_made g, made-front g fits sound f made honest may.0, has may)
 
 -- ---- why an image is refused
 

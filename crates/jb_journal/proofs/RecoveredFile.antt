@@ -27,6 +27,10 @@ use Rattle.jb_journal.specs.OpenFile.{IsAsOpened, RefusesOpening, WasRecovered, 
 use Rattle.jb_journal.specs.declared.fault.HomeFault.{HomeFault}
 use Rattle.jb_journal.specs.declared.fault.HomeFault.TheVariants.{Length, Peek}
 
+-- an image recovers as itself
+recovers-same : (size count : ℕ) (base c : Image) → c ≡ base → RecoversAs size count base c
+recovers-same size count base c is = subst (RecoversAs size count base) (sym is) (record { refused = refl; image = refl; read = inl refl })
+
 module _ {S : Type 0} {start : Starts S} where
   -- how many calls of a file were made
   abbrev pub moment : FileDisk S start → ℕ
@@ -35,10 +39,6 @@ module _ {S : Type 0} {start : Starts S} where
   -- what a call keeps of a file, with this of its counts of faults
   abbrev pub Keeps : (ℕ → ℕ → Type 0) → FileDisk S start → FileDisk S start → Type 0
   Keeps counts old new = IsDiskKept (λ f. bytes_of (size_of_blocks f)) count_of faults_of IsHonest MayGoOn IsWellAsked counts old new
-
-  -- what it held when it was opened recovers as that
-  recovers-same : (size count : ℕ) (c : Image) → c ≡ start.content 0 → RecoversAs size count (start.content 0) c
-  recovers-same size count c is = subst (RecoversAs size count (start.content 0)) (sym is) (record { refused = refl; image = refl; read = inl refl })
 
   -- a file that was asked its length and nothing else
   pub as-opened : (size : BlockSize) (f : FileDisk S start) → size_of_blocks f ≡ size → faults_of f ≡ 0 → IsMeasured f → IsAsOpened size f
@@ -95,7 +95,7 @@ module _ {S : Type 0} {start : Starts S} where
           asked = λ honest. omega (arith, was.asked (before honest), (run honest).later);
           recovers = λ honest. (done, recovers-held (Ok done) was.sized kept.same_count (held honest) (recovers honest));
           crash = λ honest c left. ⊎_elim
-              (λ then. recovers-same (bytes_of size) (count_of new) c (was.crash (before honest) c then))
+              (λ then. recovers-same (bytes_of size) (count_of new) (start.content 0) c (was.crash (before honest) c then))
               (λ is. entry-as (λ s n d. RecoversAs s n d c) _ _ _ _ _ _ was.sized (sym kept.same_count) (held honest) is)
               ((run honest).before 1 c (was.asked (before honest)) left);
           durable = durable;

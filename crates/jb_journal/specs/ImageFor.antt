@@ -1,5 +1,5 @@
 -- Images whose journal has to have room for the handles of a program.
-use Rattle.std.specs.Prelude.{◌≡◌, ◌⊎◌, ◌<◌, ℕ, Ok}
+use Rattle.std.specs.Prelude.{◌≡◌, ◌⊎◌, ◌<◌, ◌^◌, ℕ, length, Ok}
 use Rattle.jb_block.specs.Size.{bytes_of}
 use Rattle.jb_block.specs.Width.{is_wide}
 use Rattle.jb_block.specs.declared.size.BlockSize.{BlockSize}
@@ -20,6 +20,10 @@ use Rattle.jb_journal.specs.declared.journal_fault.JournalFault.TheVariants.{Mak
 -- the superblock of the new journal that is asked for
 abbrev pub super_made : ImageGeometry → Superblock
 super_made g = of_width (is_wide g.width) (new_super (bytes_of g.block_size) g.journal g.max_transaction g.uuid)
+
+-- what is asked for fits the fields of a superblock
+abbrev pub HasFields : ImageGeometry → Type 0
+HasFields g = (length g.uuid ≡ 16) × (g.max_transaction < 2 ^ 32)
 
 -- it has room for handles of so many credits, if a journal may have its length
 abbrev pub HasRoomWhenMade : ℕ → ImageGeometry → Type 0

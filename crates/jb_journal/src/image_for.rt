@@ -3,8 +3,8 @@ ghost use Rattle.std.specs.Prelude.{◌≡◌, IfErr, IfOk, OnOk};
 ghost use Rattle.jb_block.specs.Size.{bytes_of};
 ghost use Rattle.jb_disk.specs.File.{size_of_blocks};
 ghost use Rattle.jb_disk.specs.contracts.start.UnknownStart.TheImpl.{ghosts as unknown};
-ghost use Rattle.jb_journal.specs.ImageFor.{HasRoomWhenMade, HoldsRoomFor, IsTooFew, RefusesImageFor, WouldBeTooShort};
-ghost use Rattle.jb_journal.specs.ImageFor.{RefusesRoom};
+ghost use Rattle.jb_journal.specs.ImageFor.{HasFields, HasRoomWhenMade, HoldsRoomFor, IsTooFew, RefusesImageFor};
+ghost use Rattle.jb_journal.specs.ImageFor.{RefusesRoom, WouldBeTooShort};
 ghost use Rattle.jb_journal.specs.OpenFile.{WasRecovered, WasRecoveredOrMade};
 
 use crate::journal_fault::JournalFault;
@@ -109,6 +109,7 @@ fn open_fitting<S: Start, R: Files<File = File> + AllocGlobal>(
 /// Whether a new journal of this geometry has room for handles of so many credits. What no journal may have is for its
 /// making to refuse.
 fn check_new(geometry: ImageGeometry, credits: u32) -> Result<(), JournalFault>
+    ensures fields { HasFields geometry }
     ensures room { OnOk result (HasRoomWhenMade credits geometry) }
     ensures refused { IfErr result (IsTooFew (WouldBeTooShort geometry) credits) }
 {
