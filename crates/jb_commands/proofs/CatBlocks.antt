@@ -18,7 +18,7 @@ use Rattle.jb_recover.specs.declared.checked_fault.CheckedPeekFault.{CheckedPeek
 use Rattle.jb_recover.specs.declared.checked_fault.CheckedPeekFault.TheVariants as peeking
 use Rattle.jb_super.specs.declared.checked.CheckedSuperFault.TheVariants as checked
 use Rattle.jb_super.specs.declared.checked.Checksums.{Checksums}
-use Rattle.jb_commands.specs.Checking.{IsPeekedBy, IsUnpeeked, unpeeked_for}
+use Rattle.jb_recover.specs.PeeksBy.{IsPeekedBy, IsUnpeeked, unpeeked_for}
 use Rattle.jb_commands.specs.Cat.{ArePeeked, block_text, blocks_text, CatFaults, CatsOn, LooksOn, home_at, offset_after, offset_behind, PutsText, TellsHomes}
 use Rattle.jb_commands.specs.Lines.{upto}
 use Rattle.jb_commands.specs.Faults.{peek_fault}
