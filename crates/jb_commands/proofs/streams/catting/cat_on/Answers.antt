@@ -6,7 +6,7 @@ use Rattle.jb_commands.proofs.streams.catting.cat_on.Goals as goal
 pub loop-i-init : goal.loop-i-init
 loop-i-init g c = record {
   state = catting-start g.D.Disk c.args.shown.sums c.args.shown.home c.args.shown.hex c.args.disk.now (g.O.Write.contents c.args.out.now);
-  asked = c.new-window.ensures.0;
+  taken = c.new-window.ensures.0;
   knows = rw c.new-window.ensures.1 tt;
 }
 
@@ -17,7 +17,7 @@ returns-in_err-put_block g c =
     record {
       cats = cats-stopped g.D.Disk c.args.shown.sums c.args.shown.home c.args.shown.hex c.args.disk.now disk c.peek.new.disk (g.O.Write.contents c.args.out.now) (g.O.Write.contents c.loop-i.out) c.loop-i.i
           c.loop-i.at c.loop-i.invariant.state c.in-Ok.ensures.passed.kept c.in-Ok.ensures.passed.same c.in-Ok.ensures.passed.idle c.in-Ok.ensures.passed.unsynced (g.met.D.Disk.counts_now c.args.disk.now) c.in-Ok.ensures.passed.kept.counted c.peek.new.bytes
-          (λ honest. rw (c.loop-i.invariant.asked, c.saturating_add.ensures) at (c.in-Ok.ensures.peeks honest))
+          (λ honest. rw (c.loop-i.invariant.sums_taken, c.saturating_add.ensures) at (c.in-Ok.ensures.peeks honest))
           c.args.homes c.args.shown.count (g.O.Write.contents c.put_block.new.out) c.in_err-put_block.field-0.0 c.from_residual.result fails c.in_err-put_block.ensures.memory c.loop-i-test.true c.in_err-put_block.ensures.puts;
     }
 
@@ -27,9 +27,9 @@ loop-i-preserved g c =
     record {
       state = catting-more g.D.Disk c.args.shown.sums c.args.shown.home c.args.shown.hex c.args.disk.now disk c.peek.new.disk (g.O.Write.contents c.args.out.now) (g.O.Write.contents c.loop-i.out) c.loop-i.i
           c.loop-i.at c.loop-i.invariant.state c.in-Ok.ensures.passed.kept c.in-Ok.ensures.passed.same c.in-Ok.ensures.passed.idle c.in-Ok.ensures.passed.unsynced (g.met.D.Disk.counts_now c.args.disk.now) c.in-Ok.ensures.passed.kept.counted c.peek.new.bytes
-          (λ honest. rw (c.loop-i.invariant.asked, c.saturating_add.ensures) at (c.in-Ok.ensures.peeks honest))
+          (λ honest. rw (c.loop-i.invariant.sums_taken, c.saturating_add.ensures) at (c.in-Ok.ensures.peeks honest))
           (g.O.Write.contents c.put_block.new.out) ((c.loop-i.at + length c.peek.new.bytes) % 2 ^ 32) c.in_ok-put_block.ensures.puts refl;
-      asked = c.peek.ensures.asked ∙ c.loop-i.invariant.asked;
+      taken = c.peek.ensures.taken ∙ c.loop-i.invariant.taken;
       knows = c.peek.ensures.knows;
     }
 
@@ -44,7 +44,7 @@ returns-in-Err g c =
           cats-refused g.D.Disk c.args.shown.sums c.args.shown.home c.args.shown.hex c.args.disk.now disk c.peek.new.disk (g.O.Write.contents c.args.out.now) (g.O.Write.contents c.loop-i.out)
           c.loop-i.i c.loop-i.at c.loop-i.invariant.state c.in-Err.ensures.passed.kept c.in-Err.ensures.passed.same c.in-Err.ensures.passed.idle c.in-Err.ensures.passed.unsynced (g.met.D.Disk.counts_now c.args.disk.now)
           c.args.homes c.args.shown.count c.in-Err.fault c.in-Err.ensures.passed.kept.counted c.loop-i-test.true
-          (λ honest. subst (λ h. IsUnpeeked c.args.shown.sums size count image h c.in-Err.fault) c.saturating_add.ensures (subst (λ sums. IsUnpeeked sums size count image c.saturating_add.result c.in-Err.fault) c.loop-i.invariant.asked (c.in-Err.ensures.peeks honest))));
+          (λ honest. subst (λ h. IsUnpeeked c.args.shown.sums size count image h c.in-Err.fault) c.saturating_add.ensures (subst (λ sums. IsUnpeeked sums size count image c.saturating_add.result c.in-Err.fault) c.loop-i.invariant.taken (c.in-Err.ensures.peeks honest))));
     }
 
 pub returns : goal.returns
