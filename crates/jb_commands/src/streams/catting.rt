@@ -26,8 +26,9 @@ pub struct ShownHomes {
     pub sums: Checksums,
 }
 
-/// Writes the home blocks of a disk that are asked for, each as recovery would leave it, and gives status 0. With
-/// `hex` a block is lines of sixteen bytes in hexadecimal digits. The disk is not written or synced.
+/// Writes the home blocks of a disk that are asked for, each as recovery would leave it, and gives status 0. They are
+/// looked for by windows, so that many of them are read by few passes over the log. With `hex` a block is lines of
+/// sixteen bytes in hexadecimal digits. The disk is not written or synced.
 ///
 /// # Errors
 /// `CommandFault::Super`, `CommandFault::BadRevoke` and `CommandFault::NoHome` where a peek is refused, the last with
