@@ -41,6 +41,13 @@ text-more : (hex : Bool) (at : ℕ) (blocks : List (List ℕ)) (bytes : List ℕ
 text-more hex at [] bytes = append-nil (block_text hex at bytes)
 text-more hex at (b ∷ blocks) bytes = rw (text-more hex (offset_behind at b) blocks bytes, append_assoc) refl
 
+-- a peek by a window is one of this journal, at this home
+pub peeked-of : {sums asked : Checksums} {size count home at : ℕ} {c : Image} {bytes : List ℕ} → asked ≡ sums → at ≡ home
+    → (unpeeked_for asked size count c at ≡ None) × IsPeekedBy asked size count c at bytes → (unpeeked_for sums size count c home ≡ None) × IsPeekedBy sums size count c home bytes
+peeked-of {sums = sums} {size = size} {count = count} {at = at} {c = c} {bytes = bytes} same here told =
+    subst (λ h. (unpeeked_for sums size count c h ≡ None) × IsPeekedBy sums size count c h bytes) here
+    (subst (λ own. (unpeeked_for own size count c at ≡ None) × IsPeekedBy own size count c at bytes) same told)
+
 peeked-more : (sums : Checksums) (size count : ℕ) (c : Image) (first : ℕ) (blocks : List (List ℕ)) (bytes : List ℕ) → ArePeeked sums size count c first blocks
     → (unpeeked_for sums size count c (home_at first (length blocks)) ≡ None) × IsPeekedBy sums size count c (home_at first (length blocks)) bytes → ArePeeked sums size count c first (blocks ++ bytes ∷ [])
 peeked-more sums size count c first blocks bytes before here k within = elim (ℕ_discrete k (length blocks)) [
