@@ -22,7 +22,7 @@ sys.dont_write_bytecode = True
 from images import BS, SAME_UUID, LAST_TAG, commit, descriptor, superblock  # noqa: E402
 
 JB = os.path.abspath(sys.argv[1])
-TAGS, GROUPS, HOMES, SHOWN = 124, 2420, 124, 8
+TAGS, GROUPS, HOMES, SHOWN = 124, 2420, 600, 600
 HANDLES = 60000
 CHECKED = 2500000
 MADE = 600 << 20
@@ -38,7 +38,7 @@ def expect(what, is_so, *found):
 
 
 def lay_log():
-    """The image: each transaction writes all homes with zeros, which are holes of the file."""
+    """The image: each transaction writes the first homes with zeros, which are holes of the file."""
     maxlen = 1 + GROUPS * (TAGS + 2) + 8
     tags = [(home, SAME_UUID * (home > 0) | LAST_TAG * (home == TAGS - 1)) for home in range(TAGS)]
     with open("image", "wb") as file:

@@ -18,7 +18,7 @@ use Rattle.jb_recover.specs.declared.checked_fault.CheckedPeekFault.{CheckedPeek
 use Rattle.jb_recover.specs.declared.checked_fault.CheckedPeekFault.TheVariants as peeking
 use Rattle.jb_super.specs.declared.checked.CheckedSuperFault.TheVariants as checked
 use Rattle.jb_super.specs.declared.checked.Checksums.{Checksums}
-use Rattle.jb_commands.specs.Checking.{IsPeekedBy, IsUnpeeked, unpeeked_for}
+use Rattle.jb_recover.specs.PeeksBy.{IsPeekedBy, IsUnpeeked, unpeeked_for}
 use Rattle.jb_commands.specs.Cat.{ArePeeked, block_text, blocks_text, CatFaults, CatsOn, LooksOn, home_at, offset_after, offset_behind, PutsText, TellsHomes}
 use Rattle.jb_commands.specs.Lines.{upto}
 use Rattle.jb_commands.specs.Faults.{peek_fault}
@@ -40,6 +40,13 @@ offset-more at (b ∷ blocks) bytes = offset-more (offset_behind at b) blocks by
 text-more : (hex : Bool) (at : ℕ) (blocks : List (List ℕ)) (bytes : List ℕ) → blocks_text hex at (blocks ++ bytes ∷ []) ≡ blocks_text hex at blocks ++ block_text hex (offset_after at blocks) bytes
 text-more hex at [] bytes = append-nil (block_text hex at bytes)
 text-more hex at (b ∷ blocks) bytes = rw (text-more hex (offset_behind at b) blocks bytes, append_assoc) refl
+
+-- a peek by a window is one of this journal, at this home
+pub peeked-of : {sums asked : Checksums} {size count home at : ℕ} {c : Image} {bytes : List ℕ} → asked ≡ sums → at ≡ home
+    → (unpeeked_for asked size count c at ≡ None) × IsPeekedBy asked size count c at bytes → (unpeeked_for sums size count c home ≡ None) × IsPeekedBy sums size count c home bytes
+peeked-of {sums = sums} {size = size} {count = count} {at = at} {c = c} {bytes = bytes} same here told =
+    subst (λ h. (unpeeked_for sums size count c h ≡ None) × IsPeekedBy sums size count c h bytes) here
+    (subst (λ own. (unpeeked_for own size count c at ≡ None) × IsPeekedBy own size count c at bytes) same told)
 
 peeked-more : (sums : Checksums) (size count : ℕ) (c : Image) (first : ℕ) (blocks : List (List ℕ)) (bytes : List ℕ) → ArePeeked sums size count c first blocks
     → (unpeeked_for sums size count c (home_at first (length blocks)) ≡ None) × IsPeekedBy sums size count c (home_at first (length blocks)) bytes → ArePeeked sums size count c first (blocks ++ bytes ∷ [])

@@ -10,9 +10,9 @@ use Rattle.jb_disk.specs.Image.{Image, ChangesNothing}
 use Rattle.jb_disk.specs.KeptOn.{KeptOn, ReadsOn}
 use Rattle.jb_disk.specs.Time.{Goes}
 use Rattle.jb_text.specs.Puts.{PutsPart}
+use Rattle.jb_recover.specs.PeeksBy.{IsPeekedBy, IsUnpeeked, unpeeked_for}
 use Rattle.jb_recover.specs.declared.checked_fault.CheckedPeekFault.{CheckedPeekFault}
 use Rattle.jb_super.specs.declared.checked.Checksums.{Checksums}
-use Rattle.jb_commands.specs.Checking.{IsPeekedBy, IsUnpeeked, unpeeked_for}
 use Rattle.jb_commands.specs.Faults.{peek_fault}
 use Rattle.jb_commands.specs.Lines.{upto}
 use Rattle.jb_commands.specs.declared.fault.CommandFault.{CommandFault}

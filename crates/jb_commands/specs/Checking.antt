@@ -96,33 +96,3 @@ ForetellsUnreadBy Refused G old new answer =
     (plain : Result Foreseen RecoverFault) × Foretells G old new plain × (answer ≡ as_checked plain)
 ForetellsUnreadBy Allowed G old new answer = ForetellsUnread G old new answer
 ForetellsUnreadBy Unjudged G old new answer = ForetellsUnread G old new answer
-
--- ---- a peek
-
--- why a home of an image is not peeked at, where it is not
-abbrev pub unpeeked_for : Checksums → ℕ → ℕ → Image → ℕ → Option CheckedPeekFault
-unpeeked_for Refused size count c home = option_map checked_peek_of (peek_refusal size count c home)
-unpeeked_for Allowed size count c home = checked_peek_refusal size count c home
-unpeeked_for Unjudged size count c home = checked_peek_refusal size count c home
-
--- the bytes are what the committed transactions make of the home
-abbrev pub IsPeekedBy : Checksums → ℕ → ℕ → Image → ℕ → List ℕ → Type 0
-IsPeekedBy Refused size count c home bytes = IsPeeked size count c home bytes
-IsPeekedBy Allowed size count c home bytes = IsCheckedPeek size count c home bytes
-IsPeekedBy Unjudged size count c home bytes = IsCheckedPeek size count c home bytes
-
--- a peek at the home is refused for this
-abbrev pub IsUnpeeked : Checksums → ℕ → ℕ → Image → ℕ → CheckedPeekFault → Type 0
-IsUnpeeked sums size count c home DeviceFault = ⊤
-IsUnpeeked sums size count c home (Super fault) = unpeeked_for sums size count c home ≡ Some (Super fault)
-IsUnpeeked sums size count c home (BadChecksum what at) =
-    unpeeked_for sums size count c home ≡ Some (BadChecksum what at)
-IsUnpeeked sums size count c home (BadRevoke at) = unpeeked_for sums size count c home ≡ Some (BadRevoke at)
-IsUnpeeked sums size count c home (HomeOutOfRange other) =
-    unpeeked_for sums size count c home ≡ Some (HomeOutOfRange other)
-
--- the home was peeked at, and these are its bytes; or it is refused for this
-abbrev pub PeeksBy : Checksums → ℕ → ℕ → Image → ℕ → List ℕ → {T : Type 0} → Result T CheckedPeekFault → Type 0
-PeeksBy sums size count c home bytes (Ok done) =
-    (unpeeked_for sums size count c home ≡ None) × IsPeekedBy sums size count c home bytes
-PeeksBy sums size count c home bytes (Err fault) = IsUnpeeked sums size count c home fault

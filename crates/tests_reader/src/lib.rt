@@ -1,4 +1,4 @@
-//! Tests of homes that are read by an index of the log, and of lengths of journals.
+//! Tests of homes that are read by an index of the log or by windows, and of lengths of journals.
 #![tactic(auto)]
 
 #[cfg(test)]
@@ -17,3 +17,5 @@ mod logs;
 mod many;
 #[cfg(test)]
 mod rows;
+#[cfg(test)]
+mod windows;

@@ -10,9 +10,9 @@ use jb_super::SuperFault;
 use tests_support::{Bench, check, check_none, check_row, difference, zeros};
 
 /// A name, the blocks of a log but for this many of the last ones, and a block that is put then.
-type Case = (&'static str, &'static [Laid], usize, Laid);
+pub type Case = (&'static str, &'static [Laid], usize, Laid);
 
-static CASES: [Case; 11] = [
+pub static CASES: [Case; 11] = [
     ("escaped", &ESCAPED, 0, SAME),
     ("escaped, not committed", &ESCAPED, 1, SAME),
     ("escaped, clean", &ESCAPED, 0, CLEAN),

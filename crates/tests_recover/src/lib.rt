@@ -80,6 +80,8 @@ mod summed_peeks;
 #[cfg(test)]
 mod summed_refusals;
 #[cfg(test)]
+mod summed_windows;
+#[cfg(test)]
 mod widens;
 #[cfg(test)]
 mod wraps;

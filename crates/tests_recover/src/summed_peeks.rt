@@ -11,7 +11,7 @@ use tests_support::{Bench, check_none, check_row, difference};
 
 /// A name, the rows of a small image, rows that are put over them, a home block, what a peek answers, and the first
 /// word of the bytes afterwards.
-type Peeked = (
+pub type Peeked = (
     &'static str,
     &'static [Row],
     &'static [Row],
@@ -25,7 +25,7 @@ const NONE: [u8; 4] = [0, 0, 0, 0];
 /// The data of the copy of home 5 is wrong.
 const WRONG: [Row; 1] = [(3, 1, [1, 0, 0, 0])];
 
-static PEEKED: [Peeked; 9] = [
+pub static PEEKED: [Peeked; 9] = [
     (
         "checksum",
         &V3,

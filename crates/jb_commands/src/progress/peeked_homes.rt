@@ -1,13 +1,15 @@
 //! Where a command is that peeks at home blocks, one after the other.
 
 use crate::progress::advance::Advance;
+use jb_recover::WINDOW_HOMES;
 
-/// How many home blocks were peeked at. Each peek begins with the superblock, and so ends the one before.
+/// How many home blocks were peeked at. They are peeked at by windows, each of which begins with the superblock, and so
+/// ends the one before.
 #[derive(Clone, Copy)]
 pub(crate) struct PeekedHomes {
-    /// Whether the first has begun.
+    /// Whether the first window has begun.
     begun: bool,
-    /// How many blocks are done.
+    /// How many blocks are done: those of the windows before.
     pub blocks: Advance,
 }
 
@@ -26,7 +28,7 @@ impl PeekedHomes {
             return;
         }
         if self.begun {
-            self.blocks.add(1)
+            self.blocks.add(WINDOW_HOMES as u64)
         }
         self.begun = true
     }

@@ -5,9 +5,9 @@ ghost use Rattle.jb_commands.specs.Lines.{upto};
 ghost use Rattle.jb_commands.specs.declared.fault.CommandFault.TheVariants.{Memory as NoMemory};
 
 use crate::fault::CommandFault;
-use crate::streams::checking::peek_by;
 use jb_block::{MOST_BYTES, Memory};
 use jb_disk::Disk;
+use jb_recover::HomeWindow;
 use jb_super::Checksums;
 use jb_text::put;
 use std::alloc::Global;
@@ -26,8 +26,9 @@ pub struct ShownHomes {
     pub sums: Checksums,
 }
 
-/// Writes the home blocks of a disk that are asked for, each as recovery would leave it, and gives status 0. With
-/// `hex` a block is lines of sixteen bytes in hexadecimal digits. The disk is not written or synced.
+/// Writes the home blocks of a disk that are asked for, each as recovery would leave it, and gives status 0. They are
+/// looked for by windows, so that many of them are read by few passes over the log. With `hex` a block is lines of
+/// sixteen bytes in hexadecimal digits. The disk is not written or synced.
 ///
 /// # Errors
 /// `CommandFault::Super`, `CommandFault::BadRevoke` and `CommandFault::NoHome` where a peek is refused, the last with
@@ -51,8 +52,9 @@ pub fn cat_on<'a, D: Disk, O: Write>(
     let mut block = [0u8; MOST_BYTES];
     let bytes = &mut block[..disk.block_size().bytes() as usize];
     let mut at = 0u32;
+    let mut window = HomeWindow::new(shown.sums);
     for i in 0..shown.count {
-        match peek_by(disk, shown.home.saturating_add(i), bytes, shown.sums) {
+        match window.peek(disk, shown.home.saturating_add(i), bytes) {
             Ok(()) => {}
             Err(fault) => return Err(CommandFault::of_peek(fault, homes)),
         }
