@@ -5,10 +5,11 @@ use crate::checks::By;
 use crate::frames::Frame;
 use crate::images::{BLOCKS, HOMES, Label, MAGIC, Row, small};
 use crate::scripts::{Refusal, Step, opening};
+use crate::stops::NEW;
 use jb_block::Width;
 use jb_deck::CheckpointFault;
 use jb_disk::Disk;
-use tests_support::{Bench, check_in, check_none, crashed, difference};
+use tests_support::{Bench, Must, check_in, check_none, crashed, difference};
 
 /// The sync that fails, by its number among the calls of the disk: opening the small image makes 34; then the
 /// superblock is read and written, and a revoke block, a descriptor and a copy are written.
@@ -16,13 +17,21 @@ const BEFORE_COMMIT: u64 = 39;
 
 const AFTER_COMMIT: u64 = 41;
 
-/// The same of three groups that go home together: after 54 calls, in which they were committed, there are four copies,
-/// the one sync, the superblock that is read and written, and the other sync.
+/// The same of three groups that go home together: after 54 calls, in which they were committed, there are three copies,
+/// the last one of home 6 and those of homes 7 and 8, the one sync, the superblock that is read and written, and the
+/// other sync.
 const COPIES: u64 = 54;
 
-const AFTER_COPIES: u64 = 58;
+const AFTER_COPIES: u64 = 57;
 
-const AFTER_ALL: u64 = 61;
+const AFTER_ALL: u64 = 60;
+
+/// A commit before which two groups go home together: after 86 calls, in which six groups were committed and the oldest
+/// of them went home, there are two copies, the one sync, the superblock that is read and written, the other sync, and
+/// the ten calls of the commit.
+const ROOM: u64 = 86;
+
+const AFTER_ROOM: u64 = 101;
 
 /// The copy at home.
 const COPY: [Row; 1] = [(HOMES + 5, 0, [MAGIC, 0x0102_0304, 0, 0])];
@@ -33,6 +42,9 @@ const THREE: [Row; 3] = [
     (HOMES + 7, 0, [0xAC00_0000, 0, 0, 0]),
     (HOMES + 8, 0, [0xAE00_0000, 0, 0, 0]),
 ];
+
+/// Of more sectors than are pending each is the newest one.
+const ALL_NEW: [u32; 32] = [NEW; 32];
 
 /// A name; the call of the disk that fails, which of the pending sectors are new, what recovery reports; and once the
 /// journal is opened again, from which place on all is as it was, but for these rows.
@@ -113,7 +125,44 @@ static RUN: [Step; 4] = [
 ];
 
 /// The same, which meets none.
-static DONE: [Step; 4] = [FIRST, SECOND, THIRD, Step::Runs(3, Ok((3, 4, 4)))];
+static DONE: [Step; 4] = [FIRST, SECOND, THIRD, Step::Runs(3, Ok((3, 4, 3)))];
+
+const SIX: &str = "h w0=01 w1=02 w2=03 w3=04 w4=05 w7=06\n";
+
+const FIVE: Step = Step::Commits("h w5=aa\n", &[(0, 1, 2, 3)]);
+
+const NEXT: Step = Step::Commits("h w6=ab\n", &[(1, 2, 3, 3)]);
+
+const AGAIN: Step = Step::Commits("h w5=ac\n", &[(2, 3, 4, 3)]);
+
+const FULL_4: Step = Step::Commits(SIX, &[(3, 4, 5, 8)]);
+
+const FULL_5: Step = Step::Commits(SIX, &[(4, 5, 6, 8)]);
+
+const FULL_6: Step = Step::Commits(SIX, &[(5, 6, 7, 8)]);
+
+/// The commit before which two groups have to go, and which meets the fault.
+static NO_ROOM: [Step; 7] = [
+    FIVE,
+    NEXT,
+    AGAIN,
+    FULL_4,
+    FULL_5,
+    FULL_6,
+    Step::Refuses(6, (16, 8, Width::Narrow), SIX, Refusal::DeviceFault(0)),
+];
+
+/// The same, which meets none.
+static MADE_ROOM: [Step; 8] = [
+    FIVE,
+    NEXT,
+    AGAIN,
+    FULL_4,
+    FULL_5,
+    FULL_6,
+    Step::Commits(SIX, &[(6, 7, 8, 8)]),
+    Step::Word(5, None),
+];
 
 /// Checks a row of these calls of the journal.
 fn check_row(test: &impl Bench, steps: &[Step], of: &Given) {
@@ -177,15 +226,51 @@ fn syncs_that_fail_leave_what_is_worked_out_by_hand(rt: HostRuntime) {
     check_rows(&By(&rt, rt.alloc()))
 }
 
-/// Each of the eight calls by which three groups go home may fail, and there is no ninth.
+/// Each of the seven calls by which three groups go home may fail, and there is no eighth.
 fn check_calls(test: &impl Bench) {
     for call in COPIES..=AFTER_ALL {
-        let _failed = called_with_fault(test, "a call of eight fails", call, &RUN);
+        let _failed = called_with_fault(test, "a call of seven fails", call, &RUN);
     }
     let _done = called_with_fault(test, "a later call fails", AFTER_ALL + 1, &DONE);
 }
 
 #[test]
-fn three_groups_go_home_in_eight_calls(rt: HostRuntime) {
+fn three_groups_go_home_in_seven_calls(rt: HostRuntime) {
     check_calls(&By(&rt, rt.alloc()))
+}
+
+/// Checks which homes the first calls of the checkpoint have written: those of the lowest numbers, each with the last
+/// copy.
+fn check_written(test: &impl Bench, written: usize) {
+    let call = COPIES.saturating_add(written as u64);
+    let stopped = called_with_fault(test, "some copies are written", call, &RUN);
+    let mut left = crashed(test, &stopped, &ALL_NEW);
+    let rows = THREE.get(..written).must(test, "rows");
+    let mut wanted = small(test, BLOCKS, rows, &[]);
+    let place = difference(test, &mut left, &mut wanted, HOMES);
+    check_none(test, "some copies are written", "block", place)
+}
+
+fn check_order(test: &impl Bench) {
+    for written in 0..=THREE.len() {
+        check_written(test, written);
+    }
+}
+
+#[test]
+fn homes_are_written_once_and_in_their_order(rt: HostRuntime) {
+    check_order(&By(&rt, rt.alloc()))
+}
+
+/// Each of the sixteen calls of a commit may fail before which two groups go home, and there is no seventeenth.
+fn check_room(test: &impl Bench) {
+    for call in ROOM..=AFTER_ROOM {
+        let _failed = called_with_fault(test, "a call of sixteen fails", call, &NO_ROOM);
+    }
+    let _done = called_with_fault(test, "a later call fails", AFTER_ROOM + 1, &MADE_ROOM);
+}
+
+#[test]
+fn two_groups_make_room_under_two_syncs(rt: HostRuntime) {
+    check_room(&By(&rt, rt.alloc()))
 }

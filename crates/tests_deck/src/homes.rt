@@ -48,7 +48,7 @@ static HOME: [Case; 4] = [
         after: (&[(0, 0x10, [33, 1, 4, 0])], &[(1, 0x0B)]),
     },
     Case {
-        name: "three groups go home under one call, but for a home that the second of them frees",
+        name: "three groups go home under one call, each home once, but for one that the second frees",
         image: &[],
         steps: &[
             Step::Runs(3, Err(CheckpointFault::Nothing)),
@@ -56,7 +56,7 @@ static HOME: [Case; 4] = [
             Step::Commits("h r5 w7=ac\n", &[(1, 2, 3, 4)]),
             Step::Commits("h w6=ad w8=ae\n", &[(2, 3, 4, 4)]),
             Step::Runs(0, Err(CheckpointFault::Nothing)),
-            Step::Runs(3, Ok((3, 4, 4))),
+            Step::Runs(3, Ok((3, 4, 3))),
             Step::Idle,
             Step::Word(6, None),
             Step::Ends(&[(0, 1, 2, 4), (1, 2, 3, 4), (2, 3, 4, 4)], 5),

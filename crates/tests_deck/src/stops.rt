@@ -158,7 +158,7 @@ fn stop_each(test: &impl Bench) {
     for number in 0..MOST {
         if stop_at(test, number) {
             let calls = u64::from(number);
-            return check_at(test, calls == 143, "calls of the whole script:", calls);
+            return check_at(test, calls == 133, "calls of the whole script:", calls);
         }
     }
     fail(test, "it never ends")
