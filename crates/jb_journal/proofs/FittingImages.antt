@@ -66,7 +66,7 @@ same-room credits own sb same has = subst (λ s. HasRoomFor s credits) (sym same
 module _ {S : Type 0} {start : Starts S} where
   -- of no credits nothing is read
   pub held-none : (f : FileDisk S start) → HeldRoomFor 0 f
-  held-none f honest sb on = no-credits sb (front-sound _ _ sb _ on)
+  held-none f honest sb on = no-credits sb (front-sound (bytes_of (size_of_blocks f)) (count_of f) sb (start.content 0) on)
 
   module _ {counts : ℕ → ℕ → Type 0} (credits : ℕ) (old new : FileDisk S start) (kept : Keeps counts old new) where
     -- what was read of a file as it was opened is what it held
@@ -90,7 +90,7 @@ module _ {S : Type 0} {start : Starts S} where
         = subst (λ c. super_on (bytes_of (size_of_blocks old)) (count_of old) c ≡ Ok j.own) (was.holds before) j.was in
         (
           j.is.sb,
-          entry-as (λ s n d. super_on s n d ≡ Ok j.is.sb) _ _ _ _ _ _ (sym kept.same_size) (sym kept.same_count) refl j.is.taken,
+          entry-as (λ s n d. super_on s n d ≡ Ok j.is.sb) _ _ _ _ (content_of new) (content_of new) (sym kept.same_size) (sym kept.same_count) refl j.is.taken,
           same-room credits j.own j.is.sb j.is.same (held before j.own on),
         )
 
@@ -114,7 +114,7 @@ module _ {S : Type 0} {start : Starts S} where
         }
 
     -- the superblock of a file that was opened was not read
-    pub was-unread : (fault : FrontFault) → IsAsOpened size old → Keeps (FrontFaults {T = Superblock} (Err fault)) old new → (IsHonest new → content_of new ≡ content_of old)
+    abbrev pub was-unread : (fault : FrontFault) → IsAsOpened size old → Keeps (FrontFaults {T = Superblock} (Err fault)) old new → (IsHonest new → content_of new ≡ content_of old)
         → (IsHonest new → ReadsSuper (bytes_of (size_of_blocks old)) (count_of old) (content_of old) (Err fault)) → WasRefused start size (front_refusal fault)
     was-unread fault was kept same reads =
         was-refused size old new (front_refusal fault) was (record {
@@ -136,13 +136,20 @@ made-as true size journal most uuid = (refl, refl)
 same-eq : (size n : ℕ) → n ≡ size → (n == size) ≡ true
 same-eq size n is = grind (arith, is)
 
-long-block : (size : BlockSize) → 1024 ≤ length (replicate (bytes_of size) 0)
-long-block OneKib = let h = length-replicate 1024 0 in omega (arith, h)
-long-block TwoKib = let h = length-replicate 2048 0 in omega (arith, h)
-long-block FourKib = let h = length-replicate 4096 0 in omega (arith, h)
+-- a block of zeros
+abbrev zeros : ℕ → List ℕ
+zeros size = replicate size 0
+
+zeros-long : (size : ℕ) → 1024 ≤ size → 1024 ≤ length (zeros size)
+zeros-long size long = let zero : ℕ = 0 in let h = length-replicate size zero in omega (arith, h, long)
+
+long-block : (size : BlockSize) → 1024 ≤ length (zeros (bytes_of size))
+long-block OneKib = zeros-long 1024 (omega arith)
+long-block TwoKib = zeros-long 2048 (omega arith)
+long-block FourKib = zeros-long 4096 (omega arith)
 
 module _ {S : Type 0} {start : Starts S} (g : ImageGeometry) (fits : FitsFields (super_made g)) (sound : IsSound (super_made g)) (f : FileDisk S start) (made : WasMade g f) (honest : IsHonest f) where
-  old : FileDisk S start
+  abbrev old : FileDisk S start
   old = made.0
 
   was : IsHonest old
@@ -156,18 +163,18 @@ module _ {S : Type 0} {start : Starts S} (g : ImageGeometry) (fits : FitsFields 
       let written : content_of f ≡ set (content_of old) 0 (block_made (bytes_of (size_of_blocks old)) g) = made.1.formatted.written honest in
       ap (λ c. super_in (block c 0)) written
       ∙ ap super_in (get_or-set_same (content_of old) 0 (block_made (bytes_of (size_of_blocks old)) g) [] inside ∙ ap (λ size. block_made (bytes_of size) g) made.1.size)
-      ∙ super_in-written (super_made g) fits sound (replicate (bytes_of g.block_size) 0) (long-block g.block_size)
+      ∙ super_in-written (super_made g) fits sound (zeros (bytes_of g.block_size)) (long-block g.block_size)
 
   -- the file has the new superblock
   made-front : 9 ≤ g.journal → super_on (bytes_of (size_of_blocks f)) (count_of f) (content_of f) ≡ Ok (super_made g)
   made-front least =
-      let as = made-as (is_wide g.width) (bytes_of g.block_size) g.journal g.max_transaction g.uuid in
+      let fields = made-as (is_wide g.width) (bytes_of g.block_size) g.journal g.max_transaction g.uuid in
       let size : bytes_of (size_of_blocks f) ≡ bytes_of g.block_size = made.1.formatted.kept.same_size ∙ ap bytes_of made.1.size in
       let count : count_of f ≡ g.journal + g.homes = made.1.formatted.kept.same_count ∙ made.1.count in
-      let maxlen : (super_made g).maxlen ≡ g.journal = as.1 in
+      let maxlen : (super_made g).maxlen ≡ g.journal = fields.1 in
       ap (fitting (bytes_of (size_of_blocks f)) (count_of f)) (front least)
       ∙ fitting-is (bytes_of (size_of_blocks f)) (count_of f) (super_made g) (record {
-        same_size = same-eq _ _ (as.0 ∙ sym size);
+        same_size = same-eq _ _ (fields.0 ∙ sym size);
         enough = le-ltb (count_of f) (super_made g).maxlen (omega (arith, count, maxlen));
       })
 

@@ -102,7 +102,7 @@ module _ {S : Type 0} {start : Starts S} where
         }
 
     -- or whose recovery was refused
-    pub was-refused : (fault : RecoverFault) → IsAsOpened size old → Keeps (PassFaults {T = Recovered} (Err fault)) old new
+    abbrev pub was-refused : (fault : RecoverFault) → IsAsOpened size old → Keeps (PassFaults {T = Recovered} (Err fault)) old new
         → (IsHonest new → Recovers (bytes_of (size_of_blocks old)) (count_of old) (content_of old) (content_of new) (Err fault)) → WasRefused start size fault
     was-refused fault was kept refuses = record {
       file = new;
