@@ -42,9 +42,9 @@ text-more hex at [] bytes = append-nil (block_text hex at bytes)
 text-more hex at (b ∷ blocks) bytes = rw (text-more hex (offset_behind at b) blocks bytes, append_assoc) refl
 
 -- a peek by a window is one of this journal, at this home
-pub peeked-of : {sums asked : Checksums} {size count home at : ℕ} {c : Image} {bytes : List ℕ} → asked ≡ sums → at ≡ home
+pub peeked-of : (size count : ℕ) (c : Image) (bytes : List ℕ) {sums asked : Checksums} {home at : ℕ} → asked ≡ sums → at ≡ home
     → (unpeeked_for asked size count c at ≡ None) × IsPeekedBy asked size count c at bytes → (unpeeked_for sums size count c home ≡ None) × IsPeekedBy sums size count c home bytes
-peeked-of {sums = sums} {size = size} {count = count} {at = at} {c = c} {bytes = bytes} same here told =
+peeked-of size count c bytes {sums = sums} {at = at} same here told =
     subst (λ h. (unpeeked_for sums size count c h ≡ None) × IsPeekedBy sums size count c h bytes) here
     (subst (λ own. (unpeeked_for own size count c at ≡ None) × IsPeekedBy own size count c at bytes) same told)
 

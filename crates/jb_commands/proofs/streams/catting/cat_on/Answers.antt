@@ -17,7 +17,7 @@ returns-in_err-put_block g c =
     record {
       cats = cats-stopped g.D.Disk c.args.shown.sums c.args.shown.home c.args.shown.hex c.args.disk.now disk c.peek.new.disk (g.O.Write.contents c.args.out.now) (g.O.Write.contents c.loop-i.out) c.loop-i.i
           c.loop-i.at c.loop-i.invariant.state c.in-Ok.ensures.passed.kept c.in-Ok.ensures.passed.same c.in-Ok.ensures.passed.idle c.in-Ok.ensures.passed.unsynced (g.met.D.Disk.counts_now c.args.disk.now) c.in-Ok.ensures.passed.kept.counted c.peek.new.bytes
-          (λ honest. peeked-of c.loop-i.invariant.taken c.saturating_add.ensures (c.in-Ok.ensures.peeks honest))
+          (λ honest. peeked-of (g.D.Disk.size disk) (g.D.Disk.count disk) (g.D.Disk.newest disk) c.peek.new.bytes c.loop-i.invariant.taken c.saturating_add.ensures (c.in-Ok.ensures.peeks honest))
           c.args.homes c.args.shown.count (g.O.Write.contents c.put_block.new.out) c.in_err-put_block.field-0.0 c.from_residual.result fails c.in_err-put_block.ensures.memory c.loop-i-test.true c.in_err-put_block.ensures.puts;
     }
 
@@ -27,7 +27,7 @@ loop-i-preserved g c =
     record {
       state = catting-more g.D.Disk c.args.shown.sums c.args.shown.home c.args.shown.hex c.args.disk.now disk c.peek.new.disk (g.O.Write.contents c.args.out.now) (g.O.Write.contents c.loop-i.out) c.loop-i.i
           c.loop-i.at c.loop-i.invariant.state c.in-Ok.ensures.passed.kept c.in-Ok.ensures.passed.same c.in-Ok.ensures.passed.idle c.in-Ok.ensures.passed.unsynced (g.met.D.Disk.counts_now c.args.disk.now) c.in-Ok.ensures.passed.kept.counted c.peek.new.bytes
-          (λ honest. peeked-of c.loop-i.invariant.taken c.saturating_add.ensures (c.in-Ok.ensures.peeks honest))
+          (λ honest. peeked-of (g.D.Disk.size disk) (g.D.Disk.count disk) (g.D.Disk.newest disk) c.peek.new.bytes c.loop-i.invariant.taken c.saturating_add.ensures (c.in-Ok.ensures.peeks honest))
           (g.O.Write.contents c.put_block.new.out) ((c.loop-i.at + length c.peek.new.bytes) % 2 ^ 32) c.in_ok-put_block.ensures.puts refl;
       taken = c.peek.ensures.taken ∙ c.loop-i.invariant.taken;
       knows = c.peek.ensures.knows;
