@@ -2,8 +2,6 @@
 
 use crate::progress::Course;
 use crate::progress::advance::Advance;
-use crate::progress::handle_pass::HandlePass;
-use crate::progress::pass::Pass;
 use itoa::Buffer;
 use jb_text::{put, put_parts};
 use std::fs::File;
@@ -140,44 +138,42 @@ impl<'t> TerminalLine<'t> {
         self.stands = true;
         let course = self.course;
         match course {
-            Course::Log(pass) => self.show_log(pass, now),
+            Course::Log(pass) => {
+                let (words, passes) = (pass.passes.words(), pass.passes.count);
+                self.show_pass(pass.number, words, passes, ", block ", pass.blocks, now)
+            }
             Course::Peeks(peeks) => self.show_things(": block ", peeks.blocks, now),
             Course::Bytes(bytes) => self.show_bytes(bytes, now),
             Course::Handles(handles) => self.show_things(": handle ", handles, now),
-            Course::Checks(pass) => self.show_checks(pass, now),
+            Course::Checks(pass) => {
+                let handles = pass.handles;
+                self.show_pass(pass.number, " of at most ", 2, ", handle ", handles, now)
+            }
         }
     }
 
-    /// Writes it of a pass over a log.
-    fn show_log(&mut self, pass: Pass, now: u64) {
-        let (mut passes, words) = (Buffer::new(), pass.passes.words());
-        let of = [words, passes.format(pass.passes.count), ", block "];
-        self.show_pass(pass.number, of, pass.blocks, now)
-    }
-
-    /// Writes it of a pass over the handles of a queue.
-    fn show_checks(&mut self, pass: HandlePass, now: u64) {
-        self.show_pass(
-            pass.number,
-            [" of at most ", "2", ", handle "],
-            pass.handles,
-            now,
-        )
-    }
-
-    /// Writes it of a pass: its number, and these words between that and how far it has come. A fault of the terminal
-    /// is ignored.
-    fn show_pass(&mut self, number: u64, between: [&str; 3], done: Advance, now: u64) {
-        let (mut which, mut percent, mut left) = (Buffer::new(), Buffer::new(), Buffer::new());
+    /// Writes it of a pass: its number, these words, how many passes there are, what is gone over, and how far it has
+    /// come. A fault of the terminal is ignored.
+    fn show_pass(
+        &mut self,
+        number: u64,
+        words: &'static str,
+        passes: u64,
+        what: &'static str,
+        done: Advance,
+        now: u64,
+    ) {
+        let (mut which, mut all) = (Buffer::new(), Buffer::new());
         let (mut at, mut of) = (Buffer::new(), Buffer::new());
+        let (mut percent, mut left) = (Buffer::new(), Buffer::new());
         let parts = [
             "\r",
             self.what,
             ": pass ",
             which.format(number),
-            between[0],
-            between[1],
-            between[2],
+            words,
+            all.format(passes),
+            what,
             at.format(done.at),
             " of ",
             of.format(done.of),

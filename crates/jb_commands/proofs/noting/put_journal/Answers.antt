@@ -16,5 +16,5 @@ returns g c =
       c.is_wide.ensures,
       c.width.ensures.value,
       c.has_feature-2.ensures,
-      c.has_feature-3.ensures
+      c.has_feature-3.ensures,
     ) at c.put_note.ensures
