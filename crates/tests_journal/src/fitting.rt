@@ -69,9 +69,7 @@ static ROWS: [Row; 12] = [
         17,
         8,
         3,
-        Err(JournalFault::Recover(RecoverFault::Super(
-            SuperFault::BlockSize(1024),
-        ))),
+        Err(JournalFault::Recover(RecoverFault::Super(SuperFault::BlockSize(1024)))),
     ),
     (
         ".",
@@ -94,9 +92,19 @@ fn check_row(rt: &impl FileHost, row: &Row, at: usize) {
     let answer = blocks_of(open_or_create_for(rt, name, geometry, credits));
     check_at(&test, answer == want, "the answer of row", at as u64);
     let is_there = exists(rt, NAME);
-    check_at(&test, is_there == (FIRST <= at), "whether there is an image after row", at as u64);
+    check_at(
+        &test,
+        is_there == (FIRST <= at),
+        "whether there is an image after row",
+        at as u64,
+    );
     let is_left = exists(rt, UNFINISHED);
-    check_at(&test, !is_left, "what is left of a making after row", at as u64);
+    check_at(
+        &test,
+        !is_left,
+        "what is left of a making after row",
+        at as u64,
+    );
 }
 
 /// The same of each row, from no image on.
@@ -140,7 +148,8 @@ fn check_same(rt: &impl FileHost, disk: &mut impl Disk) {
 }
 
 /// What is told of such an image.
-static TEXT: &str = "the journal has room for 6 credits of a handle, and this program asks for 7; make the image anew \
+static TEXT: &str =
+    "the journal has room for 6 credits of a handle, and this program asks for 7; make the image anew \
                      with a longer journal: jb_journal::least_journal says how long";
 
 /// Checks what is told of a fault.
