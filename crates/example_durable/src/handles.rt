@@ -19,9 +19,6 @@ pub const SIZE: BlockSize = BlockSize::FourKib;
 /// How many home blocks there are.
 pub const HOMES: u64 = 1000;
 
-/// The credits of a handle: it changes two home blocks.
-pub const CREDITS: u32 = 2;
-
 /// Workers that change two home blocks by each handle, and wait until it is durable.
 #[derive(Drop)]
 pub struct Durable {
@@ -74,7 +71,7 @@ fn one_handle<'a, D: Disk, C: Clock, R: Wait + time::Clock, H: Origin>(
     ensures { MayWait H.begun client.new }
 {
     let (first, second) = ((draw >> 8) % HOMES, (draw >> 24) % HOMES);
-    let (_, ticket) = client.change(CREDITS, |handle: &mut Handle<()>| -> Result<(), TouchFault> {
+    let (_, ticket) = client.change(2, |handle: &mut Handle<()>| -> Result<(), TouchFault> {
         handle.put(first, word)?;
         handle.put(second, word)
     })?;

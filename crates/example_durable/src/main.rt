@@ -16,7 +16,7 @@ ghost use Rattle.std.specs.Prelude.{◌≤◌};
 mod handles;
 mod times;
 
-use crate::handles::{CREDITS, Durable, HOMES, SIZE};
+use crate::handles::{Durable, HOMES, SIZE};
 use crate::times::{Times, Waited};
 use jb_journal::{
     Delay, Disk, ImageGeometry, JournalFault, MemoryDisk, Options, SystemClock, Width, format,
@@ -33,6 +33,9 @@ use std::time::{Clock, Duration, Instant};
 
 /// How many blocks the journal has.
 const JOURNAL: u32 = 1024;
+
+/// The credits of a handle: it changes two home blocks.
+const CREDITS: u32 = 2;
 
 /// How the handles are made: by this many threads, this many by each at most, and for this many microseconds.
 #[derive(Clone, Copy)]

@@ -87,8 +87,7 @@ module _ {S : Type 0} {start : Starts S} where
         let j = journal honest in
         let before = kept.was_honest honest in
         let on : super_on (bytes_of (size_of_blocks old)) (count_of old) (start.content 0) ≡ Ok j.own
-        = subst (λ c. super_on (bytes_of (size_of_blocks old)) (count_of old) c ≡ Ok j.own) (was.holds before) j.was in
-        (
+        = subst (λ c. super_on (bytes_of (size_of_blocks old)) (count_of old) c ≡ Ok j.own) (was.holds before) j.was in (
           j.is.sb,
           entry-as (λ s n d. super_on s n d ≡ Ok j.is.sb) _ _ _ _ (content_of new) (content_of new) (sym kept.same_size) (sym kept.same_count) refl j.is.taken,
           same-room credits j.own j.is.sb j.is.same (held before j.own on),

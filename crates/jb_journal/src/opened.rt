@@ -23,10 +23,7 @@ use std::alloc::Global;
 /// # Errors
 /// `TooFewCredits` where it has room for fewer; `Device` where a call failed, with the reason; `Recover` where the
 /// superblock is refused, or a call failed for no reason.
-pub(crate) fn check_room<S: Start>(
-    disk: &mut FileDisk<S>,
-    credits: u32,
-) -> Result<(), JournalFault>
+pub(crate) fn check_room<S: Start>(disk: &mut FileDisk<S>, credits: u32) -> Result<(), JournalFault>
     ensures opened { (size : Size) → IsAsOpened size disk.old → OnOk result (IsAsOpened size disk.new) }
     ensures room { (size : Size) → IsAsOpened size disk.old → OnOk result (HeldRoomFor credits disk.new) }
     ensures refused { (size : Size) → IsAsOpened size disk.old → IfErr result (RefusesRoom S.Start size credits) }
@@ -83,10 +80,7 @@ pub(crate) fn recover_opened<S: Start>(
 ///
 /// # Errors
 /// `FewerHomes` where it has fewer; `Device` or `ReadHome` where the last of them was not read.
-pub(crate) fn check_homes<S: Start>(
-    disk: &mut FileDisk<S>,
-    homes: u64,
-) -> Result<(), JournalFault>
+pub(crate) fn check_homes<S: Start>(disk: &mut FileDisk<S>, homes: u64) -> Result<(), JournalFault>
     ensures recovered { (size : Size) → WasRecovered size disk.old → OnOk result (WasRecovered size disk.new) }
     ensures room { (credits : ℕ) → HoldsRoomFor credits disk.old → HoldsRoomFor credits disk.new }
     ensures refused { (size : Size) → WasRecovered size disk.old → IfErr result (RefusesOpening S.Start size) }

@@ -26,17 +26,17 @@ type Row = (
     Result<u64, JournalFault>,
 );
 
-/// That there is room for this many credits, and not for those that were asked for.
-const FEWER: [Result<u64, JournalFault>; 3] = [
-    Err(JournalFault::TooFewCredits { most: 1, asked: 2 }),
-    Err(JournalFault::TooFewCredits { most: 2, asked: 3 }),
-    Err(JournalFault::TooFewCredits { most: 6, asked: 7 }),
-];
+/// There is room for one credit less than was asked for.
+const ONE: Result<u64, JournalFault> = Err(JournalFault::TooFewCredits { most: 1, asked: 2 });
+
+const TWO: Result<u64, JournalFault> = Err(JournalFault::TooFewCredits { most: 2, asked: 3 });
+
+const SIX: Result<u64, JournalFault> = Err(JournalFault::TooFewCredits { most: 6, asked: 7 });
 
 static ROWS: [Row; 12] = [
     // one block less than two credits need: nothing is made, and no making is tried
-    (NAME, BlockSize::OneKib, 16, 16, 2, FEWER[0]),
-    (NOWHERE, BlockSize::OneKib, 16, 16, 2, FEWER[0]),
+    (NAME, BlockSize::OneKib, 16, 16, 2, ONE),
+    (NOWHERE, BlockSize::OneKib, 16, 16, 2, ONE),
     (
         NAME,
         BlockSize::OneKib,
@@ -51,10 +51,10 @@ static ROWS: [Row; 12] = [
     (NAME, BlockSize::OneKib, 16, 16, 2, Ok(33)),
     (NAME, BlockSize::OneKib, 17, 16, 0, Ok(33)),
     // the handles have become larger
-    (NAME, BlockSize::OneKib, 17, 16, 3, FEWER[1]),
-    (NAME, BlockSize::OneKib, 1024, 16, 3, FEWER[1]),
+    (NAME, BlockSize::OneKib, 17, 16, 3, TWO),
+    (NAME, BlockSize::OneKib, 1024, 16, 3, TWO),
     // what is told where more is wrong
-    (NAME, BlockSize::OneKib, 17, 17, 3, FEWER[1]),
+    (NAME, BlockSize::OneKib, 17, 17, 3, TWO),
     (
         NAME,
         BlockSize::OneKib,
@@ -69,9 +69,7 @@ static ROWS: [Row; 12] = [
         17,
         8,
         3,
-        Err(JournalFault::Recover(RecoverFault::Super(
-            SuperFault::BlockSize(1024),
-        ))),
+        Err(JournalFault::Recover(RecoverFault::Super(SuperFault::BlockSize(1024)))),
     ),
     (
         ".",
@@ -94,9 +92,19 @@ fn check_row(rt: &impl FileHost, row: &Row, at: usize) {
     let answer = blocks_of(open_or_create_for(rt, name, geometry, credits));
     check_at(&test, answer == want, "the answer of row", at as u64);
     let is_there = exists(rt, NAME);
-    check_at(&test, is_there == (FIRST <= at), "whether there is an image after row", at as u64);
+    check_at(
+        &test,
+        is_there == (FIRST <= at),
+        "whether there is an image after row",
+        at as u64,
+    );
     let is_left = exists(rt, UNFINISHED);
-    check_at(&test, !is_left, "what is left of a making after row", at as u64);
+    check_at(
+        &test,
+        !is_left,
+        "what is left of a making after row",
+        at as u64,
+    );
 }
 
 /// The same of each row, from no image on.
@@ -140,7 +148,8 @@ fn check_same(rt: &impl FileHost, disk: &mut impl Disk) {
 }
 
 /// What is told of such an image.
-static TEXT: &str = "the journal has room for 6 credits of a handle, and this program asks for 7; make the image anew \
+static TEXT: &str =
+    "the journal has room for 6 credits of a handle, and this program asks for 7; make the image anew \
                      with a longer journal: jb_journal::least_journal says how long";
 
 /// Checks what is told of a fault.
@@ -164,7 +173,7 @@ fn check_pending(rt: &impl FileHost, disk: &mut impl Disk) {
     fresh(rt);
     write_blocks(&test, rt, disk, NAME, 0, 49);
     let answer = blocks_of(opened_for(rt, 7));
-    check(&test, answer == FEWER[2], "one credit more");
+    check(&test, answer == SIX, "one credit more");
     check_text(&test, answer);
     check_same(rt, disk);
     let mut file = opened_for(rt, 6).must(&test, "as many credits as there is room for");
