@@ -1,3 +1,4 @@
+mod BatchEnds
 pub mod RoundCounts
 pub mod SeatStops
 pub mod SettledBatch

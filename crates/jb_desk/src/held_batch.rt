@@ -69,7 +69,12 @@ impl<H: Origin> HeldBatch<H> {
     /// The batch is lost, as its book has failed.
     pub(crate) fn lose(self, failed: &HasAborted) {
         let (batch, witness) = self.end();
-        witness.out.lose(failed);
+        let BatchWitness {
+            tickets: _tickets,
+            prefix: _prefix,
+            out,
+        } = witness;
+        out.lose(failed);
         let _lost = batch.end();
     }
 }

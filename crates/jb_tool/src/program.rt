@@ -109,7 +109,8 @@ fn advise<E: Write>(part: SecondPart, ended: ProgramEnd, err: &mut E)
     }
 }
 
-/// Answers these words, or the reason for which there are none. `at_terminal` is whether standard input is a terminal.
+/// Answers these words, of which the settings are taken off first, or the reason for which there are none.
+/// `at_terminal` is whether standard input is a terminal.
 fn answered<
     R: Files<File = File> + AllocGlobal + Threads + Wait + Clock + Sync,
     S: AsStr,
@@ -137,46 +138,20 @@ fn answered<
     ensures silent { settings.details ≡ Hidden → N.contents notes.new ≡ N.contents notes.old }
 {
     match words {
-        Ok(words) => answered_given(rt, words, settings, at_terminal, input, out, err, notes),
+        Ok(words) => match words_left(rt.alloc(), words) {
+            Ok(left) => answered_words(
+                rt,
+                left.as_slice(),
+                settings,
+                at_terminal,
+                input,
+                out,
+                err,
+                notes,
+            ),
+            Err(_) => out_of_memory(err),
+        },
         Err(kind) => refuse_words(kind, err),
-    }
-}
-
-/// Takes the settings off the words, and runs `jb` with those that are left.
-fn answered_given<
-    R: Files<File = File> + AllocGlobal + Threads + Wait + Clock + Sync,
-    S: AsStr,
-    I: Read,
-    O: Write,
-    E: Write,
-    N: Write,
->(
-    rt: &R,
-    words: &[S],
-    settings: Settings,
-    at_terminal: bool,
-    input: &mut I,
-    out: &mut O,
-    err: &mut E,
-    notes: &mut N,
-) -> ProgramEnd
-    ensures answers { AnswersGiven settings.form (map S.text words.now) at_terminal (I.remaining input.old)
-        (record { out = O.contents out.old; err = E.contents err.old })
-        (record { out = O.contents out.new; err = E.contents err.new }) result }
-    ensures silent { settings.details ≡ Hidden → N.contents notes.new ≡ N.contents notes.old }
-{
-    match words_left(rt.alloc(), words) {
-        Ok(left) => answered_words(
-            rt,
-            left.as_slice(),
-            settings,
-            at_terminal,
-            input,
-            out,
-            err,
-            notes,
-        ),
-        Err(_) => out_of_memory(err),
     }
 }
 

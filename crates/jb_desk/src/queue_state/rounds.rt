@@ -162,8 +162,13 @@ impl<D: Disk, H: Origin> QueueState<D, H> {
             return None;
         };
         let (batch, witness) = held.end();
-        let _lost = witness.out.end();
-        self.register.give_up(history, witness.prefix, batch);
+        let BatchWitness {
+            tickets: _tickets,
+            prefix,
+            out,
+        } = witness;
+        let _lost = out.end();
+        self.register.give_up(history, prefix, batch);
         Some(self.failed())
     }
 
