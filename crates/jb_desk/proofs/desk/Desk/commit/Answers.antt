@@ -14,7 +14,7 @@ use Rattle.jb_desk.proofs.SettledBatch.{whole-past}
 use Rattle.jb_desk.proofs.RoundCounts.{keeps-same}
 use Rattle.jb_desk.proofs.BatchEnds.{Ends, fell, held-as, lost, out-on, same, settled-last, settled-whole}
 use Rattle.jb_desk.proofs.desk.Desk.commit.Given.{Over}
-use Rattle.jb_desk.proofs.desk.Desk.commit.Goals.{After-settled, After-settle_last, After-back, After-hold}
+use Rattle.jb_desk.proofs.desk.Desk.commit.Goals.{After-settled, After-settle_last, After-hold}
 use Rattle.jb_desk.proofs.desk.Desk.commit.Goals as goal
 
 pub commit-result-requires-clause-stops : goal.commit-result-requires-clause-stops
@@ -159,20 +159,18 @@ returns-in-Lost-clause-round g c = tt
 
 -- ---- the batch is held again
 
--- it is the one that was to be committed
-back : (g : Over) (c : After-back g) → c.in-Held.prepared ≡ c.args.prepared
-back g c =
-    let told = CommitsAs c.args.prepared in
-    same c.args.prepared c.in-Err.fault c.in-Held.prepared c.in-Held.fault c.in-Held.ensures (subst told c.in-Err.is c.commit-result.ensures.tells.0)
-
 pub of-requires-in-Held : goal.of-requires-in-Held
-of-requires-in-Held g c = out-on (c.back.ensures ∙ ap (λ (x : Planned). x.batch) (back g c)) c.commit-result.ensures.stops c.requires.out
+of-requires-in-Held g c =
+    let p = c.args.prepared in
+    let it = same p c.in-Err.fault c.in-Held.prepared c.in-Held.fault c.in-Held.ensures (subst (CommitsAs p) c.in-Err.is c.commit-result.ensures.tells.0) in
+    out-on (c.back.ensures ∙ ap (λ (x : Planned). x.batch) it) c.commit-result.ensures.stops c.requires.out
 
 held : (g : Over) (c : After-hold g) → Ends g.D.Disk g.H.Origin.begun c.args.prepared c.hold.new.self.batch (view_of (seat_of c.args.committer.now)) (view_of (seat_of c.hold.new.self)) (Err c.in-Held.fault)
 held g c =
     let p = c.args.prepared in
     let ends = EndsRound g.D.Disk g.H.Origin.begun p in
-    let again = c.hold.ensures.1 ∙ ap (λ (x : Gathered). Some x) (c.of-in-Held.ensures ∙ c.back.ensures ∙ ap (λ (x : Planned). x.batch) (back g c)) in
+    let it = same p c.in-Err.fault c.in-Held.prepared c.in-Held.fault c.in-Held.ensures (subst (CommitsAs p) c.in-Err.is c.commit-result.ensures.tells.0) in
+    let again = c.hold.ensures.1 ∙ ap (λ (x : Gathered). Some x) (c.of-in-Held.ensures ∙ c.back.ensures ∙ ap (λ (x : Planned). x.batch) it) in
     held-as g.D.Disk g.H.Origin.begun p c.hold.new.self.batch _ _ c.requires.out.some again (ap (λ s. view_of s) c.hold.ensures.0) c.in-Err.fault c.in-Held.prepared c.in-Held.fault c.in-Held.ensures (subst ends c.in-Err.is c.commit-result.ensures.round)
 
 pub returns-in-Held-clause-seat : goal.returns-in-Held-clause-seat
