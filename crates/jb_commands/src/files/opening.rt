@@ -29,9 +29,9 @@ use std::{fs, io};
 const FRONT: usize = 1024;
 
 /// The image of this name as a disk, with the number of its home blocks, and its superblock. The home blocks are those
-/// after the journal's, as many as the journal's first bytes say, and of a journal with block numbers of 32 bits 2^32 at
-/// most. The journal is the front of that file, or a file of its own. It has checksums only where these are allowed; they
-/// are not judged here.
+/// after the journal's, as many as the journal's first bytes say, and of a journal with block numbers of 32 bits 2^32
+/// at most. The journal is the front of that file, or a file of its own. It has checksums only where these are allowed;
+/// they are not judged here.
 ///
 /// # Errors
 /// `CommandFault::CannotRead` where a file is of another kind, or cannot be opened or read; `CommandFault::InUse` where
