@@ -1,6 +1,7 @@
 -- What is advised on a line of standard error: what the table says in the row of its hint.
 use denote.Enum.Declared.{tag_of}
-use Rattle.std.specs.Prelude.{ℕ, ℤ, if◌then◌else◌, List, [], ◌∷◌, ◌++◌, codes, decimal, map, slice_index, slice_index_or}
+use Rattle.std.specs.Prelude.{ℕ, ℤ, if◌then◌else◌, List, [], ◌∷◌, ◌++◌, codes, decimal, map, slice_index}
+use Rattle.std.specs.Prelude.{slice_index_or}
 use Rattle.std.specs.Prelude.{take}
 use Rattle.std.specs.Prelude.{Option, None, Some, option_map}
 use Rattle.std.specs.Str.{is_utf8}
@@ -36,8 +37,8 @@ unfoldable pub option_range : OptionName → List ℕ
 option_range option = slice_index_or (map (λ row. row.1.now) OPTIONS.now) (tag_of options.the_type option) []
 
 -- the words of a holder of a file
-abbrev pub words_in : Holder → List ℕ
-words_in holder = take holder.len holder.text
+abbrev pub holder_words : Holder → List ℕ
+holder_words holder = take holder.len holder.text
 
 -- bytes that are a text; else none
 abbrev pub text_or_none : List ℕ → List ℕ
@@ -45,7 +46,7 @@ text_or_none bytes = if is_utf8 bytes then bytes else []
 
 -- what is said of who has a file: its words, where they are a text
 abbrev pub holder_text : Holder → List ℕ
-holder_text holder = text_or_none (words_in holder)
+holder_text holder = text_or_none (holder_words holder)
 
 -- what the system says of a call that it refused, and what is advised on that
 pub record SystemSaid : Type 0 where

@@ -1,5 +1,5 @@
 -- What a run is told beside its command, by words of their own, and the words that are left for the command.
-use Rattle.std.specs.Prelude.{Bool, true, false, ◌||◌, List, [], ◌∷◌, ◌++◌, Option, Some, None, is_none, codes}
+use Rattle.std.specs.Prelude.{◌≡◌, ℕ, Bool, true, false, ◌||◌, List, [], ◌∷◌, ◌++◌, Option, Some, None, is_none, codes}
 use Rattle.std.specs.Prelude.{if◌then◌else◌}
 use Rattle.std.specs.Prelude.{filter, filter_map, fold}
 use Rattle.std.specs.Str.{bytes_eq}
@@ -14,6 +14,7 @@ use Rattle.jb_args.specs.declared.settings.SecondLine.TheVariants as seconds
 use Rattle.jb_args.specs.declared.settings.SecondPart.{SecondPart}
 use Rattle.jb_args.specs.declared.settings.SecondPart.TheVariants as parts
 use Rattle.jb_args.specs.declared.settings.ProgressLine.TheVariants as progresses
+use Rattle.jb_args.specs.declared.settings.Details.{Details}
 use Rattle.jb_args.specs.declared.settings.Details.TheVariants as says
 use Rattle.jb_args.specs.declared.settings.Statuses.TheVariants as counts
 
@@ -53,6 +54,10 @@ first_settings hints finer = record {
   details = says.Hidden;
   statuses = if finer then counts.Finer else counts.Few;
 }
+
+-- nothing is written where no details are asked for
+abbrev pub StaysSilent : Details → Option (List ℕ) → Option (List ℕ) → Type 0
+StaysSilent details old new = details ≡ says.Hidden → new ≡ old
 
 -- the words before a word `--`: those that may be settings
 abbrev pub before_end : List Text → List Text

@@ -12,12 +12,12 @@ pub struct Holder {
 
 impl Holder {
     ghost use Rattle.std.specs.Prelude.{◌≡◌, ◌≤◌, ◌↔◌, IsSome, IfSome, length};
-    ghost use Rattle.jb_args.specs.Advice.{words_in};
+    ghost use Rattle.jb_args.specs.Advice.{holder_words};
 
     /// A holder of these words; `None` where they are more than [`HOLDER_TEXT`] bytes.
     pub fn new(words: &[u8]) -> Option<Holder>
         ensures fits { IsSome result ↔ (length words.now ≤ 255) }
-        ensures words { IfSome result (λ holder. words_in holder ≡ words.now) }
+        ensures words { IfSome result (λ holder. holder_words holder ≡ words.now) }
     {
         if words.len() > HOLDER_TEXT {
             return None;
@@ -32,7 +32,7 @@ impl Holder {
 
     /// Its words.
     pub(crate) fn words(&self) -> &[u8]
-        ensures words { result.now ≡ words_in self.now }
+        ensures words { result.now ≡ holder_words self.now }
         ensures few { length result.now ≤ 255 }
     {
         let len = usize::from(self.len);

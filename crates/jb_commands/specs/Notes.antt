@@ -38,8 +38,8 @@ place_word Inode = codes "inode"
 place_word Backup = codes "backup"
 
 -- whether a superblock has this incompatible feature
-abbrev pub has_feature : Superblock → ℕ → Bool
-has_feature sb feature = not (nat_eq (bit_and sb.incompat feature) 0)
+abbrev pub has_incompat : Superblock → ℕ → Bool
+has_incompat sb feature = not (nat_eq (bit_and sb.incompat feature) 0)
 
 -- what is said of a journal; the features have the kernel's names
 abbrev pub journal_facts : JournalNote → List Fact
@@ -47,9 +47,9 @@ journal_facts note =
     Named (codes "journal") (Some (place_word note.place)) ∷ Counted (codes "bs") (bytes_of note.size)
     ∷ Counted (codes "blocks") note.sb.maxlen ∷ Counted (codes "homes") note.homes
     ∷ Counted (codes "skipped") note.skipped ∷ Counted (codes "sequence") note.sb.sequence
-    ∷ Counted (codes "start") note.sb.start ∷ Marked (codes "revoke") (has_feature note.sb 1)
-    ∷ Marked (codes "64bit") (has_feature note.sb 2) ∷ Marked (codes "csum_v2") (has_feature note.sb 8)
-    ∷ Marked (codes "csum_v3") (has_feature note.sb 16) ∷ []
+    ∷ Counted (codes "start") note.sb.start ∷ Marked (codes "revoke") (has_incompat note.sb 1)
+    ∷ Marked (codes "64bit") (has_incompat note.sb 2) ∷ Marked (codes "csum_v2") (has_incompat note.sb 8)
+    ∷ Marked (codes "csum_v3") (has_incompat note.sb 16) ∷ []
 
 -- what is said of a queue text
 abbrev pub queue_facts : QueueNote → List Fact
@@ -58,8 +58,8 @@ queue_facts note =
     ∷ Counted (codes "limit") note.limit ∷ Marked (codes "64bit") (is_wide note.width) ∷ []
 
 -- what is said of the queue that a text gives
-abbrev pub noted : Queue → QueueNote
-noted queue = record {
+abbrev pub queue_noted : Queue → QueueNote
+queue_noted queue = record {
   handles = length queue.handles;
   size = queue.size;
   width = queue.width;

@@ -1,6 +1,7 @@
 //! The commands over files: each opens its files, and reads, makes or changes them.
 
 mod changes;
+mod dump_asked;
 mod dump_form;
 mod found;
 mod holders;

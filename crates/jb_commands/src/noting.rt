@@ -3,8 +3,9 @@
 ghost use Rattle.std.specs.Prelude.{◌≡◌, codes, option_map};
 ghost use Rattle.jb_text.specs.Puts.{Puts, PutsPart};
 ghost use Rattle.jb_json.specs.Facts.{facts_of};
-ghost use Rattle.jb_args.specs.declared.settings.Details.TheVariants.{Hidden, Shown};
-ghost use Rattle.jb_commands.specs.Notes.{has_feature as is_feature, journal_facts, note_in, place_of as placed};
+ghost use Rattle.jb_args.specs.Settings.{StaysSilent};
+ghost use Rattle.jb_args.specs.declared.settings.Details.TheVariants.{Shown};
+ghost use Rattle.jb_commands.specs.Notes.{has_incompat as is_feature, journal_facts, note_in, place_of as placed};
 ghost use Rattle.jb_commands.specs.Notes.{place_word, queue_facts};
 ghost use Rattle.jb_block.specs.Width.{is_wide as is_width_wide};
 ghost use Rattle.jb_args.specs.declared.settings.AnswerForm.TheVariants.{Text};
@@ -13,6 +14,7 @@ use jb_args::{AnswerForm, Details, Settings};
 use jb_block::{BlockSize, Width};
 use jb_ext::MapSource;
 use jb_json::{Field, put_json, put_report};
+use jb_queue::{QueueLines, QueueText};
 use jb_super::{INCOMPAT_REVOKE, Super};
 use jb_text::{WriteFault, put_parts};
 use std::io::Write;
@@ -65,6 +67,37 @@ pub struct QueueNote {
     pub limit: u32,
 }
 
+impl QueueNote {
+    ghost use Rattle.std.specs.Prelude.{◌≡◌};
+    ghost use Rattle.jb_commands.specs.Notes.{queue_noted};
+    ghost use Rattle.jb_queue.specs.QueueLines.{queue_in};
+    ghost use Rattle.jb_queue.specs.QueueText.{value_of};
+
+    /// What is said of a queue text whose handles were all read.
+    pub fn of_text(queue: &QueueText) -> QueueNote
+        ensures { result ≡ queue_noted (value_of queue.now) }
+    {
+        QueueNote {
+            handles: queue.handles.as_slice().len() as u64,
+            size: queue.bs,
+            width: queue.width,
+            limit: queue.limit,
+        }
+    }
+
+    /// The same of one whose handles are read one after the other.
+    pub fn of_lines(queue: &QueueLines) -> QueueNote
+        ensures { result ≡ queue_noted (queue_in queue.now) }
+    {
+        QueueNote {
+            handles: queue.len() as u64,
+            size: queue.bs,
+            width: queue.width,
+            limit: queue.limit,
+        }
+    }
+}
+
 /// Where a journal is: in the file of the one name, in the list of the other word, or where this says.
 pub(crate) fn place_of(
     journal: Option<&str>,
@@ -105,7 +138,7 @@ fn has_feature(sb: &Super, feature: u32) -> bool
 
 /// Says what is known of a journal, where details are asked for. A fault of the writer is ignored.
 pub fn note_journal<W: Write>(settings: Settings, note: JournalNote, writer: &mut W)
-    ensures silent { settings.details ≡ Hidden → W.contents writer.new ≡ W.contents writer.old }
+    ensures silent { StaysSilent settings.details (W.contents writer.old) (W.contents writer.new) }
     /// What `-v` says of a journal: where it is and by what that is known, its block size, its features and how many
     /// blocks are skipped; in JSON the same facts.
     ensures told { settings.details ≡ Shown → PutsPart (W.contents writer.old) (W.contents writer.new)
@@ -150,7 +183,7 @@ fn put_journal<W: Write>(
 
 /// Says what is known of a queue text, where details are asked for. A fault of the writer is ignored.
 pub fn note_queue<W: Write>(settings: Settings, note: QueueNote, writer: &mut W)
-    ensures silent { settings.details ≡ Hidden → W.contents writer.new ≡ W.contents writer.old }
+    ensures silent { StaysSilent settings.details (W.contents writer.old) (W.contents writer.new) }
     /// What `-v` says of a queue text: its handles, block size and limit; in JSON the same facts.
     ensures told { settings.details ≡ Shown → PutsPart (W.contents writer.old) (W.contents writer.new)
         (note_in settings.form (codes "queue") (queue_facts note)) }

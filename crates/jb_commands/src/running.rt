@@ -1,12 +1,11 @@
 ghost use Rattle.std.specs.Prelude.{◌≡◌, ◌<◌, ◌^◌, ℕ, List, Option, Some, codes, false, length};
 ghost use Rattle.std.specs.Str.{bytes_eq};
 ghost use Rattle.jb_args.specs.PlainCommand.{asks};
-ghost use Rattle.jb_args.specs.declared.settings.Details.TheVariants.{Hidden};
+ghost use Rattle.jb_args.specs.Settings.{StaysSilent};
 ghost use Rattle.jb_handle.specs.Size.{IsWithinSize};
 ghost use Rattle.jb_queue.specs.QueueText.{value_of};
 ghost use Rattle.jb_commands.specs.Check.{CheckSays, SaysCheck};
 ghost use Rattle.jb_commands.specs.Cost.{cost_said};
-ghost use Rattle.jb_commands.specs.Notes.{noted};
 ghost use Rattle.jb_commands.specs.Plan.{PlanSays};
 ghost use Rattle.jb_commands.specs.Lines.{names_said};
 ghost use Rattle.jb_commands.specs.Runs.{Closes, EndsAsSaid, EndsAsked, EndsOfClaim, EndsOfTwo, Runs, TellsFault};
@@ -62,7 +61,7 @@ pub fn perform<
     /// Standard input stays as it is where it is not the text of the command.
     ensures unread { reads_input (asks plain.entry) ≡ false → input.new ≡ input.old }
     /// Where no details are asked for, nothing is said of what was found.
-    ensures silent { settings.details ≡ Hidden → N.contents notes.new ≡ N.contents notes.old }
+    ensures silent { StaysSilent settings.details (N.contents notes.old) (N.contents notes.new) }
 {
     let form = settings.form;
     match plain {
@@ -141,7 +140,7 @@ fn perform_check<'a, R: Files<File = File> + AllocGlobal + Clock, O: Write, E: W
     ensures ends { EndsOfTwo (CheckSays settings.form) file.entry.now cert.entry.now
         (record { out = O.contents out.old; err = E.contents err.old })
         (record { out = O.contents out.new; err = E.contents err.new }) result }
-    ensures silent { settings.details ≡ Hidden → N.contents notes.new ≡ N.contents notes.old }
+    ensures silent { StaysSilent settings.details (N.contents notes.old) (N.contents notes.new) }
 {
     match read_file(rt, file) {
         Ok(text) => check_texts(rt, text.as_slice(), cert, settings, out, err, notes),
@@ -163,26 +162,14 @@ fn check_texts<'a, R: Files<File = File> + AllocGlobal + Clock, O: Write, E: Wri
     ensures ends { EndsOfClaim (CheckSays settings.form text.now) cert.entry.now
         (record { out = O.contents out.old; err = E.contents err.old })
         (record { out = O.contents out.new; err = E.contents err.new }) result }
-    ensures silent { settings.details ≡ Hidden → N.contents notes.new ≡ N.contents notes.old }
+    ensures silent { StaysSilent settings.details (N.contents notes.old) (N.contents notes.new) }
 {
     match read_queue(rt.alloc(), text) {
         Ok(queue) => {
-            note_queue(settings, note_of(&queue), notes);
+            note_queue(settings, QueueNote::of_text(&queue), notes);
             check_file(rt, &queue, cert, settings, out, err)
         }
         Err(fault) => told(fault_answer(rt.alloc(), settings.form, fault), out, err),
-    }
-}
-
-/// What is said of a queue text.
-fn note_of(queue: &QueueText) -> QueueNote
-    ensures { result ≡ noted (value_of queue.now) }
-{
-    QueueNote {
-        handles: queue.handles.as_slice().len() as u64,
-        size: queue.bs,
-        width: queue.width,
-        limit: queue.limit,
     }
 }
 
@@ -238,7 +225,7 @@ pub fn run_plain<
         (record { out = O.contents out.new; err = E.contents err.new }) result }
     ensures unread { reads_input (asks plain.entry) ≡ false → input.new ≡ input.old }
     /// Where no details are asked for, nothing is said of what was found.
-    ensures silent { settings.details ≡ Hidden → N.contents notes.new ≡ N.contents notes.old }
+    ensures silent { StaysSilent settings.details (N.contents notes.old) (N.contents notes.new) }
 {
     let done = perform::<Unknown, Unknown, R, I, O, E, N>(
         rt, plain, settings, input, out, err, notes,

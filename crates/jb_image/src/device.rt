@@ -2,8 +2,8 @@
 ghost use Rattle.std.specs.Prelude.{◌≡◌};
 ghost use Rattle.jb_image.specs.Mounts.{numbers_of_device};
 
-/// The major and the minor number of a device, of the one number that `stat` gives for both (`st_dev`, `st_rdev`; glibc's
-/// `sys/sysmacros.h`).
+/// The major and the minor number of a device, of the one number that `stat` gives for both (`st_dev`, `st_rdev`;
+/// glibc's `sys/sysmacros.h`).
 pub fn device_numbers(device: u64) -> (u64, u64)
     ensures { result ≡ numbers_of_device device }
 {

@@ -70,8 +70,8 @@ pub fn create_holding<S: Start, R: Files<File = File> + AllocGlobal>(
     create_watched(rt, name, geometry, &mut Unwatched)
 }
 
-/// The same, whose watch is told how many bytes were written, where the image is to have its room; they are as many as it
-/// has.
+/// The same, whose watch is told how many bytes were written, where the image is to have its room; they are as many as
+/// it has.
 ///
 /// # Errors
 /// As those of [`create_image`].

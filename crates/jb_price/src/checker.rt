@@ -32,12 +32,8 @@ pub fn check(
 ) -> Result<Verdict, Memory>
     requires size { IsWithinSize handles.now }
     requires number { length cert.now.prices.items ≡ length handles.now + 1 }
-    /// The checker names the first of six faults that a certificate has, or accepts it where it has none.
     ensures verdict { IfOk result (λ verdict. Says (piece_cost geometry handles.now) limit (length handles.now)
         cert.now.prices.items cert.now.answer verdict) }
-    /// The cut and the total of a certificate that the checker accepts are right, whoever made it: no cut within the
-    /// limit takes fewer blocks, or no cut is within it, where the certificate says so ([example:
-    /// `is_right`](crates/proof_clients/src/examples/cuts.rt)). Edit: `tests_the_sum_and_the_limit_only`.
     ensures accepted { IfOk result (λ verdict. verdict ≡ Verdict.Accepted
         → IsRight (piece_cost geometry handles.now) limit (length handles.now) cert.now.answer) }
     ensures hold { IfOk result (λ verdict. verdict ≡ Verdict.Accepted
@@ -64,8 +60,12 @@ pub fn check_watched<W: Watch>(
 ) -> Result<Verdict, Memory>
     requires size { IsWithinSize handles.now }
     requires number { length cert.now.prices.items ≡ length handles.now + 1 }
+    /// The checker names the first of six faults that a certificate has, or accepts it where it has none.
     ensures verdict { IfOk result (λ verdict. Says (piece_cost geometry handles.now) limit (length handles.now)
         cert.now.prices.items cert.now.answer verdict) }
+    /// The cut and the total of a certificate that the checker accepts are right, whoever made it: no cut within the
+    /// limit takes fewer blocks, or no cut is within it, where the certificate says so ([example:
+    /// `is_right`](crates/proof_clients/src/examples/cuts.rt)). Edit: `tests_the_sum_and_the_limit_only`.
     ensures accepted { IfOk result (λ verdict. verdict ≡ Verdict.Accepted
         → IsRight (piece_cost geometry handles.now) limit (length handles.now) cert.now.answer) }
     ensures hold { IfOk result (λ verdict. verdict ≡ Verdict.Accepted

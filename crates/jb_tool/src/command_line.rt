@@ -3,7 +3,7 @@ ghost use Rattle.jb_args.specs.Faults.{fault_kinds, kind_of};
 ghost use Rattle.jb_args.specs.PlainCommand.Asked.{AsksCost};
 ghost use Rattle.jb_args.specs.Command.{wanted_in};
 ghost use Rattle.jb_args.specs.declared.settings.AnswerForm.TheVariants.{Text};
-ghost use Rattle.jb_args.specs.declared.settings.Details.TheVariants.{Hidden};
+ghost use Rattle.jb_args.specs.Settings.{StaysSilent};
 ghost use Rattle.jb_text.specs.Puts.{PutsPart};
 ghost use Rattle.jb_commands.specs.Ends.{of_fault, with_status};
 ghost use Rattle.jb_commands.specs.Runs.{Closes, Runs};
@@ -67,7 +67,7 @@ pub fn run<
     ensures unread { words.now ≢ [] → IfSome (wanted_in (map S.text words.now)) (λ wanted. wants_input wanted ≡ false)
         → input.new ≡ input.old }
     /// Where no details are asked for, nothing is said of what was found.
-    ensures silent { settings.details ≡ Hidden → N.contents notes.new ≡ N.contents notes.old }
+    ensures silent { StaysSilent settings.details (N.contents notes.old) (N.contents notes.new) }
 {
     if words.is_empty() {
         return run_plain(

@@ -3,8 +3,7 @@ ghost use Rattle.std.specs.Prelude.{◌≡◌, ◌≤◌, false, option_map};
 ghost use Rattle.jb_commands.specs.ListText.{reads_list};
 ghost use Rattle.jb_queue.specs.QueueLines.{queue_in};
 ghost use Rattle.jb_args.specs.Command.{load_said};
-ghost use Rattle.jb_args.specs.declared.settings.Details.TheVariants.{Hidden};
-ghost use Rattle.jb_commands.specs.Notes.{noted};
+ghost use Rattle.jb_args.specs.Settings.{StaysSilent};
 ghost use Rattle.jb_tool.specs.Load.{EndsOfLoad, JudgesLoad, LoadsApart, LoadsOpened, LoadsQueue, LoadsText, RunsLoad};
 
 use crate::load_options::load_options;
@@ -50,7 +49,7 @@ pub(crate) fn run_load<
         (record { out = O.contents out.old; err = E.contents err.old })
         (record { out = O.contents out.new; err = E.contents err.new }) result }
     ensures unread { reads_list (load_said load.entry).extents ≡ false → input.new ≡ input.old }
-    ensures silent { settings.details ≡ Hidden → N.contents notes.new ≡ N.contents notes.old }
+    ensures silent { StaysSilent settings.details (N.contents notes.old) (N.contents notes.new) }
 {
     let done = load_files::<Unknown, Unknown, R, I, N>(rt, load, settings, input, notes);
     let told = done.tell(settings.form, out, err);
@@ -86,7 +85,7 @@ pub fn load_files<
     /// what the image holds once its journal was opened. [But see](docs/WRONG_BODIES.md#loads).
     ensures ends { EndsOfLoad settings.form (load_said load.entry) (I.remaining input.old) result.image result.end }
     ensures unread { reads_list (load_said load.entry).extents ≡ false → input.new ≡ input.old }
-    ensures silent { settings.details ≡ Hidden → N.contents notes.new ≡ N.contents notes.old }
+    ensures silent { StaysSilent settings.details (N.contents notes.old) (N.contents notes.new) }
 {
     let terminal = error_terminal(rt, settings.progress);
     let Some(options) = load_options(load, terminal.as_ref()) else {
@@ -144,7 +143,7 @@ fn load_opened<
 ) -> LoadDone<'a, S, T>
     requires threads { (1 ≤ options.threads) × (options.threads ≤ 64) }
     ensures loads { LoadsOpened settings.form (load_said load.entry) options homes disk result.image result.end }
-    ensures silent { settings.details ≡ Hidden → N.contents notes.new ≡ N.contents notes.old }
+    ensures silent { StaysSilent settings.details (N.contents notes.old) (N.contents notes.new) }
 {
     let within = disk.is_within();
     match judge_load(&mut disk, load.journal, within) {
@@ -197,7 +196,7 @@ fn load_text<
 ) -> LoadDone<'a, S, T>
     requires threads { (1 ≤ options.threads) × (options.threads ≤ 64) }
     ensures loads { LoadsText settings.form (load_said load.entry).file options homes disk result.image result.end }
-    ensures silent { settings.details ≡ Hidden → N.contents notes.new ≡ N.contents notes.old }
+    ensures silent { StaysSilent settings.details (N.contents notes.old) (N.contents notes.new) }
 {
     let text = match read_file(rt, load.file) {
         Ok(text) => text,
@@ -210,7 +209,7 @@ fn load_text<
     };
     match read_lines(rt.alloc(), text) {
         Ok(queue) => {
-            note_queue(settings, note_of(&queue), notes);
+            note_queue(settings, QueueNote::of_lines(&queue), notes);
             load_apart(rt, disk, homes, load.stamp, &queue, options)
         }
         Err(fault) => match fault_answer(rt.alloc(), settings.form, fault) {
@@ -223,18 +222,6 @@ fn load_text<
                 end: Err(CommandFault::Memory),
             },
         },
-    }
-}
-
-/// What is said of a queue text.
-fn note_of(queue: &QueueLines) -> QueueNote
-    ensures { result ≡ noted (queue_in queue.now) }
-{
-    QueueNote {
-        handles: queue.len() as u64,
-        size: queue.bs,
-        width: queue.width,
-        limit: queue.limit,
     }
 }
 

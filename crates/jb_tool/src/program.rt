@@ -1,7 +1,6 @@
 //! The whole program over its words and its three streams, whatever they are.
 ghost use Rattle.std.specs.Prelude.{◌≡◌, MatchResult, None, map, true};
-ghost use Rattle.jb_args.specs.Settings.{second_part};
-ghost use Rattle.jb_args.specs.declared.settings.Details.TheVariants.{Hidden};
+ghost use Rattle.jb_args.specs.Settings.{StaysSilent, second_part};
 ghost use Rattle.jb_text.specs.Puts.{PutsPart};
 ghost use Rattle.jb_commands.specs.Ends.{exit_status, of_fault};
 ghost use Rattle.jb_commands.specs.Faults.{line_of};
@@ -64,8 +63,8 @@ pub fn run_program<
         (record { out = O.contents out.new; err = E.contents err.new }) result }
     /// Where neither the words nor what is given ask for details, nothing is said of what was found; so it is after
     /// `-q`, unless `-v` comes after that.
-    ensures silent { (settings_given (λ w. map S.text w.now) given words.entry).details ≡ Hidden
-        → N.contents notes.new ≡ N.contents notes.old }
+    ensures silent { StaysSilent (settings_given (λ w. map S.text w.now) given words.entry).details
+        (N.contents notes.old) (N.contents notes.new) }
 {
     let settings = settings_of(given, words);
     let ended = answered(rt, words, settings, terminals.input, input, out, err, notes);
@@ -135,7 +134,7 @@ fn answered<
         (λ kind. RefusesKind kind
         (record { out = O.contents out.old; err = E.contents err.old })
         (record { out = O.contents out.new; err = E.contents err.new }) result) }
-    ensures silent { settings.details ≡ Hidden → N.contents notes.new ≡ N.contents notes.old }
+    ensures silent { StaysSilent settings.details (N.contents notes.old) (N.contents notes.new) }
 {
     match words {
         Ok(words) => match words_left(rt.alloc(), words) {
@@ -175,7 +174,7 @@ fn answered_words<
     ensures answers { AnswersWords settings.form (map (λ word. word.now) words.now) at_terminal (I.remaining input.old)
         (record { out = O.contents out.old; err = E.contents err.old })
         (record { out = O.contents out.new; err = E.contents err.new }) result }
-    ensures silent { settings.details ≡ Hidden → N.contents notes.new ≡ N.contents notes.old }
+    ensures silent { StaysSilent settings.details (N.contents notes.old) (N.contents notes.new) }
 {
     if at_terminal && words.is_empty() {
         return help(rt.alloc(), err);

@@ -25,3 +25,4 @@ mod short;
 mod texts;
 #[cfg(test)]
 mod verdicts;
+mod watched;

@@ -3,8 +3,9 @@ ghost use Rattle.std.specs.Prelude.{◌≡◌, length};
 ghost use Rattle.jb_handle.specs.Size.{IsWithinSize};
 
 use crate::costs::one_handle;
-use crate::plans::{verdict_of, verdict_on};
+use crate::plans::verdict_on;
 use crate::texts::{ALONE, FOUR_HANDLES, FREEING, GROWING, MIDDLE, Told, check_said, queue_of};
+use crate::watched::verdict_of;
 use jb_price::{Cert, CertAnswer, Reason, Verdict};
 use jb_queue::QueueText;
 use std::alloc::Global;

@@ -6,7 +6,7 @@ ghost use Rattle.jb_image.specs.Files.{as_disks};
 ghost use Rattle.jb_image.specs.Images.{is_within};
 ghost use Rattle.jb_image.specs.declared.judging.JournalUse.TheVariants.{RecoverInPlace};
 ghost use Rattle.jb_super.specs.declared.checked.Checksums.TheVariants.{Refused};
-ghost use Rattle.jb_args.specs.declared.settings.Details.TheVariants.{Hidden};
+ghost use Rattle.jb_args.specs.Settings.{StaysSilent};
 ghost use Rattle.jb_commands.specs.ChangePlace.{ChangesOpened, EndsOfChange};
 ghost use Rattle.jb_commands.specs.JournalPlace.{JudgesBeside};
 ghost use Rattle.jb_commands.specs.ListText.{reads_list};
@@ -56,7 +56,7 @@ pub fn renumber_file<
     ensures ends { EndsOfChange Renumbers IsRenumbering RenumbersAs ReportsRenumbered image.entry.now
         (option_map (λ word. word.now) extents.entry) (I.remaining input.old) result.image result.end }
     ensures unread { reads_list (option_map (λ word. word.now) extents.entry) ≡ false → input.new ≡ input.old }
-    ensures silent { settings.details ≡ Hidden → N.contents notes.new ≡ N.contents notes.old }
+    ensures silent { StaysSilent settings.details (N.contents notes.old) (N.contents notes.new) }
 {
     match open_placed(
         rt,
@@ -99,7 +99,7 @@ pub fn widen_file<'a, S: Start, T: Start, R: Files<File = File> + AllocGlobal, I
     ensures ends { EndsOfChange Widens IsWidened WidensAs ReportsWidened image.entry.now
         (option_map (λ word. word.now) extents.entry) (I.remaining input.old) result.image result.end }
     ensures unread { reads_list (option_map (λ word. word.now) extents.entry) ≡ false → input.new ≡ input.old }
-    ensures silent { settings.details ≡ Hidden → N.contents notes.new ≡ N.contents notes.old }
+    ensures silent { StaysSilent settings.details (N.contents notes.old) (N.contents notes.new) }
 {
     match open_placed(
         rt,

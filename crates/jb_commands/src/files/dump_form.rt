@@ -1,7 +1,7 @@
 //! `jb dump` in either form.
 ghost use Rattle.std.specs.Prelude.{◌≡◌, false};
 ghost use Rattle.jb_args.specs.PlainCommand.{dump_said};
-ghost use Rattle.jb_args.specs.declared.settings.Details.TheVariants.{Hidden};
+ghost use Rattle.jb_args.specs.Settings.{StaysSilent};
 ghost use Rattle.jb_commands.specs.Dump.{reads_dump};
 ghost use Rattle.jb_commands.specs.DumpForm.{EndsOfDumpIn, TellsEntries, in_memory as ends_in_memory};
 
@@ -37,10 +37,10 @@ pub(crate) fn dump_in<
     out: &mut O,
     notes: &mut N,
 ) -> Result<u8, CommandFault<'a>>
-    ensures ends { EndsOfDumpIn S.Start T.Start settings.form (dump_said options.entry) name.entry.now (I.remaining input.old)
-        (O.contents out.old) (O.contents out.new) result }
+    ensures ends { EndsOfDumpIn S.Start T.Start settings.form (dump_said options.entry) name.entry.now
+        (I.remaining input.old) (O.contents out.old) (O.contents out.new) result }
     ensures unread { reads_dump name.entry.now (dump_said options.entry) ≡ false → input.new ≡ input.old }
-    ensures silent { settings.details ≡ Hidden → N.contents notes.new ≡ N.contents notes.old }
+    ensures silent { StaysSilent settings.details (N.contents notes.old) (N.contents notes.new) }
 {
     match settings.form {
         AnswerForm::Text => dump_named::<S, T, R, I, O, N>(

@@ -1,7 +1,7 @@
 //! Who has a file that is in use, in words, where the system says it.
 ghost use Rattle.std.specs.Prelude.{◌≡◌, ◌++◌, IfSome, map};
 ghost use Rattle.jb_text.specs.TextParts.{spelled};
-ghost use Rattle.jb_args.specs.Advice.{words_in};
+ghost use Rattle.jb_args.specs.Advice.{holder_words};
 ghost use Rattle.jb_commands.specs.Lines.{shown_name};
 
 use crate::files::holders::{locking_process, mount_point};
@@ -31,7 +31,7 @@ pub(crate) fn locker_of<R: Files<File = File> + AllocGlobal>(rt: &R, name: &str)
 /// A holder of these words, this name as it is shown, and these words behind it; `None` where they are too long, or the
 /// name is no text.
 fn words_of(words: &[&str], name: &[u8], behind: &str) -> Option<Holder>
-    ensures { IfSome result (λ holder. words_in holder
+    ensures { IfSome result (λ holder. holder_words holder
         ≡ spelled (map (λ word. word.now) words.now) ++ (shown_name name.now ++ behind.now)) }
 {
     let line = shown_between(words, name, behind)?;

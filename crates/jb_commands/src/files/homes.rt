@@ -1,7 +1,7 @@
 //! Home blocks of images, as recovery would leave them.
 ghost use Rattle.std.specs.Prelude.{◌≡◌, false};
 ghost use Rattle.jb_args.specs.PlainCommand.{cat_said};
-ghost use Rattle.jb_args.specs.declared.settings.Details.TheVariants.{Hidden};
+ghost use Rattle.jb_args.specs.Settings.{StaysSilent};
 ghost use Rattle.jb_image.specs.Files.{as_disks};
 ghost use Rattle.jb_commands.specs.JournalPlace.{EndsOfCat, ShowsAsked};
 ghost use Rattle.jb_commands.specs.ListText.{reads_list};
@@ -54,7 +54,7 @@ pub fn cat_file<
     ensures ends { EndsOfCat image.entry.now (cat_said options.entry) (I.remaining input.old) (O.contents out.old)
         (O.contents out.new) result.image result.end }
     ensures unread { reads_list (cat_said options.entry).extents ≡ false → input.new ≡ input.old }
-    ensures silent { settings.details ≡ Hidden → N.contents notes.new ≡ N.contents notes.old }
+    ensures silent { StaysSilent settings.details (N.contents notes.old) (N.contents notes.new) }
 {
     match open_placed(
         rt,

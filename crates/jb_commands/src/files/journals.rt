@@ -1,20 +1,19 @@
 //! Journals whose text is written.
-ghost use Rattle.std.specs.Prelude.{◌≡◌, ◌&&◌, IfOk, None, Some, codes, false, not, option_map, true};
+ghost use Rattle.std.specs.Prelude.{◌≡◌, IfOk, None, Some, false, true};
 ghost use Rattle.jb_args.specs.PlainCommand.{dump_said};
-ghost use Rattle.jb_args.specs.declared.settings.Details.TheVariants.{Hidden};
+ghost use Rattle.jb_args.specs.Settings.{StaysSilent};
 ghost use Rattle.jb_ext.specs.declared.system.FileSystem.{FileSystem};
-ghost use Rattle.jb_commands.specs.Dump.{choice_of, is_given as is_told, is_placed as is_said};
-ghost use Rattle.jb_commands.specs.Dump.{is_unbegun as begins_not, reads_dump};
-ghost use Rattle.jb_commands.specs.DumpPlace.{DumpsChosen, DumpsFile, DumpsNamed, DumpsOpen, DumpsPlaced, sums_sought};
+ghost use Rattle.jb_commands.specs.Dump.{choice_of, is_unbegun as begins_not, reads_dump};
+ghost use Rattle.jb_commands.specs.DumpPlace.{DumpsChosen, DumpsFile, DumpsNamed, DumpsOpen, DumpsPlaced};
 ghost use Rattle.jb_commands.specs.FoundWithin.{IsReadOf};
 ghost use Rattle.jb_commands.specs.ListText.{reads_list};
 
 use crate::fault::CommandFault;
+use crate::files::dump_asked::{is_bare, is_placed, sought};
 use crate::files::found::system_of;
-use crate::files::noted::{note_front, note_opened};
+use crate::files::noted::{len_of, note_front, note_opened};
 use crate::files::opening::Opening;
 use crate::files::placed::open_placed;
-use crate::files::recovered::checksums_of;
 use crate::files::searching::dump_opened;
 use crate::files::shut::FileFault;
 use crate::files::texts::unopened;
@@ -24,7 +23,7 @@ use jb_args::{DumpOptions, OptionName, Settings};
 use jb_block::Memory;
 use jb_disk::{Disk, Start};
 use jb_dump::DumpFilter;
-use jb_super::{Checksums, SuperFault};
+use jb_super::SuperFault;
 use std::alloc::Global;
 use std::fs::File;
 use std::io::{Read, Seek, Write};
@@ -59,7 +58,7 @@ pub(crate) fn dump_named<
     ensures ends { DumpsNamed S.Start T.Start (dump_said options.entry) name.entry.now (I.remaining input.old)
         (I.remaining input.new) (O.contents out.old) (O.contents out.new) result }
     ensures unread { reads_dump name.entry.now (dump_said options.entry) ≡ false → input.new ≡ input.old }
-    ensures silent { settings.details ≡ Hidden → N.contents notes.new ≡ N.contents notes.old }
+    ensures silent { StaysSilent settings.details (N.contents notes.old) (N.contents notes.new) }
 {
     if is_bare(options) {
         return Err(CommandFault::BadOption(OptionName::Ring));
@@ -91,7 +90,7 @@ fn dump_chosen<
     ensures ends { DumpsChosen S.Start T.Start (dump_said options.entry) name.entry.now (I.remaining input.old)
         (I.remaining input.new) (O.contents out.old) (O.contents out.new) result }
     ensures unread { reads_dump name.entry.now (dump_said options.entry) ≡ false → input.new ≡ input.old }
-    ensures silent { settings.details ≡ Hidden → N.contents notes.new ≡ N.contents notes.old }
+    ensures silent { StaysSilent settings.details (N.contents notes.old) (N.contents notes.new) }
 {
     if is_placed(options) {
         dump_placed::<S, T, R, I, O, N>(rt, name, options, settings, input, out, notes)
@@ -128,7 +127,7 @@ fn dump_file<
     ensures ends { DumpsFile S.Start T.Start (dump_said options.entry) name.entry.now (I.remaining input.old)
         (O.contents out.old) (O.contents out.new) result }
     ensures unread { reads_list (dump_said options.entry).extents ≡ false → input.new ≡ input.old }
-    ensures silent { settings.details ≡ Hidden → N.contents notes.new ≡ N.contents notes.old }
+    ensures silent { StaysSilent settings.details (N.contents notes.old) (N.contents notes.new) }
 {
     match File::open(rt, name) {
         Ok(file) => dump_open::<S, T, R, I, O, N>(
@@ -164,28 +163,19 @@ fn dump_open<
     ensures ends { DumpsOpen S.Start T.Start (dump_said options.entry) name.entry.now (I.remaining input.old)
         (O.contents out.old) (O.contents out.new) result }
     ensures unread { reads_list (dump_said options.entry).extents ≡ false → input.new ≡ input.old }
-    ensures silent { settings.details ≡ Hidden → N.contents notes.new ≡ N.contents notes.old }
+    ensures silent { StaysSilent settings.details (N.contents notes.old) (N.contents notes.new) }
 {
     let terminal = terminal_beside_text(rt, settings.progress);
-    let len = len_of(&file);
-    let progress = ShownProgress::over_bytes(terminal.as_ref(), rt, "jb dump", len);
+    let progress = ShownProgress::over_bytes(terminal.as_ref(), rt, "jb dump", len_of(&file));
     let (mut file, end) = dump_watched(rt.alloc(), file, progress, choice_of(options), out);
     if !is_unbegun(end) {
-        note_front(rt.alloc(), settings, &mut file, len, notes);
+        note_front(rt.alloc(), settings, &mut file, notes);
         return end;
     }
     match is_system(rt.alloc(), &mut file) {
         Ok(true) => dump_placed::<S, T, R, I, O, N>(rt, name, options, settings, input, out, notes),
         Ok(false) => end,
         Err(_) => Err(CommandFault::Memory),
-    }
-}
-
-/// How many bytes a file has; 0 of a pipe, and where the system does not say it.
-fn len_of(file: &File) -> u64 {
-    match file.metadata() {
-        Ok(metadata) => metadata.len(),
-        Err(_) => 0,
     }
 }
 
@@ -214,7 +204,7 @@ fn dump_placed<
     ensures ends { DumpsPlaced S.Start T.Start (dump_said options.entry) name.entry.now (I.remaining input.old)
         (O.contents out.old) (O.contents out.new) result }
     ensures unread { reads_list (dump_said options.entry).extents ≡ false → input.new ≡ input.old }
-    ensures silent { settings.details ≡ Hidden → N.contents notes.new ≡ N.contents notes.old }
+    ensures silent { StaysSilent settings.details (N.contents notes.old) (N.contents notes.new) }
 {
     let (journal, extents) = (options.journal, options.extents);
     match open_placed::<S, T, R, I>(
@@ -250,43 +240,6 @@ pub(crate) fn choice_of(options: DumpOptions<'_>) -> DumpFilter
         summary: options.summary,
         drawn: options.drawn,
         checksums: options.checksums,
-    }
-}
-
-/// Which journals are looked for: those of any features, where the superblock alone is shown.
-fn sought(options: DumpOptions<'_>) -> Checksums
-    ensures { result ≡ sums_sought (dump_said options.entry) }
-{
-    if options.superblock && !options.summary {
-        Checksums::Unjudged
-    } else {
-        checksums_of(options.checksums)
-    }
-}
-
-/// Whether the ring is to be searched of a journal that may have no checksums.
-fn is_bare(options: DumpOptions<'_>) -> bool
-    ensures { result ≡ ((dump_said options.entry).ring && not (dump_said options.entry).checksums) }
-{
-    options.ring && !options.checksums
-}
-
-/// Whether the file is opened as an image: where an option says where the journal is, or its ring is searched.
-fn is_placed(options: DumpOptions<'_>) -> bool
-    ensures { result ≡ is_said (dump_said options.entry) }
-{
-    options.ring || is_given(options.journal, options.extents)
-}
-
-/// Whether one of these says where the journal is.
-fn is_given(journal: Option<&str>, extents: Option<&str>) -> bool
-    ensures { result ≡ is_told (option_map (λ word. word.now) journal.entry)
-        (option_map (λ word. word.now) extents.entry) }
-{
-    match (journal, extents) {
-        (None, None) => false,
-        (None, Some(_)) => true,
-        (Some(_), _) => true,
     }
 }
 

@@ -1,7 +1,7 @@
 //! What is said of an image that is open, where details are asked for.
 ghost use Rattle.std.specs.Prelude.{◌≡◌, ◌-◌};
 ghost use Rattle.jb_block.specs.Size.{bytes_of};
-ghost use Rattle.jb_args.specs.declared.settings.Details.TheVariants.{Hidden};
+ghost use Rattle.jb_args.specs.Settings.{StaysSilent};
 ghost use Rattle.jb_image.specs.Files.{as_files};
 
 use crate::files::opened::OpenedImage;
@@ -11,7 +11,8 @@ use jb_args::{Details, Settings};
 use jb_disk::{Disk, Start};
 use jb_super::{Checksums, Super};
 use std::alloc::Global;
-use std::io::{Read, Seek, SeekFrom, Write};
+use std::fs::File;
+use std::io::{Seek, SeekFrom, Write};
 
 /// Says what is known of the journal of an image that is open, where details are asked for; these words are those by
 /// which it was opened. A fault of the writer is ignored.
@@ -22,7 +23,7 @@ pub fn note_opened<S: Start, T: Start, N: Write>(
     opened: &OpenedImage<S, T>,
     notes: &mut N,
 )
-    ensures silent { settings.details ≡ Hidden → N.contents notes.new ≡ N.contents notes.old }
+    ensures silent { StaysSilent settings.details (N.contents notes.old) (N.contents notes.new) }
 {
     let place = place_of(journal, extents, opened.found);
     note_journal(settings, note_of(place, opened), notes)
@@ -47,21 +48,20 @@ fn note_of<S: Start, T: Start>(place: JournalPlace, opened: &OpenedImage<S, T>) 
     }
 }
 
-/// Says the same of a file of this many bytes that begins with a journal, of any features, and was read for it. Nothing
+/// Says the same of a file that begins with a journal, of any features, and was read for it. Nothing
 /// is said of one that cannot be sought, as a pipe.
-pub(crate) fn note_front<F: Read + Seek, N: Write>(
+pub(crate) fn note_front<N: Write>(
     alloc: Global,
     settings: Settings,
-    file: &mut F,
-    len: u64,
+    file: &mut File,
     notes: &mut N,
 )
-    ensures silent { settings.details ≡ Hidden → N.contents notes.new ≡ N.contents notes.old }
+    ensures silent { StaysSilent settings.details (N.contents notes.old) (N.contents notes.new) }
 {
     match settings.details {
         Details::Hidden => {}
         Details::Shown => {
-            if let Some(note) = front_note(alloc, file, len) {
+            if let Some(note) = front_note(alloc, file) {
                 note_journal(settings, note, notes)
             }
         }
@@ -69,7 +69,7 @@ pub(crate) fn note_front<F: Read + Seek, N: Write>(
 }
 
 /// What is said of a file that begins with a journal.
-fn front_note<F: Read + Seek>(alloc: Global, file: &mut F, len: u64) -> Option<JournalNote> {
+fn front_note(alloc: Global, file: &mut File) -> Option<JournalNote> {
     if file.seek(SeekFrom::Start(0)).is_err() {
         return None;
     }
@@ -79,10 +79,10 @@ fn front_note<F: Read + Seek>(alloc: Global, file: &mut F, len: u64) -> Option<J
     let Ok(sb) = Super::read_by(Checksums::Unjudged, front.as_slice()) else {
         return None;
     };
-    Some(note_by(sb, len))
+    Some(note_by(sb, len_of(file)))
 }
 
-/// The same of one with this superblock.
+/// The same of one of this many bytes, with this superblock.
 fn note_by(sb: Super, len: u64) -> JournalNote {
     let (size, maxlen) = (sb.block_size(), u64::from(sb.maxlen()));
     let blocks = len / u64::from(size.bytes());
@@ -93,5 +93,13 @@ fn note_by(sb: Super, len: u64) -> JournalNote {
         sb,
         homes,
         skipped: blocks.saturating_sub(maxlen).saturating_sub(homes),
+    }
+}
+
+/// How many bytes a file has; 0 of a pipe, and where the system does not say it.
+pub(crate) fn len_of(file: &File) -> u64 {
+    match file.metadata() {
+        Ok(metadata) => metadata.len(),
+        Err(_) => 0,
     }
 }

@@ -28,9 +28,10 @@ use std::{fs, io};
 /// How many bytes of a file are read as a superblock.
 const FRONT: usize = 1024;
 
-/// The image of this name as a disk, with the number of its home blocks, and its superblock: the home blocks are those after the journal's, as many as the
-/// journal's first bytes say, and of a journal with block numbers of 32 bits 2^32 at most. The journal is the front of
-/// that file, or a file of its own. It has checksums only where these are allowed; they are not judged here.
+/// The image of this name as a disk, with the number of its home blocks, and its superblock. The home blocks are those
+/// after the journal's, as many as the journal's first bytes say, and of a journal with block numbers of 32 bits 2^32
+/// at most. The journal is the front of that file, or a file of its own. It has checksums only where these are allowed;
+/// they are not judged here.
 ///
 /// # Errors
 /// `CommandFault::CannotRead` where a file is of another kind, or cannot be opened or read; `CommandFault::InUse` where
@@ -80,8 +81,8 @@ fn open_one<S: Start, T: Start, R: Files<File = File> + AllocGlobal>(
     }
 }
 
-/// The file of this name as a disk after a journal in the file of the other name, the number of its home blocks, and the
-/// journal's superblock.
+/// The file of this name as a disk after a journal in the file of the other name, the number of its home blocks, and
+/// the journal's superblock.
 fn open_two<S: Start, T: Start, R: Files<File = File> + AllocGlobal>(
     rt: &R,
     name: &str,

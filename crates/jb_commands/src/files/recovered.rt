@@ -2,7 +2,7 @@
 ghost use Rattle.std.specs.Prelude.{◌≡◌, false, option_map};
 ghost use Rattle.jb_image.specs.Files.{as_disks};
 ghost use Rattle.jb_args.specs.PlainCommand.{recover_said};
-ghost use Rattle.jb_args.specs.declared.settings.Details.TheVariants.{Hidden};
+ghost use Rattle.jb_args.specs.Settings.{StaysSilent};
 ghost use Rattle.jb_commands.specs.Foresee.{foreseen_end as foreseen_so};
 ghost use Rattle.jb_commands.specs.ListText.{reads_list};
 ghost use Rattle.jb_commands.specs.JournalPlace.{EndsOfRecover, is_beside as stands_beside, sums_of, use_of as use_so};
@@ -76,7 +76,7 @@ pub fn recover_file<
     ensures ends { EndsOfRecover image.entry.now (recover_said options.entry) (I.remaining input.old) result.image
         result.end }
     ensures unread { reads_list (recover_said options.entry).extents ≡ false → input.new ≡ input.old }
-    ensures silent { settings.details ≡ Hidden → N.contents notes.new ≡ N.contents notes.old }
+    ensures silent { StaysSilent settings.details (N.contents notes.old) (N.contents notes.new) }
 {
     if options.list && !options.dry_run {
         return CommandEnd {
@@ -102,20 +102,8 @@ pub fn recover_file<
                 found,
                 ..
             } = opened;
-            let journal = disk.blocks().saturating_sub(homes);
-            let passes = PassCounts::of_recovery(
-                options.dry_run,
-                disk.is_within(),
-                options.checksums,
-            );
             let terminal = error_terminal(rt, settings.progress);
-            let progress = ShownProgress::over_log(
-                terminal.as_ref(),
-                rt,
-                "jb recover",
-                journal,
-                passes,
-            );
+            let progress = progress_over(terminal.as_ref(), rt, &disk, homes, options);
             let done = recover_opened(rt.alloc(), disk, homes, found, options, progress);
             CommandEnd {
                 image: Some(done.0),
@@ -127,6 +115,20 @@ pub fn recover_file<
             end: Err(fault),
         },
     }
+}
+
+/// The progress of a recovery of an image with this many home blocks.
+fn progress_over<'t, D: Disk, E: Disk, K: Clock>(
+    terminal: Option<&'t File>,
+    clock: &'t K,
+    disk: &ImageDisk<D, E>,
+    homes: u64,
+    options: RecoverOptions<'_>,
+) -> ShownProgress<'t, K> {
+    let journal = disk.blocks().saturating_sub(homes);
+    let (dry_run, within) = (options.dry_run, disk.is_within());
+    let passes = PassCounts::of_recovery(dry_run, within, options.checksums);
+    ShownProgress::over_log(terminal, clock, "jb recover", journal, passes)
 }
 
 /// How an image is opened that is to be recovered, also by force, or only read.
