@@ -48,6 +48,9 @@ static ORDERS: [Order; 5] = [
     },
 ];
 
+/// A case that a reader refuses.
+static BAD_COUNT: Case = ("a bad count", &BAD, 0, SAME);
+
 /// Whether a window has answered as a peek did, with these bytes.
 fn is_same(answer: Result<(), CheckedPeekFault>, bytes: &[u8; 1024], peeked: &Home) -> bool {
     let wanted = peeked.answer.map_err(CheckedPeekFault::from);
@@ -94,5 +97,5 @@ fn homes_are_looked_for_by_windows(rt: HostRuntime) {
     for case in &CASES {
         check_orders(&By(&rt, rt.alloc()), case);
     }
-    check_orders(&By(&rt, rt.alloc()), &("a bad count", &BAD, 0, SAME))
+    check_orders(&By(&rt, rt.alloc()), &BAD_COUNT)
 }
