@@ -17,9 +17,9 @@ const BEFORE_COMMIT: u64 = 39;
 
 const AFTER_COMMIT: u64 = 41;
 
-/// The same of three groups that go home together: after 54 calls, in which they were committed, there are three copies,
-/// the last one of home 6 and those of homes 7 and 8, the one sync, the superblock that is read and written, and the
-/// other sync.
+/// The same of three groups that go home together: after 54 calls, in which they were committed, there are three
+/// copies, the last one of home 6 and those of homes 7 and 8, the one sync, the superblock that is read and written,
+/// and the other sync.
 const COPIES: u64 = 54;
 
 const AFTER_COPIES: u64 = 57;
