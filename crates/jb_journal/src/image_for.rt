@@ -56,10 +56,10 @@ pub fn open_or_create_for_holding<S: Start, R: Files<File = File> + AllocGlobal>
     ensures ready { IfOk result (WasRecoveredOrMade geometry) }
     /// An image is opened or made for handles of some credits only if its journal has room for them.
     ensures room { IfOk result (HoldsRoomFor credits) }
-    /// That its journal has room for fewer credits is told exactly of an image that is opened and of which that is so,
-    /// if it is honest, with as many as it has room for, and nothing of it is changed; or where that is so of the
-    /// journal that would be made. No making is tried then. All else is as where no credits are asked for. [But
-    /// see](docs/WRONG_BODIES.md#readers-writers-and-files).
+    /// That a journal has room for fewer credits is told only where that is so, with as many as it has room for: of an
+    /// image that is opened, if it is honest, and of which nothing is changed, or of the journal that would be made.
+    /// That a making has failed is told only where the new journal has room. All else is as where no credits are asked
+    /// for. [But see](docs/WRONG_BODIES.md#readers-writers-and-files).
     ensures refused { IfErr result (RefusesImageFor S.Start geometry credits) }
 {
     match open_fitting(rt, name, geometry, credits) {
