@@ -55,11 +55,11 @@ stops_left_by (Some left) = made_left left
 
 -- what is asked of a run: it has 1 to 64 workers, a handle may stop with any words, and commits are made when its
 -- worker needs them
-pub record CanRun {R W : Type 0} (needs : W → Commits → Type 0) (b : Begun) (run : Run R W) : Type 0 where
+pub record CanRun {R W : Type 0} (wants : W → Commits → Type 0) (b : Begun) (run : Run R W) : Type 0 where
   pub some : 1 ≤ run.options.workers
   pub few : run.options.workers ≤ 64
   pub any : (words : WordMap) → b.stops words
-  pub needs : needs run.worker.now run.options.commits
+  pub needs : wants run.worker.now run.options.commits
 
 module _ {T D H : Type 0} {O : Ghosts H} {P : Places H} where
   -- what a worker answered

@@ -23,6 +23,7 @@ use std::thread::Threads;
 use std::time;
 
 /// A run of a journal that is open: what all of its threads share but the desk.
+#[derive(Drop)]
 pub(crate) struct Run<'a, R, W> {
     /// The runtime of the threads.
     pub rt: &'a R,
