@@ -1,5 +1,5 @@
 //! The workers of a run, each at its place.
-ghost use Rattle.std.specs.Prelude.{◌≡◌, vec_len};
+ghost use Rattle.std.specs.Prelude.{◌≡◌, length, vec_len};
 ghost use Rattle.jb_desk.specs.Desks.{shape_in};
 ghost use Rattle.jb_journal.specs.Run.{CanRun, HasWorked, HaveWorked};
 
@@ -15,8 +15,7 @@ use std::thread::Threads;
 use std::{thread, time};
 
 impl<'a, R: Threads + Wait + time::Clock + Sync, W: Sync> Run<'a, R, W> {
-    /// Runs the workers, each at its place and in a thread of its own where the system makes one, and then shuts the
-    /// desk.
+    /// Runs the workers, a thread each, and then shuts the desk.
     pub fn work<
         T: Drop + Send,
         D: Disk + Drop + Send,
@@ -36,9 +35,30 @@ impl<'a, R: Threads + Wait + time::Clock + Sync, W: Sync> Run<'a, R, W> {
         ensures { HaveWorked D.Disk (W.answers self.now.worker.now H.begun self.now.shape) self.now.options.workers
             result.items }
     {
+        self.work_each(desk, gate, places.as_mut_slice());
+        desk.shut(self.rt);
+        places
+    }
+
+    /// Runs the workers, each at its place and in a thread of its own where the system makes one.
+    fn work_each<
+        T: Drop + Send,
+        D: Disk + Drop + Send,
+        C: Clock + Drop + Send,
+        H: Origin + Send + Sync,
+    >(&self, desk: &Desk<D, C, H>, gate: &Gate, places: &mut [WorkerResult<T, D, H>])
+    where
+        W: Worker<T>,
+        requires run { CanRun W.needs H.begun self.now }
+        requires desk { self.now.shape ≡ shape_in desk.now }
+        requires places { length places.old ≡ self.now.options.workers }
+        ensures number { length places.new ≡ length places.old }
+        ensures worked { HaveWorked D.Disk (W.answers self.now.worker.now H.begun self.now.shape)
+            self.now.options.workers places.new }
+    {
         thread::for_each_mut(
             self.rt,
-            places.as_mut_slice(),
+            places,
             self.options.workers,
             &|at: usize, place: &mut WorkerResult<T, D, H>|
                 requires { CanRun W.needs H.begun self.now × (self.now.shape ≡ shape_in desk.now) }
@@ -46,8 +66,6 @@ impl<'a, R: Threads + Wait + time::Clock + Sync, W: Sync> Run<'a, R, W> {
                     self.entry.now.options.workers at place.exit.now }
             { *place = self.work_at(desk, gate, at) },
         );
-        desk.shut(self.rt);
-        places
     }
 
     /// Runs the worker at this place, once each thread of the run is there.

@@ -19,10 +19,10 @@ returns g c =
     let same = sym c.of-gathered.ensures.ends in
     let only = subst (λ (e : Ends). e.given_up ≡ true → c.args.self.now.options.commits ≡ Meanwhile) same c.threads-ran.ensures.given_up in
     let checked = subst (λ (e : Ends). EndsChecked c.args.self.now.options.checkpoint e.checkpoint) same c.threads-ran.ensures.ended in
-    let closed = c.close.ensures in
+    let closed = c.close-2.ensures in
     record {
-      ran = IfOk-weaker c.close.result _ _ (ran-all g.D.Disk b may workers ran all has gathered c.args.self.now.shape) closed.closed;
-      ends = IfOk-weaker c.close.result _ _ (λ told ending. ending c.args.self.now.options.checkpoint checked) closed.ends;
+      ran = IfOk-weaker c.close-2.result _ _ (ran-all g.D.Disk b may workers ran all has gathered c.args.self.now.shape) closed.closed;
+      ends = IfOk-weaker c.close-2.result _ _ (λ told ending. ending c.args.self.now.options.checkpoint checked) closed.ends;
       since = closed.since;
-      faults = IfErr-weaker c.close.result _ _ (λ back untold. inl (stops-at g.D.Disk b may workers ran all has gathered ends.given_up c.args.self.now.options.commits only back untold)) closed.faults;
+      faults = IfErr-weaker c.close-2.result _ _ (λ back untold. inl (stops-at g.D.Disk b may workers ran all has gathered ends.given_up c.args.self.now.options.commits only back untold)) closed.faults;
     }
