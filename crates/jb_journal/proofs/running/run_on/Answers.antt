@@ -63,7 +63,7 @@ returns-in_default g c = record {
   ran = tt;
   ends = tt;
   since = tt;
-  refused = opened-as g (goal.at.returns-in_default g c).After-shape-shape c.of-in_default.result (inr (c.of-in_default.ensures.2, c.of-in_default.ensures.0 ∙ c.close.ensures, c.of-in_default.ensures.1));
+  refused = opened-as g (goal.at.returns-in_default g c).After-shape-shape c.of-in_default.result (inr (c.of-in_default.ensures.2, c.of-in_default.ensures.0 ∙ c.close.ensures.value, c.of-in_default.ensures.1));
 }
 
 pub returns-in-Err : goal.returns-in-Err
