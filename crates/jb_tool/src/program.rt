@@ -102,8 +102,7 @@ fn advise<E: Write>(part: SecondPart, ended: ProgramEnd, err: &mut E)
     }
 }
 
-/// Answers these words, of which the settings are taken off first, or the reason for which there are none.
-/// `at_terminal` is whether standard input is a terminal.
+/// Answers these words, or the reason for which there are none. `at_terminal` is whether standard input is a terminal.
 fn answered<
     R: Files<File = File> + AllocGlobal + Threads + Wait + Clock + Sync,
     S: AsStr,
@@ -128,11 +127,34 @@ fn answered<
         (record { out = O.contents out.new; err = E.contents err.new }) result) }
 {
     match words {
-        Ok(words) => match words_left(rt.alloc(), words) {
-            Ok(left) => answered_words(rt, left.as_slice(), settings, at_terminal, input, out, err),
-            Err(_) => out_of_memory(err),
-        },
+        Ok(words) => answered_given(rt, words, settings, at_terminal, input, out, err),
         Err(kind) => refuse_words(kind, err),
+    }
+}
+
+/// Takes the settings off the words, and runs `jb` with those that are left.
+fn answered_given<
+    R: Files<File = File> + AllocGlobal + Threads + Wait + Clock + Sync,
+    S: AsStr,
+    I: Read,
+    O: Write,
+    E: Write,
+>(
+    rt: &R,
+    words: &[S],
+    settings: Settings,
+    at_terminal: bool,
+    input: &mut I,
+    out: &mut O,
+    err: &mut E,
+) -> ProgramEnd
+    ensures answers { AnswersGiven settings.form (map S.text words.now) at_terminal (I.remaining input.old)
+        (record { out = O.contents out.old; err = E.contents err.old })
+        (record { out = O.contents out.new; err = E.contents err.new }) result }
+{
+    match words_left(rt.alloc(), words) {
+        Ok(left) => answered_words(rt, left.as_slice(), settings, at_terminal, input, out, err),
+        Err(_) => out_of_memory(err),
     }
 }
 
