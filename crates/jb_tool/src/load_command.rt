@@ -142,7 +142,7 @@ fn load_opened<
     notes: &mut N,
 ) -> LoadDone<'a, S, T>
     requires threads { (1 ≤ options.threads) × (options.threads ≤ 64) }
-    ensures loads { LoadsOpened settings.form (load_said load.entry) options homes disk result.image result.end }
+    ensures loads { LoadsOpened settings.form (load_said load.entry) options.entry homes disk result.image result.end }
     ensures silent { StaysSilent settings.details (N.contents notes.old) (N.contents notes.new) }
 {
     let within = disk.is_within();
@@ -195,7 +195,8 @@ fn load_text<
     notes: &mut N,
 ) -> LoadDone<'a, S, T>
     requires threads { (1 ≤ options.threads) × (options.threads ≤ 64) }
-    ensures loads { LoadsText settings.form (load_said load.entry).file options homes disk result.image result.end }
+    ensures loads { LoadsText settings.form (load_said load.entry).file options.entry homes disk result.image
+        result.end }
     ensures silent { StaysSilent settings.details (N.contents notes.old) (N.contents notes.new) }
 {
     let text = match read_file(rt, load.file) {
@@ -238,7 +239,7 @@ fn load_apart<'a, S: Start + Send, T: Start + Send, R: AllocGlobal + Threads + W
     options: LoadOptions<'_>,
 ) -> LoadDone<'a, S, T>
     requires threads { (1 ≤ options.threads) × (options.threads ≤ 64) }
-    ensures loads { LoadsApart options homes disk (queue_in queue.now) result.image result.end }
+    ensures loads { LoadsApart options.entry homes disk (queue_in queue.now) result.image result.end }
 {
     match own_touched(rt.alloc(), &disk, queue) {
         Ok(None) => load_queue(rt, disk, homes, stamp, queue, options),
@@ -266,7 +267,7 @@ fn load_queue<'a, S: Start + Send, T: Start + Send, R: AllocGlobal + Threads + W
     options: LoadOptions<'_>,
 ) -> LoadDone<'a, S, T>
     requires threads { (1 ≤ options.threads) × (options.threads ≤ 64) }
-    ensures loads { LoadsQueue options homes disk (queue_in queue.now) result.image result.end }
+    ensures loads { LoadsQueue options.entry homes disk (queue_in queue.now) result.image result.end }
 {
     let clock = FixedClock {
         stamp: Stamp {

@@ -58,7 +58,7 @@ pub fn load_on<
     /// ticket k has the words of the handle of the text that a worker stopped with ticket k, and each handle of the
     /// text stops once at most. The machine of handles accepts a list of events in which they stopped in this order,
     /// and whose settled groups are those of the trail.
-    ensures answers { AnswersLoad D.Disk H.begun disk queue.now.bs (handles_of queue.now) options result }
+    ensures answers { AnswersLoad D.Disk H.begun disk queue.now.bs (handles_of queue.now) options.entry result }
 {
     if queue.bs.bytes() != disk.block_size().bytes() {
         return Err(LoadFault::BlockSize);
@@ -83,7 +83,7 @@ pub fn load_on<
 
 /// How the journal is run: no worker waits for what commits, so that it may come after them.
 fn run_options(options: LoadOptions<'_>) -> Options
-    ensures { IsRunBy options result }
+    ensures { IsRunBy options.entry result }
 {
     let commits = if options.hold {
         Commits::After
