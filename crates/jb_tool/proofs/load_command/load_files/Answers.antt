@@ -13,5 +13,5 @@ returns-in-Ok-clause-ends g c = inr (
   ),
 )
 
-pub returns-in-Err-clause-ends : goal.returns-in-Err-clause-ends
-returns-in-Err-clause-ends g c = inl (c.in-Err.fault, refl, refl, inr (c.in-Some.ensures.good.0 refl, c.in-Err.ensures.shut))
+pub returns-clause-ends : goal.returns-clause-ends
+returns-clause-ends g c = inl (c.in-Err.fault, refl, refl, inr (c.in-Some.ensures.good.0 refl, c.in-Err.ensures.shut))
